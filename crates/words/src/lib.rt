@@ -1,0 +1,32 @@
+// Rows of marks, 64 vectors to a word: how many marks a row has, and which vector marks first.
+ghost use mathlib.Core.Path.{_≡_};
+ghost use Rattle.words.specs.Rows.{marksOf, firstMarkOf};
+
+// The number of marks of a row.
+pub fn marks(row: [u64; 4]) -> u32
+    ensures { λ r. ⌜ r ≡ marksOf row ⌝ }
+{
+    let mut found: u32 = 0;
+    let mut word: usize = 0;
+    while word < 4 {
+        found += u64::count_ones(row[word]);
+        word += 1;
+    }
+    found
+}
+
+// The first marking vector of a row, from 1, or 0 where no vector marks.
+pub fn first_mark(row: [u64; 4]) -> u32
+    ensures { λ r. ⌜ r ≡ firstMarkOf row ⌝ }
+{
+    let mut before: u32 = 0;
+    let mut w: usize = 0;
+    while w < 4 {
+        if row[w] != 0 {
+            return before + u64::trailing_zeros(row[w]) + 1;
+        }
+        before += 64;
+        w += 1;
+    }
+    0
+}

@@ -1,0 +1,65 @@
+//! The records of an accepted circuit file: module types with their edges,
+//! listed bridges, instances and vectors, in file order.
+
+#[derive(Clone, Copy, Debug, PartialEq, Eq)]
+pub enum Value {
+    Zero,
+    One,
+    X,
+}
+
+#[derive(Clone, Debug, PartialEq, Eq)]
+pub struct Edge {
+    pub ends: [u8; 2],
+    pub labels: Vec<u8>,
+}
+
+#[derive(Clone, Debug, PartialEq, Eq)]
+pub struct ModuleType {
+    pub highest: u8,
+    pub output: u8,
+    pub labels: u8,
+    pub edges: Vec<Edge>,
+}
+
+/// Kind 0 joins two nodes, kind 1 a node and a label.
+#[derive(Clone, Copy, Debug, PartialEq, Eq)]
+pub enum Kind {
+    Nodes,
+    Label,
+}
+
+#[derive(Clone, Copy, Debug, PartialEq, Eq)]
+pub struct Bridge {
+    pub kind: Kind,
+    pub first: u8,
+    pub second: u8,
+}
+
+#[derive(Clone, Copy, Debug, PartialEq, Eq)]
+pub struct ListedBridge {
+    pub list: u8,
+    pub bridge: Bridge,
+}
+
+#[derive(Clone, Debug, PartialEq, Eq)]
+pub struct Instance {
+    pub type_number: u8,
+    pub choice: i8,
+    pub references: Vec<i16>,
+}
+
+#[derive(Clone, Debug, Default, PartialEq, Eq)]
+pub struct Circuit {
+    pub inputs: usize,
+    pub types: Vec<ModuleType>,
+    pub bridges: Vec<ListedBridge>,
+    pub instances: Vec<Instance>,
+    pub vectors: Vec<Vec<Value>>,
+}
+
+impl Circuit {
+    pub fn type_of(&self, instance: &Instance) -> &ModuleType {
+        &self.types[usize::from(instance.type_number) - 1]
+    }
+}

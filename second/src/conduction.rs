@@ -1,0 +1,121 @@
+//! Conduction in one module: which edges are on, which nodes are joined, what
+//! the output is, and whether a closed bridge makes a path from supply to ground.
+
+use crate::circuit::{Bridge, Edge, Kind, ModuleType, Value};
+
+pub const GROUND: u8 = 0;
+pub const SUPPLY: u8 = 1;
+
+#[derive(Clone, Copy, Debug, PartialEq, Eq)]
+pub enum Channel {
+    P,
+    N,
+}
+
+/// The channel of an edge between two different nodes, or none if the channel
+/// rule is broken. Nodes above the highest node are refused before this is asked.
+pub fn channel(output: u8, ends: [u8; 2]) -> Option<Channel> {
+    let in_p = |node: u8| (SUPPLY..=output).contains(&node);
+    let in_n = |node: u8| node >= output || node == GROUND;
+    if ends[0] == ends[1] {
+        None
+    } else if ends.into_iter().all(in_p) {
+        Some(Channel::P)
+    } else if ends.into_iter().all(in_n) {
+        Some(Channel::N)
+    } else {
+        None
+    }
+}
+
+fn is_on(module: &ModuleType, edge: &Edge, labels: &[Value]) -> bool {
+    let needed = match channel(module.output, edge.ends) {
+        Some(Channel::P) => Value::Zero,
+        Some(Channel::N) => Value::One,
+        None => return false,
+    };
+    edge.labels
+        .iter()
+        .any(|&label| labels[usize::from(label)] == needed)
+}
+
+/// Nodes and the wires between them; bit b of `near[a]` is a wire from a to b.
+#[derive(Clone, Copy, Debug, Default)]
+pub struct Graph {
+    near: [u32; 32],
+}
+
+impl Graph {
+    /// The on edges of a module under the values of its labels.
+    pub fn of_on_edges(module: &ModuleType, labels: &[Value]) -> Graph {
+        let mut graph = Graph::default();
+        for edge in &module.edges {
+            if is_on(module, edge, labels) {
+                graph.add_wire(edge.ends[0], edge.ends[1]);
+            }
+        }
+        graph
+    }
+
+    fn add_wire(&mut self, a: u8, b: u8) {
+        self.near[usize::from(a)] |= 1 << b;
+        self.near[usize::from(b)] |= 1 << a;
+    }
+
+    /// Searches a path, taking each node reached once.
+    pub fn joined(&self, from: u8, to: u8) -> bool {
+        let mut reached: u32 = 1 << from;
+        let mut waiting = reached;
+        while waiting != 0 {
+            let node = waiting.trailing_zeros();
+            if node == u32::from(to) {
+                return true;
+            }
+            let fresh = self.near[node as usize] & !reached;
+            reached |= fresh;
+            waiting = (waiting & !(1 << node)) | fresh;
+        }
+        false
+    }
+}
+
+pub fn output_value(module: &ModuleType, graph: &Graph) -> Value {
+    if graph.joined(module.output, SUPPLY) {
+        Value::One
+    } else if graph.joined(module.output, GROUND) {
+        Value::Zero
+    } else {
+        Value::X
+    }
+}
+
+pub fn is_complementary(module: &ModuleType) -> bool {
+    (0..1u32 << module.labels).all(|setting| {
+        let labels: Vec<Value> = (0..module.labels)
+            .map(|label| match setting >> label & 1 {
+                0 => Value::Zero,
+                _ => Value::One,
+            })
+            .collect();
+        let graph = Graph::of_on_edges(module, &labels);
+        graph.joined(module.output, GROUND) != graph.joined(module.output, SUPPLY)
+    })
+}
+
+/// The mark: with the bridge closed as one more wire, is there a path from
+/// supply to ground? A label at X closes no wire, since it is no known rail.
+pub fn conducts_with(graph: &Graph, bridge: &Bridge, labels: &[Value]) -> bool {
+    let far_end = match bridge.kind {
+        Kind::Nodes => Some(bridge.second),
+        Kind::Label => match labels[usize::from(bridge.second)] {
+            Value::One => Some(SUPPLY),
+            Value::Zero => Some(GROUND),
+            Value::X => None,
+        },
+    };
+    let mut closed = *graph;
+    if let Some(end) = far_end {
+        closed.add_wire(bridge.first, end);
+    }
+    closed.joined(SUPPLY, GROUND)
+}

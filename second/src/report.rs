@@ -1,0 +1,50 @@
+//! The report of a grading, byte for byte: a first line and a line for each row,
+//! or the one line of a refusal.
+
+use crate::circuit::Kind;
+use crate::grade::{grade, Graded, Row, WORDS_A_ROW};
+use crate::read::MOST_FAULTS;
+use crate::refusal::Refusal;
+
+/// Grades with buffers that are long enough for every accepted file.
+pub fn report_of(bytes: &[u8]) -> String {
+    report(&grade(bytes, WORDS_A_ROW * MOST_FAULTS, MOST_FAULTS))
+}
+
+pub fn report(answer: &Result<Graded, Refusal>) -> String {
+    match answer {
+        Ok(graded) => {
+            let rows: String = graded.rows.iter().map(row_line).collect();
+            format!(
+                "vectors {} faults {} classes {} found {}\n{rows}",
+                graded.vectors,
+                graded.rows.len(),
+                graded.classes,
+                graded.found
+            )
+        }
+        Err(refusal) => format!("refused {} at {}\n", refusal.number, refusal.place),
+    }
+}
+
+fn row_line(row: &Row) -> String {
+    let kind = match row.bridge.kind {
+        Kind::Nodes => 'n',
+        Kind::Label => 'i',
+    };
+    let digits: String = row
+        .marks
+        .iter()
+        .map(|&mark| if mark { '1' } else { '0' })
+        .collect();
+    let count = row.marks.iter().filter(|&&mark| mark).count();
+    let first = row
+        .marks
+        .iter()
+        .position(|&mark| mark)
+        .map_or(0, |index| index + 1);
+    format!(
+        "{} {kind} {} {} {} {digits} {count} {first}\n",
+        row.instance, row.bridge.first, row.bridge.second, row.class
+    )
+}

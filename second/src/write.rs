@@ -1,0 +1,85 @@
+//! A circuit written as loose fields and then as bytes. Loose fields may be
+//! changed in between, and may state a length that is not their body's.
+
+use crate::circuit::{Circuit, Instance, Kind, ListedBridge, ModuleType, Value};
+
+#[derive(Clone, Debug, PartialEq, Eq)]
+pub struct LooseField {
+    pub tag: u8,
+    pub body: Vec<u8>,
+    pub stated_length: Option<u16>,
+}
+
+impl LooseField {
+    pub fn new(tag: u8, body: Vec<u8>) -> LooseField {
+        LooseField {
+            tag,
+            body,
+            stated_length: None,
+        }
+    }
+}
+
+pub fn bytes_of(fields: &[LooseField]) -> Vec<u8> {
+    let mut bytes = Vec::new();
+    for field in fields {
+        let length = field.stated_length.unwrap_or(field.body.len() as u16);
+        bytes.push(field.tag);
+        bytes.extend_from_slice(&length.to_be_bytes());
+        bytes.extend_from_slice(&field.body);
+    }
+    bytes
+}
+
+pub fn fields_of(circuit: &Circuit) -> Vec<LooseField> {
+    let inputs = (circuit.inputs as u16).to_be_bytes();
+    let mut fields = vec![LooseField::new(1, inputs.to_vec())];
+    for module in &circuit.types {
+        fields.extend(type_fields(module));
+    }
+    fields.extend(circuit.bridges.iter().map(bridge_field));
+    fields.extend(circuit.instances.iter().map(instance_field));
+    fields.extend(circuit.vectors.iter().map(|vector| vector_field(vector)));
+    fields
+}
+
+pub fn type_fields(module: &ModuleType) -> Vec<LooseField> {
+    let numbers = vec![module.highest, module.output, module.labels];
+    let mut fields = vec![LooseField::new(2, numbers)];
+    for edge in &module.edges {
+        let mut body = edge.ends.to_vec();
+        body.extend_from_slice(&edge.labels);
+        fields.push(LooseField::new(3, body));
+    }
+    fields
+}
+
+pub fn bridge_field(listed: &ListedBridge) -> LooseField {
+    let kind = match listed.bridge.kind {
+        Kind::Nodes => 0,
+        Kind::Label => 1,
+    };
+    let body = vec![listed.list, kind, listed.bridge.first, listed.bridge.second];
+    LooseField::new(4, body)
+}
+
+pub fn instance_field(instance: &Instance) -> LooseField {
+    let mut body = vec![instance.type_number];
+    body.extend_from_slice(&instance.choice.to_be_bytes());
+    for reference in &instance.references {
+        body.extend_from_slice(&reference.to_be_bytes());
+    }
+    LooseField::new(5, body)
+}
+
+pub fn vector_field(vector: &[Value]) -> LooseField {
+    let body = vector
+        .iter()
+        .map(|value| match value {
+            Value::Zero => b'0',
+            Value::One => b'1',
+            Value::X => b'X',
+        })
+        .collect();
+    LooseField::new(6, body)
+}

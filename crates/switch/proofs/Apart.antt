@@ -1,0 +1,122 @@
+-- The rails are apart under any values, X among them. Every label that is X is filled with 0, which makes a setting; a filling turns no edge off,
+-- so a path from supply to ground would still be there under the setting, where the output is joined to exactly one rail. Assumes nothing.
+use Prim.Native.Nat.{ℕ, _<_, _≤_, _^_}
+use native.Mathlib.Omega.{arith}
+use mathlib.Core.Path.{_≡_, refl, sym, ap}
+use mathlib.Core.Bool.{Bool, true, false, _||_}
+use mathlib.Core.Logic.{_⊎_, inl, inr}
+use mathlib.Core.List.{List, [], _∷_}
+use lib.Dec.{T}
+use Rattle.words.specs.Bits.{pack}
+use Rattle.words.proofs.Laws.{bit-pack, pack-lt}
+use Rattle.switch.specs.Conduction.{Value, at0, at1, atX, Edge, Channel, p-channel, n-channel, channelOf, transistorOn, anyOf, edgeOn}
+use Rattle.switch.specs.Conduction.{Wire, Among, Joined, ground, supply}
+use Rattle.switch.specs.Modules.{ModuleType, inRange, wiresOf, known, settingOf}
+use Rattle.switch.specs.Modules.{ExactlyOne, only-first, only-second, Complementary}
+use Rattle.switch.specs.Statements.{Accepted, Refines, RailsApart}
+use Rattle.switch.proofs.Paths.{through, turned, more-wires, wires-more, wiresOf-cong}
+
+-- ---- refined values turn no edge off
+
+x-is-off : (c : Channel) → T (transistorOn c atX) → ⊥
+unfolding transistorOn
+x-is-off p-channel t = t
+x-is-off n-channel t = t
+
+stays-on : (c : Channel) (v w : Value) → (v ≡ atX) ⊎ (w ≡ v) → T (transistorOn c v) → T (transistorOn c w)
+stays-on c v w (inl e) t = absurd (x-is-off c (rw e at t))
+stays-on c v w (inr e) t = rw e t
+
+or-more : (a b c d : Bool) → (T a → T c) → (T b → T d) → T (a || b) → T (c || d)
+or-more a b true d f g t = tt
+or-more true b false d f g t = absurd (f tt)
+or-more false b false d f g t = g t
+
+any-more : {A : Type 0} (f g : A → Bool) → ((a : A) → T (f a) → T (g a)) → (as′ : List A) → T (anyOf f as′) → T (anyOf g as′)
+unfolding anyOf
+any-more f g h [] t = t
+any-more f g h (a ∷ as′) t = or-more (f a) (anyOf f as′) (g a) (anyOf g as′) (h a) (any-more f g h as′) t
+
+module _ (values finer : ℕ → Value) (refines : Refines values finer) where
+  pub edge-stays-on : (o : ℕ) (e : Edge) → T (edgeOn o values e) → T (edgeOn o finer e)
+  unfolding edgeOn
+  edge-stays-on o e t =
+      any-more
+      (λ (l : ℕ). transistorOn (channelOf o e) (values l))
+      (λ (l : ℕ). transistorOn (channelOf o e) (finer l))
+      (λ l. stays-on (channelOf o e) (values l) (finer l) (refines l))
+      (e .labels)
+      t
+
+  pub wire-stays : (t : ModuleType) (w : Wire) → Among w (wiresOf t values) → Among w (wiresOf t finer)
+  unfolding wiresOf
+  wire-stays t w m = wires-more (t .output) values finer (t .edges) (edge-stays-on (t .output)) w m
+
+  pub stays-joined : (t : ModuleType) (a b : ℕ) → Joined (wiresOf t values) a b → Joined (wiresOf t finer) a b
+  stays-joined t a b p = more-wires (wiresOf t values) (wiresOf t finer) (wire-stays t) a b p
+
+-- ---- any values are refined by a setting
+
+-- a value with X filled by 0
+pub filled : Value → ℕ
+filled at1 = 1
+filled at0 = 0
+filled atX = 0
+
+pub filling : ℕ → (ℕ → Value) → ℕ
+filling k values = pack k (λ (l : ℕ). filled (values l))
+
+filled-le-one : (v : Value) → filled v ≤ 1
+unfolding filled
+filled-le-one at1 = omega arith
+filled-le-one at0 = omega arith
+filled-le-one atX = omega arith
+
+filled-refines : (v : Value) → (v ≡ atX) ⊎ (known (filled v) ≡ v)
+unfolding filled known
+filled-refines at1 = inr refl
+filled-refines at0 = inr refl
+filled-refines atX = inl refl
+
+pub filling-lt : (k : ℕ) (values : ℕ → Value) → filling k values < 2 ^ k
+unfolding filling
+filling-lt k values = pack-lt k (λ (l : ℕ). filled (values l)) (λ l b. filled-le-one (values l))
+
+filling-at : (k : ℕ) (values : ℕ → Value) (l : ℕ) → l < k → known (filled (values l)) ≡ settingOf (filling k values) l
+unfolding filling settingOf
+filling-at k values l b = ap known (sym (bit-pack k (λ (i : ℕ). filled (values i)) (λ i c. filled-le-one (values i)) l b))
+
+pub filling-refines : (k : ℕ) (values : ℕ → Value) (l : ℕ) → l < k → (values l ≡ atX) ⊎ (settingOf (filling k values) l ≡ values l)
+filling-refines k values l b = rw (← (filling-at k values l b)) (filled-refines (values l))
+
+-- what is joined under the values is joined under their filling
+pub joined-when-filled : (t : ModuleType) → T (inRange t) → (values : ℕ → Value) (a b : ℕ)
+    → Joined (wiresOf t values) a b → Joined (wiresOf t (settingOf (filling (t .labels) values))) a b
+joined-when-filled t r values a b p =
+    let full : ℕ → Value = λ l. known (filled (values l)) in
+    let setting : ℕ → Value = settingOf (filling (t .labels) values) in
+    rw
+    (← (wiresOf-cong t r full setting (filling-at (t .labels) values)))
+    (stays-joined values full (λ l. filled-refines (values l)) t a b p)
+
+-- ---- apart
+
+-- joined to exactly one of two, a node keeps the two apart
+keeps-apart : (ws : List Wire) (o a b : ℕ) → ExactlyOne (Joined ws o a) (Joined ws o b) → Joined ws b a → ⊥
+keeps-apart ws o a b (only-first p n) j = n (through p (turned j))
+keeps-apart ws o a b (only-second n p) j = n (through p j)
+
+rails : (t : ModuleType) → Accepted t → (values : ℕ → Value) → Joined (wiresOf t values) supply ground → ⊥
+unfolding Complementary
+rails t acc values j =
+    let s : ℕ = filling (t .labels) values in
+    keeps-apart
+    (wiresOf t (settingOf s))
+    (t .output)
+    ground
+    supply
+    (acc .complementary s (filling-lt (t .labels) values))
+    (joined-when-filled t (acc .ranges) values supply ground j)
+
+pub rails-apart : RailsApart
+rails-apart = record { rails = rails; output = λ t acc values p q. rails t acc values (through (turned p) q) }

@@ -1,0 +1,17 @@
+-- The laws of conduction, from paths to the code's words.
+--   Paths, Deciding, Apart, Marks, Refinement   the statements of specs/Statements
+--   Examples                                    01's known results on the NAND and the inverter, computed
+--   Ranges, OnWords, RoundLaws, RailWords, Outputs, SettingBlocks, Check   what ties the code's words to the meaning
+pub mod Paths
+pub mod Deciding
+pub mod Apart
+pub mod Marks
+pub mod Refinement
+pub mod Examples
+pub mod Ranges
+pub mod OnWords
+pub mod RoundLaws
+pub mod RailWords
+pub mod Outputs
+pub mod SettingBlocks
+pub mod Check

@@ -1,0 +1,202 @@
+-- The words of conduction: a transistor's word from its label's planes, the or over an edge's labels, and tables that are filled from the front.
+-- Each law is over the bit's position, the place in a list, or the length. Assumes nothing.
+use Prim.Native.Nat.{ℕ, zero, suc, _-_, _^_, _≤_, _<_, min, max, zero-le}
+use mathlib.Core.Path.{_≡_, refl, sym, ap, _∙_}
+use mathlib.Core.Bool.{Bool, true, false, cond, _&&_, _||_, and-false, or-assoc, or-false}
+use mathlib.Core.Logic.{_⊎_, inl, inr}
+use mathlib.Core.List.{List, [], _∷_, _++_}
+use native.Mathlib.Omega.{arith}
+use borrow.Author.Tests.{ltb-true, ltb-false, lt-ltb, le-ltb, le-leb, lt-leb}
+use lib.Bits.{bitAnd, bitOr, and-le-l, or-lt}
+use lib.Dec.{leb, ltb}
+use lib.ListN.{length, getD, take, set, replicate, length-replicate, getD-replicate}
+use lib.Pow.{pow-pos}
+use lib.Seq.{take-suc}
+use Rattle.words.specs.Bits.{bit, ofBool}
+use Rattle.words.specs.Tables.{table}
+use Rattle.words.proofs.Laws.{bit-le-one, bit-zero, bit-or, bit-not-under, ofBool-le-one, word-of-bits, bit-word, word-lt}
+use Rattle.words.proofs.Tables.{getD-table, is-table, set-table}
+use Rattle.switch.specs.Conduction.{Channel, p-channel, n-channel, Edge, between, channelOf, transistorOn, anyOf, edgeOn}
+use Rattle.switch.specs.Records.{edgeOf, noEdge, valueOf, valuesAt}
+use Rattle.switch.specs.Model.{isP, transistorWord, onWord, onWords, firstNodes, secondNodes}
+use Rattle.switch.specs.declared.Edge.{Edge as EdgeRecord}
+
+-- ---- the channel, by position
+
+is-p-between : (o : ℕ) (e : Edge) → isP (channelOf o e) ≡ (between 1 o (e .first) && between 1 o (e .second))
+unfolding isP channelOf
+is-p-between o e = told (between 1 o (e .first) && between 1 o (e .second))
+  where
+    told : (b : Bool) → isP (cond b p-channel n-channel) ≡ b
+    told true = refl
+    told false = refl
+
+inside : (o m : ℕ) → 1 ≤ m → m ≤ o → between 1 o m ≡ true
+unfolding between
+inside o m low high = rw (le-leb 1 m low, le-leb m o high)
+
+outside : (o m : ℕ) → (m < 1) ⊎ (o < m) → between 1 o m ≡ false
+unfolding between
+outside o m (inl low) = rw (lt-leb 1 m low)
+outside o m (inr high) = rw (lt-leb m o high) (and-false (leb 1 m))
+
+pub p-inside : (o : ℕ) (e : Edge) → 1 ≤ e .first → e .first ≤ o → 1 ≤ e .second → e .second ≤ o → isP (channelOf o e) ≡ true
+p-inside o e a b c d = rw (is-p-between, inside o (e .first) a b, inside o (e .second) c d)
+
+pub n-first-outside : (o : ℕ) (e : Edge) → (e .first < 1) ⊎ (o < e .first) → isP (channelOf o e) ≡ false
+n-first-outside o e out = rw (is-p-between, outside o (e .first) out)
+
+pub n-second-outside : (o : ℕ) (e : Edge) → (e .second < 1) ⊎ (o < e .second) → isP (channelOf o e) ≡ false
+n-second-outside o e out = rw (is-p-between, outside o (e .second) out) (and-false (between 1 o (e .first)))
+
+-- ---- a transistor's word
+
+p-bit : (a b : ℕ) → b ≤ 1 → min b (1 - a) ≡ ofBool (transistorOn p-channel (valueOf a b))
+unfolding transistorOn valueOf
+p-bit zero zero h = refl
+p-bit zero (suc b) h = omega arith
+p-bit (suc a) b h = omega arith
+
+n-bit : (a b : ℕ) → a ≤ 1 → a ≡ ofBool (transistorOn n-channel (valueOf a b))
+unfolding transistorOn valueOf
+n-bit zero zero h = refl
+n-bit zero (suc b) h = refl
+n-bit (suc a) b h = omega arith
+
+pub transistor-p : (ones zeros : ℕ) → ones < 2 ^ 64 → zeros < 2 ^ 64 → bitAnd zeros ((2 ^ 64 - 1) - ones) ≡ transistorWord true ones zeros
+unfolding transistorWord
+transistor-p ones zeros h k =
+    let w : ℕ = bitAnd zeros ((2 ^ 64 - 1) - ones) in
+    word-of-bits w (λ (v : ℕ). ofBool (transistorOn p-channel (valueOf (bit ones v) (bit zeros v))))
+    (omega (arith, and-le-l zeros ((2 ^ 64 - 1) - ones)))
+    (λ v l. bit-not-under 64 zeros ones v h l ∙ p-bit (bit ones v) (bit zeros v) (bit-le-one zeros v))
+
+pub transistor-n : (ones zeros : ℕ) → ones < 2 ^ 64 → ones ≡ transistorWord false ones zeros
+unfolding transistorWord
+transistor-n ones zeros h =
+    word-of-bits ones (λ (v : ℕ). ofBool (transistorOn n-channel (valueOf (bit ones v) (bit zeros v)))) h
+    (λ v l. n-bit (bit ones v) (bit zeros v) (bit-le-one ones v))
+
+transistor-lt : (p : Bool) (ones zeros : ℕ) → transistorWord p ones zeros < 2 ^ 64
+unfolding transistorWord
+transistor-lt p ones zeros =
+    let on : ℕ → Bool = λ (v : ℕ). transistorOn (cond p p-channel n-channel) (valueOf (bit ones v) (bit zeros v)) in
+    word-lt (λ (v : ℕ). ofBool (on v)) (λ v. ofBool-le-one (on v))
+
+channel-told : (ch : Channel) → cond (isP ch) p-channel n-channel ≡ ch
+unfolding isP
+channel-told p-channel = refl
+channel-told n-channel = refl
+
+pub bit-transistorWord : (ch : Channel) (ones zeros v : ℕ) → v < 64
+    → bit (transistorWord (isP ch) ones zeros) v ≡ ofBool (transistorOn ch (valueOf (bit ones v) (bit zeros v)))
+unfolding transistorWord
+bit-transistorWord ch ones zeros v l =
+    let on : ℕ → Bool = λ (u : ℕ). transistorOn ch (valueOf (bit ones u) (bit zeros u)) in
+    rw channel-told (bit-word (λ (u : ℕ). ofBool (on u)) (λ u. ofBool-le-one (on u)) v l)
+
+-- ---- the or over the labels of an edge
+
+-- over the first j labels
+unfoldable pub orTo : Bool → List ℕ → List ℕ → List ℕ → ℕ → ℕ
+orTo p ones zeros labels zero = 0
+orTo p ones zeros labels (suc j) =
+    let l = getD labels j 0 in bitOr (orTo p ones zeros labels j) (transistorWord p (getD ones l 0) (getD zeros l 0))
+
+orTo-lt : (p : Bool) (ones zeros labels : List ℕ) (j : ℕ) → orTo p ones zeros labels j < 2 ^ 64
+unfolding orTo
+orTo-lt p ones zeros labels zero = pow-pos 64
+orTo-lt p ones zeros labels (suc j) =
+    let l : ℕ = getD labels j 0 in
+    or-lt 64 (orTo p ones zeros labels j) (transistorWord p (getD ones l 0) (getD zeros l 0)) (orTo-lt p ones zeros labels j)
+    (transistor-lt p (getD ones l 0) (getD zeros l 0))
+
+max-or : (a b : Bool) → max (ofBool a) (ofBool b) ≡ ofBool (a || b)
+max-or true true = refl
+max-or true false = refl
+max-or false true = refl
+max-or false false = refl
+
+any-last : {A : Type 0} (test : A → Bool) (xs : List A) (a : A) → anyOf test (xs ++ (a ∷ [])) ≡ (anyOf test xs || test a)
+unfolding anyOf
+any-last test [] a = or-false (test a)
+any-last test (x ∷ xs) a = rw (any-last test xs a) (sym (or-assoc (test x) (anyOf test xs) (test a)))
+
+bit-orTo : (ch : Channel) (ones zeros labels : List ℕ) (v j : ℕ) → v < 64 → j ≤ length labels
+    → bit (orTo (isP ch) ones zeros labels j) v ≡ ofBool (anyOf (λ (l : ℕ). transistorOn ch (valuesAt ones zeros v l)) (take j labels))
+unfolding orTo anyOf valuesAt
+bit-orTo ch ones zeros labels v zero h k = bit-zero v
+bit-orTo ch ones zeros labels v (suc j) h k =
+    let l : ℕ = getD labels j 0 in
+    let test : ℕ → Bool = λ (m : ℕ). transistorOn ch (valuesAt ones zeros v m) in
+    rw (bit-or, bit-transistorWord ch (getD ones l 0) (getD zeros l 0) v h, bit-orTo ch ones zeros labels v j h (omega arith), take-suc labels j 0 k, any-last)
+    (max-or (anyOf test (take j labels)) (test l))
+
+-- the or over the labels of an edge record is its edge's word
+pub on-word-is : (o : ℕ) (ones zeros : List ℕ) (r : EdgeRecord) → r .count ≤ length (r .labels)
+    → orTo (isP (channelOf o (edgeOf r))) ones zeros (r .labels) (r .count) ≡ onWord o ones zeros (edgeOf r)
+unfolding onWord edgeOn edgeOf
+on-word-is o ones zeros r k =
+    let ch : Channel = channelOf o (edgeOf r) in
+    word-of-bits (orTo (isP ch) ones zeros (r .labels) (r .count))
+    (λ (v : ℕ). ofBool (edgeOn o (valuesAt ones zeros v) (edgeOf r)))
+    (orTo-lt (isP ch) ones zeros (r .labels) (r .count))
+    (λ v h. bit-orTo ch ones zeros (r .labels) v (r .count) h k)
+
+pub onWord-lt : (o : ℕ) (ones zeros : List ℕ) (e : Edge) → onWord o ones zeros e < 2 ^ 64
+unfolding onWord
+onWord-lt o ones zeros e =
+    word-lt (λ (v : ℕ). ofBool (edgeOn o (valuesAt ones zeros v) e)) (λ v. ofBool-le-one (edgeOn o (valuesAt ones zeros v) e))
+
+pub bit-onWord : (o : ℕ) (ones zeros : List ℕ) (e : Edge) (v : ℕ) → v < 64 → bit (onWord o ones zeros e) v ≡ ofBool (edgeOn o (valuesAt ones zeros v) e)
+unfolding onWord
+bit-onWord o ones zeros e =
+    bit-word (λ (v : ℕ). ofBool (edgeOn o (valuesAt ones zeros v) e)) (λ v. ofBool-le-one (edgeOn o (valuesAt ones zeros v) e))
+
+-- ---- tables whose first n places are f's, and whose others are 0
+
+-- the element at place i of such a table
+abbrev pub upTo : (ℕ → ℕ) → ℕ → ℕ → ℕ
+upTo f n i = cond (ltb i n) (f i) 0
+
+at-below : (f : ℕ → ℕ) (n i : ℕ) → i < n → upTo f n i ≡ f i
+at-below f n i h = rw (lt-ltb i n h)
+
+at-past : (f : ℕ → ℕ) (n i : ℕ) → n ≤ i → upTo f n i ≡ 0
+at-past f n i h = rw (le-ltb i n h)
+
+pub fill-none : (m : ℕ) (f : ℕ → ℕ) → replicate m 0 ≡ table m (upTo f 0)
+fill-none m f =
+    is-table 0 m (upTo f 0) (replicate m 0) (length-replicate m 0) (λ i h. getD-replicate m i 0 0 h ∙ sym (at-past f 0 i zero-le))
+
+pub fill-more : (m : ℕ) (f : ℕ → ℕ) (i : ℕ) → i < m → set (table m (upTo f i)) i (f i) ≡ table m (upTo f (suc i))
+fill-more m f i h =
+    ap (set (table m (upTo f i)) i) (sym (at-below f (suc i) i (omega arith)))
+    ∙ set-table 0 m (upTo f i) (upTo f (suc i)) i h (λ j k apart. same j apart (ltb j i) refl)
+  where
+    same : (j : ℕ) → (j ≡ i → ⊥) → (b : Bool) → ltb j i ≡ b → upTo f i j ≡ upTo f (suc i) j
+    same j apart true e = at-below f i j (ltb-true j i e) ∙ sym (at-below f (suc i) j (omega (arith, ltb-true j i e)))
+    same j apart false e = at-past f i j (ltb-false j i e) ∙ sym (at-past f (suc i) j (omega (arith, ltb-false j i e, apart)))
+
+pub getD-fill : (m : ℕ) (f : ℕ → ℕ) (n i : ℕ) → i < n → n ≤ m → getD (table m (upTo f n)) i 0 ≡ f i
+getD-fill m f n i h k = getD-table m (upTo f n) 0 i (omega arith) ∙ at-below f n i h
+
+-- ---- the words and the nodes of the first n edges
+
+pub getD-onWords : (o : ℕ) (ones zeros : List ℕ) (edges : List EdgeRecord) (n i : ℕ) → i < n → n ≤ 64
+    → getD (onWords o ones zeros edges n) i 0 ≡ onWord o ones zeros (edgeOf (getD edges i noEdge))
+unfolding onWords
+getD-onWords o ones zeros edges = getD-fill 64 (λ (i : ℕ). onWord o ones zeros (edgeOf (getD edges i noEdge)))
+
+pub getD-firstNodes : (edges : List EdgeRecord) (n i : ℕ) → i < n → n ≤ 64 → getD (firstNodes edges n) i 0 ≡ getD edges i noEdge .first
+unfolding firstNodes
+getD-firstNodes edges = getD-fill 64 (λ (i : ℕ). getD edges i noEdge .first)
+
+pub getD-secondNodes : (edges : List EdgeRecord) (n i : ℕ) → i < n → n ≤ 64 → getD (secondNodes edges n) i 0 ≡ getD edges i noEdge .second
+unfolding secondNodes
+getD-secondNodes edges = getD-fill 64 (λ (i : ℕ). getD edges i noEdge .second)
+
+pub bit-onWords : (o : ℕ) (ones zeros : List ℕ) (edges : List EdgeRecord) (n i v : ℕ) → i < n → n ≤ 64 → v < 64
+    → bit (getD (onWords o ones zeros edges n) i 0) v ≡ ofBool (edgeOn o (valuesAt ones zeros v) (edgeOf (getD edges i noEdge)))
+bit-onWords o ones zeros edges n i v h k l =
+    rw (getD-onWords o ones zeros edges n i h k) (bit-onWord o ones zeros (edgeOf (getD edges i noEdge)) v l)

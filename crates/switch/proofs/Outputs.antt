@@ -1,0 +1,81 @@
+-- A type's output in planes: the planes that two words of joining give are those of the output's value by 01, under each vector. Assumes nothing.
+use Prim.Native.Nat.{ℕ, _-_, _^_, _<_}
+use mathlib.Core.Path.{_≡_, refl, ap, _∙_}
+use mathlib.Core.Bool.{Bool, true, false, cond}
+use mathlib.Core.List.{List}
+use lib.Bits.{bitAnd}
+use lib.ListN.{getD}
+use Rattle.words.specs.Bits.{bit, ofBool, word}
+use Rattle.words.proofs.Laws.{ofBool-le-one, pack-cong, bit-word}
+use Rattle.words.proofs.Tables.{getD-table}
+use Rattle.switch.specs.Conduction.{Value, at0, at1, atX, p-channel, n-channel, transistorOn, supply, ground}
+use Rattle.switch.specs.Modules.{ModuleType, wiresOf}
+use Rattle.switch.specs.Deciding.{joins, outputOf}
+use Rattle.switch.specs.Records.{valueOf, valuesAt}
+use Rattle.switch.specs.Model.{railWords, isAt1, isAt0, planes, planesOf, transistorWord}
+use Rattle.switch.specs.declared.Planes.{Planes}
+use Rattle.switch.proofs.OnWords.{transistor-p, transistor-n}
+
+word-cong : (f g : ℕ → ℕ) → ((v : ℕ) → v < 64 → f v ≡ g v) → word f ≡ word g
+unfolding word
+word-cong f g same = pack-cong 64 f g same
+
+planes-eq : (a b c d : ℕ) → a ≡ c → b ≡ d → _≡_ {A = Planes} (record { ones = a; zeros = b }) (record { ones = c; zeros = d })
+planes-eq a b c d p q = rw (p, q)
+
+-- ---- the planes of two words
+
+is-1 : (x : Value) → ofBool (transistorOn n-channel x) ≡ isAt1 x
+unfolding transistorOn isAt1
+is-1 at0 = refl
+is-1 at1 = refl
+is-1 atX = refl
+
+is-0 : (x : Value) → ofBool (transistorOn p-channel x) ≡ isAt0 x
+unfolding transistorOn isAt0
+is-0 at0 = refl
+is-0 at1 = refl
+is-0 atX = refl
+
+-- the known-1 plane is the word of an n-channel transistor, the known-0 plane that of a p-channel one
+pub planesOf-is : (s g : ℕ) → s < 2 ^ 64 → g < 2 ^ 64 → _≡_ {A = Planes} (record { ones = s; zeros = bitAnd g ((2 ^ 64 - 1) - s) }) (planesOf s g)
+unfolding transistorWord
+planesOf-is s g h k =
+    let x : ℕ → Value = λ (v : ℕ). valueOf (bit s v) (bit g v) in
+    planes-eq s (bitAnd g ((2 ^ 64 - 1) - s)) (word (λ (v : ℕ). isAt1 (x v))) (word (λ (v : ℕ). isAt0 (x v)))
+    (transistor-n s g h ∙ word-cong (λ (v : ℕ). ofBool (transistorOn n-channel (x v))) (λ (v : ℕ). isAt1 (x v)) (λ v l. is-1 (x v)))
+    (transistor-p s g h k ∙ word-cong (λ (v : ℕ). ofBool (transistorOn p-channel (x v))) (λ (v : ℕ). isAt0 (x v)) (λ v l. is-0 (x v)))
+
+-- ---- the output
+
+planes-cong : (f g : ℕ → Value) → ((v : ℕ) → v < 64 → f v ≡ g v) → planes f ≡ planes g
+planes-cong f g same =
+    planes-eq (word (λ (v : ℕ). isAt1 (f v))) (word (λ (v : ℕ). isAt0 (f v))) (word (λ (v : ℕ). isAt1 (g v))) (word (λ (v : ℕ). isAt0 (g v)))
+    (word-cong (λ (v : ℕ). isAt1 (f v)) (λ (v : ℕ). isAt1 (g v)) (λ v l. ap isAt1 (same v l)))
+    (word-cong (λ (v : ℕ). isAt0 (f v)) (λ (v : ℕ). isAt0 (g v)) (λ v l. ap isAt0 (same v l)))
+
+value-by-rails : (toSupply toGround : Bool) → valueOf (ofBool toSupply) (ofBool toGround) ≡ cond toSupply at1 (cond toGround at0 atX)
+unfolding valueOf
+value-by-rails true g = refl
+value-by-rails false true = refl
+value-by-rails false false = refl
+
+-- bit v of the word of node m
+pub bit-railWords : (t : ModuleType) (ones zeros : List ℕ) (rail m v : ℕ) → m < 32 → v < 64
+    → bit (getD (railWords t ones zeros rail) m 0) v ≡ ofBool (joins (wiresOf t (valuesAt ones zeros v)) m rail)
+unfolding railWords
+bit-railWords t ones zeros rail m v h l =
+    let joined : ℕ → ℕ → Bool = λ (n u : ℕ). joins (wiresOf t (valuesAt ones zeros u)) n rail in
+    rw (getD-table 32 (λ (n : ℕ). word (λ (u : ℕ). ofBool (joined n u))) 0 m h)
+    (bit-word (λ (u : ℕ). ofBool (joined m u)) (λ u. ofBool-le-one (joined m u)) v l)
+
+pub output-planes : (t : ModuleType) (ones zeros : List ℕ) → t .output < 32
+    → planesOf (getD (railWords t ones zeros supply) (t .output) 0) (getD (railWords t ones zeros ground) (t .output) 0)
+    ≡ planes (λ (v : ℕ). outputOf t (valuesAt ones zeros v))
+unfolding outputOf
+output-planes t ones zeros h =
+    let s : ℕ = getD (railWords t ones zeros supply) (t .output) 0 in
+    let g : ℕ = getD (railWords t ones zeros ground) (t .output) 0 in
+    planes-cong (λ (v : ℕ). valueOf (bit s v) (bit g v)) (λ (v : ℕ). outputOf t (valuesAt ones zeros v)) (λ v l.
+    rw (bit-railWords t ones zeros supply (t .output) v h l, bit-railWords t ones zeros ground (t .output) v h l)
+    (value-by-rails (joins (wiresOf t (valuesAt ones zeros v)) (t .output) supply) (joins (wiresOf t (valuesAt ones zeros v)) (t .output) ground)))

@@ -1,0 +1,122 @@
+-- The words that the rounds leave, over the columns of a type's nodes and its on words, are those of the type: under each vector the wires of both
+-- are the same. Assumes nothing.
+use Prim.Native.Nat.{ℕ, _^_, _≤_, _<_}
+use native.Mathlib.Nat.{lt-of-not-le}
+use native.Mathlib.Omega.{arith}
+use mathlib.Core.Path.{_≡_, refl, sym, ap, subst, _∙_}
+use mathlib.Core.Bool.{Bool, true, false}
+use mathlib.Core.List.{List}
+use lib.Dec.{T}
+use lib.ListN.{length, getD, take, List·getD-eq-default, length-map, length-take}
+use Rattle.words.specs.Bits.{ofBool, word}
+use Rattle.words.proofs.Laws.{ofBool-le-one, pack-cong, word-lt}
+use Rattle.words.proofs.Tables.{getD-table, table-cong}
+use Rattle.switch.specs.Conduction.{Value, Edge, Wire, Among, anyOf, edgeOn, wires}
+use Rattle.switch.specs.Modules.{ModuleType, wiresOf}
+use Rattle.switch.specs.Deciding.{joins}
+use Rattle.switch.specs.Records.{noEdge, edgeOf, edgesOf, typeOf, valuesAt}
+use Rattle.switch.specs.Model.{firstNodes, secondNodes, onWords, wiresTo, joinedWords, railWords, endsOf, railsOf}
+use Rattle.switch.specs.declared.Edge.{Edge as EdgeRecord}
+use Rattle.switch.specs.declared.Ends.{Ends}
+use Rattle.switch.specs.declared.ModuleType.{ModuleType as TypeRecord}
+use Rattle.switch.proofs.Paths.{OnAt, wires-among}
+use Rattle.switch.proofs.Deciding.{joins-same}
+use Rattle.switch.proofs.OnWords.{getD-firstNodes, getD-secondNodes, bit-onWords}
+use Rattle.switch.proofs.RoundLaws.{OnWire, wiresTo-among}
+use Rattle.switch.proofs.Ranges.{edge-at}
+
+-- the edge past the end of a list is off, so an edge that is on stands in the list
+on-within : (o : ℕ) (values : ℕ → Value) (es : List Edge) (i : ℕ) → T (edgeOn o values (getD es i (edgeOf noEdge))) → i < length es
+unfolding edgeOn anyOf edgeOf
+on-within o values es i t =
+    lt-of-not-le (λ (past : length es ≤ i). subst (λ (e : Edge). T (edgeOn o values e)) (List·getD-eq-default es (edgeOf noEdge) past) t)
+
+pub set-bit : (b : Bool) → ofBool b ≡ 1 → T b
+set-bit true e = tt
+set-bit false e = absurd (omega arith)
+
+pub bit-set : (b : Bool) → T b → ofBool b ≡ 1
+bit-set true t = refl
+bit-set false t = absurd t
+
+-- the wires of the columns, under a vector
+abbrev columnWires : List EdgeRecord → ℕ → ℕ → List ℕ → List ℕ → ℕ → List Wire
+columnWires rs n o ones zeros v = wiresTo (firstNodes rs n) (secondNodes rs n) (onWords o ones zeros rs n) v n
+
+module _ (rs : List EdgeRecord) (n o : ℕ) (places : n ≤ 64) (ones zeros : List ℕ) (v : ℕ) (vector : v < 64) (w : Wire) where
+  -- a place's edge is on, and its wire is w, in the columns exactly when it is in the list of edges
+  in-edges : OnWire (firstNodes rs n) (secondNodes rs n) (onWords o ones zeros rs n) v n w
+      → OnAt o (valuesAt ones zeros v) (edgesOf (take n rs)) (edgeOf noEdge) w
+  unfolding edgeOf
+  in-edges a =
+      let i : ℕ = a .place in
+      let values : ℕ → Value = valuesAt ones zeros v in
+      let same = edge-at rs n i (a .within) in
+      let on : T (edgeOn o values (getD (edgesOf (take n rs)) i (edgeOf noEdge))) =
+      rw same (set-bit (edgeOn o values (edgeOf (getD rs i noEdge))) (sym (bit-onWords o ones zeros rs n i v (a .within) places vector) ∙ a .is-on)) in
+      record {
+        place = i;
+        within = on-within o values (edgesOf (take n rs)) i on;
+        on = on;
+        ends = rw same (rw (getD-firstNodes rs n i (a .within) places, getD-secondNodes rs n i (a .within) places) at (a .ends));
+      }
+
+  in-columns : OnAt o (valuesAt ones zeros v) (edgesOf (take n rs)) (edgeOf noEdge) w
+      → OnWire (firstNodes rs n) (secondNodes rs n) (onWords o ones zeros rs n) v n w
+  unfolding edgeOf edgesOf
+  in-columns a =
+      let i : ℕ = a .place in
+      let values : ℕ → Value = valuesAt ones zeros v in
+      let within : i < n = omega (arith, a .within, length-map (take n rs) edgeOf, length-take n rs) in
+      let same = edge-at rs n i within in
+      record {
+        place = i;
+        within = within;
+        is-on =
+            bit-onWords o ones zeros rs n i v within places vector
+            ∙ bit-set (edgeOn o values (edgeOf (getD rs i noEdge))) (rw same at (a .on));
+        ends = rw (getD-firstNodes rs n i within places, getD-secondNodes rs n i within places) (rw same at (a .ends));
+      }
+
+  to-edges : Among w (columnWires rs n o ones zeros v) → Among w (wires o (valuesAt ones zeros v) (edgesOf (take n rs)))
+  to-edges m =
+      wires-among o (valuesAt ones zeros v) (edgesOf (take n rs)) (edgeOf noEdge) w .1
+      (in-edges (wiresTo-among (firstNodes rs n) (secondNodes rs n) (onWords o ones zeros rs n) v n w .0 m))
+
+  to-columns : Among w (wires o (valuesAt ones zeros v) (edgesOf (take n rs))) → Among w (columnWires rs n o ones zeros v)
+  to-columns m =
+      wiresTo-among (firstNodes rs n) (secondNodes rs n) (onWords o ones zeros rs n) v n w .1
+      (in-columns (wires-among o (valuesAt ones zeros v) (edgesOf (take n rs)) (edgeOf noEdge) w .0 m))
+
+-- bit v is 1 exactly when m is joined to the rail over the wires under vector v
+abbrev railWord : (ℕ → List Wire) → ℕ → ℕ → ℕ
+railWord ws m rail = word (λ (v : ℕ). ofBool (joins (ws v) m rail))
+
+pub railWords-lt : (t : ModuleType) (ones zeros : List ℕ) (rail m : ℕ) → m < 32 → getD (railWords t ones zeros rail) m 0 < 2 ^ 64
+unfolding railWords
+railWords-lt t ones zeros rail m h =
+    let ws : ℕ → List Wire = λ (v : ℕ). wiresOf t (valuesAt ones zeros v) in
+    rw (getD-table 32 (λ (n : ℕ). railWord ws n rail) 0 m h)
+    (word-lt (λ (v : ℕ). ofBool (joins (ws v) m rail)) (λ v. ofBool-le-one (joins (ws v) m rail)))
+
+-- so the rounds' words are the type's
+pub rail-words : (r : TypeRecord) → r .count ≤ 64 → (ones zeros : List ℕ) (rail : ℕ)
+    → let on = onWords (r .output) ones zeros (r .edges) (r .count) in
+    joinedWords (firstNodes (r .edges) (r .count)) (secondNodes (r .edges) (r .count)) on (r .count) rail ≡ railWords (typeOf r) ones zeros rail
+unfolding joinedWords railWords word wiresOf typeOf
+rail-words r places ones zeros rail =
+    let rs : List EdgeRecord = r .edges in
+    let n : ℕ = r .count in
+    let o : ℕ = r .output in
+    let inType : ℕ → List Wire = λ (v : ℕ). wires o (valuesAt ones zeros v) (edgesOf (take n rs)) in
+    let inColumns : ℕ → List Wire = columnWires rs n o ones zeros in
+    table-cong 32 (λ (m : ℕ). railWord inColumns m rail) (λ (m : ℕ). railWord inType m rail) (λ m k.
+    pack-cong 64 (λ (v : ℕ). ofBool (joins (inColumns v) m rail)) (λ (v : ℕ). ofBool (joins (inType v) m rail)) (λ v l.
+    ap ofBool (joins-same (inColumns v) (inType v) (to-edges rs n o places ones zeros v l) (to-columns rs n o places ones zeros v l) m rail)))
+
+pub rails-are : (r : TypeRecord) → r .count ≤ 64 → (ones zeros on supply ground : List ℕ) (ends : Ends)
+    → on ≡ onWords (r .output) ones zeros (r .edges) (r .count) → ends ≡ endsOf (r .edges) (r .count)
+    → supply ≡ joinedWords (ends .firsts) (ends .seconds) on (r .count) 1 → ground ≡ joinedWords (ends .firsts) (ends .seconds) on (r .count) 0
+    → record { supply = supply; ground = ground } ≡ railsOf (typeOf r) ones zeros
+rails-are r places ones zeros on supply ground ends e f s g =
+    rw (s, g, e, f, rail-words r places ones zeros 1, rail-words r places ones zeros 0)

@@ -1,0 +1,129 @@
+-- (b) Refined values keep every on edge, every joining, every known output and every mark, since they turn no edge off and the rails are apart.
+-- And `outputOf` is the one value that 01 gives the output. Assumes nothing.
+use Prim.Native.Nat.{ℕ}
+use mathlib.Core.Path.{_≡_, refl}
+use mathlib.Core.Bool.{Bool, true, false, cond}
+use mathlib.Core.Logic.{_⊎_, inl, inr, _↔_}
+use mathlib.Core.List.{List, _++_, Memᴰ·append-left, Memᴰ·append-right, List·Memᴰ·append-cases, List·Memᴰ·not-nil}
+use lib.Dec.{T}
+use Rattle.switch.specs.Conduction.{Value, at0, at1, atX, Wire, Among, Joined, ground, supply}
+use Rattle.switch.specs.Modules.{ModuleType, wiresOf, OutputIs, output-0, output-1, output-X}
+use Rattle.switch.specs.Bridges.{Bridge, nodes, input, toLabel, closing, Marked}
+use Rattle.switch.specs.Deciding.{joins, outputOf}
+use Rattle.switch.specs.Statements.{Accepted, Refines, RefinementKeeps, OutputIsOne}
+use Rattle.switch.proofs.Paths.{more-wires}
+use Rattle.switch.proofs.Deciding.{joins-decides}
+use Rattle.switch.proofs.Apart.{edge-stays-on, wire-stays, stays-joined, rails-apart}
+
+-- ---- the output
+
+-- `outputOf` by what it tests, before and after
+known-stays : (s g s′ g′ : Bool) → (T s → T s′) → (T g → T g′) → (T s′ → T g′ → ⊥)
+    → (cond s at1 (cond g at0 atX) ≡ atX) ⊎ (cond s′ at1 (cond g′ at0 atX) ≡ cond s at1 (cond g at0 atX))
+known-stays true g true g′ f h n = inr refl
+known-stays true g false g′ f h n = absurd (f tt)
+known-stays false false s′ g′ f h n = inl refl
+known-stays false true s′ false f h n = absurd (h tt)
+known-stays false true true true f h n = absurd (n tt tt)
+known-stays false true false true f h n = inr refl
+
+output-stays : (t : ModuleType) → Accepted t → (values finer : ℕ → Value) → Refines values finer
+    → (outputOf t values ≡ atX) ⊎ (outputOf t finer ≡ outputOf t values)
+unfolding outputOf
+output-stays t acc values finer refines =
+    let ws : List Wire = wiresOf t values in
+    let ws′ : List Wire = wiresOf t finer in
+    let o : ℕ = t .output in
+    known-stays
+    (joins ws o supply)
+    (joins ws o ground)
+    (joins ws′ o supply)
+    (joins ws′ o ground)
+    (λ b. (joins-decides ws′ o supply) .0 (stays-joined values finer refines t o supply ((joins-decides ws o supply) .1 b)))
+    (λ b. (joins-decides ws′ o ground) .0 (stays-joined values finer refines t o ground ((joins-decides ws o ground) .1 b)))
+    (λ b c. rails-apart .output t acc finer ((joins-decides ws′ o supply) .1 b) ((joins-decides ws′ o ground) .1 c))
+
+module _ (t : ModuleType) (values : ℕ → Value) where
+  abbrev Supplied : Type 0
+  Supplied = Joined (wiresOf t values) (t .output) supply
+
+  abbrev Grounded : Type 0
+  Grounded = Joined (wiresOf t values) (t .output) ground
+
+  given-by : (s g : Bool) → Supplied ↔ T s → Grounded ↔ T g → OutputIs t values (cond s at1 (cond g at0 atX))
+  given-by true g es eg = output-1 (es .1 tt)
+  given-by false true es eg = output-0 (eg .1 tt)
+  given-by false false es eg = output-X (es .0) (eg .0)
+
+  only-by : (s g : Bool) → Supplied ↔ T s → Grounded ↔ T g → (Supplied → Grounded → ⊥)
+      → (value : Value) → OutputIs t values value → value ≡ cond s at1 (cond g at0 atX)
+  only-by true g es eg apart value (output-1 p) = refl
+  only-by true g es eg apart value (output-0 p) = absurd (apart (es .1 tt) p)
+  only-by true g es eg apart value (output-X p q) = absurd (p (es .1 tt))
+  only-by false true es eg apart value (output-1 p) = absurd (es .0 p)
+  only-by false true es eg apart value (output-0 p) = refl
+  only-by false true es eg apart value (output-X p q) = absurd (q (eg .1 tt))
+  only-by false false es eg apart value (output-1 p) = absurd (es .0 p)
+  only-by false false es eg apart value (output-0 p) = absurd (eg .0 p)
+  only-by false false es eg apart value (output-X p q) = refl
+
+  output-given : OutputIs t values (outputOf t values)
+  unfolding outputOf
+  output-given =
+      let ws : List Wire = wiresOf t values in
+      let o : ℕ = t .output in
+      given-by (joins ws o supply) (joins ws o ground) (joins-decides ws o supply) (joins-decides ws o ground)
+
+  output-only : Accepted t → (value : Value) → OutputIs t values value → value ≡ outputOf t values
+  unfolding outputOf
+  output-only acc value is =
+      let ws : List Wire = wiresOf t values in
+      let o : ℕ = t .output in
+      only-by
+      (joins ws o supply)
+      (joins ws o ground)
+      (joins-decides ws o supply)
+      (joins-decides ws o ground)
+      (rails-apart .output t acc values)
+      value
+      is
+
+pub output-is-one : OutputIsOne
+output-is-one = record { given = output-given; only = λ t acc values value is. output-only t values acc value is }
+
+-- ---- marks
+
+label-stays : (m : ℕ) (v v′ : Value) → (v ≡ atX) ⊎ (v′ ≡ v) → (w : Wire) → Among w (toLabel m v) → Among w (toLabel m v′)
+unfolding toLabel
+label-stays m v v′ (inl e) w k = absurd (List·Memᴰ·not-nil (rw e at k))
+label-stays m v v′ (inr e) w k = rw e k
+
+module _ (values finer : ℕ → Value) (refines : Refines values finer) where
+  closing-stays : (bridge : Bridge) (w : Wire) → Among w (closing bridge values) → Among w (closing bridge finer)
+  unfolding closing
+  closing-stays (nodes a b) w k = k
+  closing-stays (input m l) w k = label-stays m (values l) (finer l) (refines l) w k
+
+  closed-stays : (t : ModuleType) (bridge : Bridge) (w : Wire)
+      → Among w (closing bridge values) ⊎ Among w (wiresOf t values) → Among w (closing bridge finer ++ wiresOf t finer)
+  closed-stays t bridge w (inl k) = Memᴰ·append-left (wiresOf t finer) (closing-stays bridge w k)
+  closed-stays t bridge w (inr k) = Memᴰ·append-right (closing bridge finer) (wire-stays values finer refines t w k)
+
+  pub mark-stays : (t : ModuleType) (bridge : Bridge) → Marked t values bridge → Marked t finer bridge
+  unfolding Marked
+  mark-stays t bridge p =
+      more-wires
+      (closing bridge values ++ wiresOf t values)
+      (closing bridge finer ++ wiresOf t finer)
+      (λ w k. closed-stays t bridge w (List·Memᴰ·append-cases (closing bridge values) k))
+      supply
+      ground
+      p
+
+pub refinement-keeps : RefinementKeeps
+refinement-keeps t acc values finer refines = record {
+  on-edge = edge-stays-on values finer refines (t .output);
+  joining = stays-joined values finer refines t;
+  output = output-stays t acc values finer refines;
+  mark = mark-stays values finer refines t;
+}

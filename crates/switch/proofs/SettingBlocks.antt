@@ -1,0 +1,153 @@
+-- The planes of 64 settings: a label below 6 has one pattern in every block, any other label is all ones or all zeros by a bit of the block, and the
+-- known-0 plane is the complement. With them, the ones at the first places of a word, and that the planes give the settings' values. Assumes nothing.
+use mathlib.Core.Path.{_≡_, refl, sym, ap, _∙_}
+use mathlib.Core.Bool.{Bool, true, false}
+use mathlib.Core.List.{List, [], _∷_}
+use Prim.Native.Nat.{ℕ, zero, suc, _+_, _-_, _*_, _^_, _≤_, _<_}
+use native.Mathlib.Omega.{arith}
+use lib.Dec.{ltb}
+use lib.ListN.{getD, set}
+use lib.Seq.{set-getD}
+use lib.Pow.{pow-mono, pow-pos}
+use borrow.Author.Tests.{lt-ltb, le-ltb, ltb-true, ltb-false}
+use Rattle.words.specs.Bits.{bit, ofBool, pack, word}
+use Rattle.words.specs.Tables.{table}
+use Rattle.words.proofs.Laws.{bit-le-one, bit-past, ofBool-le-one, bit-not, bit-ones, bit-block, bit-block-high}
+use Rattle.words.proofs.Laws.{pack-cong, pack-zero, pack-one, word-of-bits, bit-word, word-lt}
+use Rattle.words.proofs.Tables.{getD-table}
+use Rattle.switch.specs.Modules.{known, settingOf}
+use Rattle.switch.specs.Records.{valueOf, valuesAt}
+use Rattle.switch.specs.Model.{settingOnes, settingZeros, firstOnes}
+use Rattle.switch.proofs.OnWords.{upTo, fill-more}
+
+-- ---- planes
+
+-- the known-1 plane of label l under the settings of a block
+abbrev pub plane : ℕ → ℕ → ℕ
+plane block l = word (λ (v : ℕ). bit (64 * block + v) l)
+
+plane-lt : (block l : ℕ) → plane block l < 2 ^ 64
+plane-lt block l = word-lt (λ (v : ℕ). bit (64 * block + v) l) (λ v. bit-le-one (64 * block + v) l)
+
+-- a label below 6 has the same plane in every block
+plane-low : (block l : ℕ) → l < 6 → plane block l ≡ word (λ (v : ℕ). bit v l)
+unfolding word
+plane-low block l h = pack-cong 64 (λ (v : ℕ). bit (64 * block + v) l) (λ (v : ℕ). bit v l) (λ v k. bit-block 6 block v l k h)
+
+-- any other label has one bit of the block at every place
+plane-high : (block l : ℕ) → plane block (6 + l) ≡ word (λ (v : ℕ). bit block l)
+unfolding word
+plane-high block l =
+    pack-cong 64 (λ (v : ℕ). bit (64 * block + v) (6 + l)) (λ (v : ℕ). bit block l) (λ v k. bit-block-high 6 block v l k)
+
+plane-one : (block l : ℕ) → 6 ≤ l → bit block (l - 6) ≡ 1 → plane block l ≡ 2 ^ 64 - 1
+unfolding word
+plane-one block l h e =
+    let whole : l ≡ 6 + (l - 6) = omega arith in ap (plane block) whole ∙ plane-high block (l - 6) ∙ simp e (pack-one 64)
+
+plane-zero : (block l : ℕ) → 6 ≤ l → bit block (l - 6) ≡ 0 → plane block l ≡ 0
+unfolding word
+plane-zero block l h e =
+    let whole : l ≡ 6 + (l - 6) = omega arith in ap (plane block) whole ∙ plane-high block (l - 6) ∙ simp e (pack-zero 64)
+
+-- the patterns of the labels below 6
+abbrev pub patterns : List ℕ
+patterns =
+    0xaaaa_aaaa_aaaa_aaaa ∷ 0xcccc_cccc_cccc_cccc ∷ 0xf0f0_f0f0_f0f0_f0f0 ∷ 0xff00_ff00_ff00_ff00 ∷ 0xffff_0000_ffff_0000 ∷ 0xffff_ffff_0000_0000
+    ∷ 0 ∷ 0 ∷ 0 ∷ 0 ∷ 0 ∷ 0 ∷ []
+
+abbrev pattern : ℕ → ℕ
+pattern l = word (λ (v : ℕ). bit v l)
+
+patterns-are : patterns ≡ table 12 (upTo pattern 6)
+unfolding table word pack bit
+patterns-are = refl
+
+pub low-planes : (block : ℕ) → patterns ≡ table 12 (upTo (plane block) 6)
+unfolding table
+low-planes block =
+    let low : (l : ℕ) → l < 6 → plane block l ≡ pattern l = plane-low block in
+    rw (low 0 (omega arith), low 1 (omega arith), low 2 (omega arith), low 3 (omega arith), low 4 (omega arith), low 5 (omega arith)) patterns-are
+
+-- one label more, of those from 6 on: all ones are written, zeros stand there
+pub planes-one : (block l : ℕ) → 6 ≤ l → l < 12 → bit block (l - 6) ≡ 1
+    → set (table 12 (upTo (plane block) l)) l (2 ^ 64 - 1) ≡ table 12 (upTo (plane block) (suc l))
+planes-one block l h k e = ap (set (table 12 (upTo (plane block) l)) l) (sym (plane-one block l h e)) ∙ fill-more 12 (plane block) l k
+
+pub planes-zero : (block l : ℕ) → 6 ≤ l → l < 12 → (bit block (l - 6) ≡ 1 → ⊥)
+    → table 12 (upTo (plane block) l) ≡ table 12 (upTo (plane block) (suc l))
+planes-zero block l h k e =
+    let done : List ℕ = table 12 (upTo (plane block) l) in
+    let stands : getD done l 0 ≡ plane block l =
+    getD-table 12 (upTo (plane block) l) 0 l k
+    ∙ rw (le-ltb l l (omega arith)) (sym (plane-zero block l h (omega (arith, bit-le-one block (l - 6))))) in
+    sym (set-getD done l 0) ∙ ap (set done l) stands ∙ fill-more 12 (plane block) l k
+
+pub settings-of-planes : (block : ℕ) → table 12 (upTo (plane block) 12) ≡ settingOnes block
+unfolding settingOnes table
+settings-of-planes block = refl
+
+-- ---- the known-0 planes
+
+abbrev pub zeroPlane : ℕ → ℕ → ℕ
+zeroPlane block l = word (λ (v : ℕ). 1 - bit (64 * block + v) l)
+
+plane-not : (block l : ℕ) → l < 12 → (2 ^ 64 - 1) - getD (settingOnes block) l 0 ≡ zeroPlane block l
+unfolding settingOnes
+plane-not block l h =
+    rw (getD-table 12 (plane block) 0 l h)
+    (word-of-bits ((2 ^ 64 - 1) - plane block l) (λ (v : ℕ). 1 - bit (64 * block + v) l) (omega arith) (λ v k.
+    bit-not 64 (plane block l) v (plane-lt block l) k
+    ∙ ap (λ (b : ℕ). 1 - b) (bit-word (λ (u : ℕ). bit (64 * block + u) l) (λ u. bit-le-one (64 * block + u) l) v k)))
+
+pub zero-planes-more : (block l : ℕ) → l < 12
+    → set (table 12 (upTo (zeroPlane block) l)) l ((2 ^ 64 - 1) - getD (settingOnes block) l 0) ≡ table 12 (upTo (zeroPlane block) (suc l))
+zero-planes-more block l h =
+    ap (set (table 12 (upTo (zeroPlane block) l)) l) (plane-not block l h) ∙ fill-more 12 (zeroPlane block) l h
+
+pub settings-of-zero-planes : (block : ℕ) → table 12 (upTo (zeroPlane block) 12) ≡ settingZeros block
+unfolding settingZeros table
+settings-of-zero-planes block = refl
+
+-- ---- the planes give the settings' values
+
+value-known : (b : ℕ) → valueOf b (1 - b) ≡ known b
+unfolding valueOf known
+value-known zero = refl
+value-known (suc b) = refl
+
+pub setting-values : (block v l : ℕ) → v < 64 → l < 12 → valuesAt (settingOnes block) (settingZeros block) v l ≡ settingOf (64 * block + v) l
+unfolding valuesAt settingOf settingOnes settingZeros
+setting-values block v l h k =
+    rw (
+      getD-table 12 (plane block) 0 l k,
+      getD-table 12 (zeroPlane block) 0 l k,
+      bit-word (λ (u : ℕ). bit (64 * block + u) l) (λ u. bit-le-one (64 * block + u) l) v h,
+      bit-word (λ (u : ℕ). 1 - bit (64 * block + u) l) (λ u. omega arith) v h,
+    )
+    (value-known (bit (64 * block + v) l))
+
+-- ---- the first places of a word
+
+pub firstOnes-lt : (n : ℕ) → firstOnes n < 2 ^ 64
+unfolding firstOnes
+firstOnes-lt n = word-lt (λ (v : ℕ). ofBool (ltb v n)) (λ v. ofBool-le-one (ltb v n))
+
+pub bit-firstOnes : (n v : ℕ) → v < 64 → bit (firstOnes n) v ≡ ofBool (ltb v n)
+unfolding firstOnes
+bit-firstOnes n v h = bit-word (λ (u : ℕ). ofBool (ltb u n)) (λ u. ofBool-le-one (ltb u n)) v h
+
+-- a word of n ones
+ones-bit : (n v : ℕ) (b : Bool) → ltb v n ≡ b → bit (2 ^ n - 1) v ≡ ofBool b
+ones-bit n v true e = bit-ones n v (ltb-true v n e)
+ones-bit n v false e = bit-past n (2 ^ n - 1) v (omega (arith, pow-pos n)) (ltb-false v n e)
+
+pub ones-some : (n : ℕ) → n ≤ 64 → 2 ^ n - 1 ≡ firstOnes n
+unfolding firstOnes
+ones-some n h =
+    word-of-bits (2 ^ n - 1) (λ (v : ℕ). ofBool (ltb v n)) (omega (arith, pow-pos n, pow-mono {i = n} {j = 64} h)) (λ v k. ones-bit n v (ltb v n) refl)
+
+pub ones-all : (n : ℕ) → 64 ≤ n → 2 ^ 64 - 1 ≡ firstOnes n
+unfolding firstOnes
+ones-all n h =
+    word-of-bits (2 ^ 64 - 1) (λ (v : ℕ). ofBool (ltb v n)) (omega arith) (λ v k. bit-ones 64 v k ∙ rw (lt-ltb v n (omega arith)))

@@ -1,0 +1,40 @@
+-- Boolean tests that compute: joined, complementary, the output's value. That they decide what Conduction and Modules say is proved in proofs/Deciding.
+use Prim.Native.Nat.{ℕ, zero, suc, _^_}
+use mathlib.Core.Bool.{Bool, true, false, cond, _&&_, not, Bool·beq}
+use mathlib.Core.List.{List, [], _∷_}
+use lib.Dec.{eqb}
+use Rattle.switch.specs.Conduction.{Value, at0, at1, atX, Wire, ground, supply}
+use Rattle.switch.specs.Modules.{ModuleType, wiresOf, settingOf}
+
+-- parts are numbered by nodes. A list of renamings, the latest first, gives each node its part
+unfoldable pub rename : ℕ → ℕ → ℕ → ℕ
+rename old new part = cond (eqb part old) new part
+
+unfoldable pub partIn : List Wire → ℕ → ℕ
+partIn [] m = m
+partIn (r ∷ rs) m = rename (r .0) (r .1) (partIn rs m)
+
+-- each wire unites the parts of its two nodes
+unfoldable pub renamings : List Wire → List Wire
+renamings [] = []
+renamings (w ∷ ws) = let rs = renamings ws in (partIn rs (w .0), partIn rs (w .1)) ∷ rs
+
+-- are two nodes joined: are they in one part
+unfoldable pub joins : List Wire → ℕ → ℕ → Bool
+joins ws a b = let rs = renamings ws in eqb (partIn rs a) (partIn rs b)
+
+-- does a test pass at each number below n
+unfoldable pub allBelow : ℕ → (ℕ → Bool) → Bool
+allBelow zero test = true
+allBelow (suc n) test = test n && allBelow n test
+
+-- is the output joined to exactly one rail under these values
+unfoldable pub oneRail : ModuleType → (ℕ → Value) → Bool
+oneRail t values =
+    let ws = wiresOf t values in not (Bool·beq (joins ws (t .output) ground) (joins ws (t .output) supply))
+
+unfoldable pub isComplementary : ModuleType → Bool
+isComplementary t = allBelow (2 ^ (t .labels)) (λ (s : ℕ). oneRail t (settingOf s))
+
+unfoldable pub outputOf : ModuleType → (ℕ → Value) → Value
+outputOf t values = let ws = wiresOf t values in cond (joins ws (t .output) supply) at1 (cond (joins ws (t .output) ground) at0 atX)

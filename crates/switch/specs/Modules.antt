@@ -1,0 +1,60 @@
+-- 01, "The circuit file" (tags 2 and 3) and "Conduction": a module type, its ranges, when it is complementary, and its output.
+use Prim.Native.Nat.{ℕ, zero, suc, _^_, _<_}
+use mathlib.Core.Bool.{Bool, true, false, cond, _&&_}
+use mathlib.Core.Logic.{_⊎_}
+use mathlib.Core.List.{List, [], _∷_}
+use lib.Dec.{leb, ltb}
+use lib.ListN.{length}
+use Rattle.words.specs.Bits.{bit}
+use Rattle.switch.specs.Conduction.{Value, at0, at1, atX, Edge, Wire, Joined, between, wires, ground, supply}
+
+-- a module type: highest node h, output node o, number of labels k, edges
+pub record ModuleType : Type 0 where
+  pub highest : ℕ
+  pub output : ℕ
+  pub labels : ℕ
+  pub edges : List Edge
+
+unfoldable pub allOf : {A : Type 0} → (A → Bool) → List A → Bool
+allOf test [] = true
+allOf test (a ∷ as′) = test a && allOf test as′
+
+-- h is 2 to 31, o is 2 to h, k is 1 to 12
+unfoldable pub typeInRange : ℕ → ℕ → ℕ → Bool
+typeInRange h o k = between 2 31 h && between 2 h o && between 1 12 k
+
+-- two nodes 0 to h, then 1 to 4 labels 0 to k - 1
+unfoldable pub edgeInRange : ℕ → ℕ → Edge → Bool
+edgeInRange h k e =
+    leb (e .first) h && leb (e .second) h && between 1 4 (length (e .labels)) && allOf (λ (l : ℕ). ltb l k) (e .labels)
+
+unfoldable pub inRange : ModuleType → Bool
+inRange t = typeInRange (t .highest) (t .output) (t .labels) && allOf (edgeInRange (t .highest) (t .labels)) (t .edges)
+
+unfoldable pub wiresOf : ModuleType → (ℕ → Value) → List Wire
+wiresOf t values = wires (t .output) values (t .edges)
+
+unfoldable pub known : ℕ → Value
+known zero = at0
+known (suc b) = at1
+
+-- a setting gives each label 0 or 1: setting s gives label l the bit of s at l
+unfoldable pub settingOf : ℕ → ℕ → Value
+settingOf s l = known (bit s l)
+
+pub data ExactlyOne (A B : Type 0) : Type 0 where
+  only-first : A → (B → ⊥) → ExactlyOne A B
+  only-second : (A → ⊥) → B → ExactlyOne A B
+
+-- under each of the 2^k settings of its labels the output is joined to exactly one of nodes 0 and 1
+unfoldable pub Complementary : ModuleType → Type 0
+Complementary t =
+    (s : ℕ) → s < 2 ^ (t .labels)
+    → ExactlyOne (Joined (wiresOf t (settingOf s)) (t .output) ground) (Joined (wiresOf t (settingOf s)) (t .output) supply)
+
+-- a type's output under values: 1 where joined to node 1, 0 where joined to node 0, X where joined to neither
+pub data OutputIs (t : ModuleType) (values : ℕ → Value) : Value → Type 0 where
+  output-1 : Joined (wiresOf t values) (t .output) supply → OutputIs t values at1
+  output-0 : Joined (wiresOf t values) (t .output) ground → OutputIs t values at0
+  output-X : (Joined (wiresOf t values) (t .output) supply → ⊥) → (Joined (wiresOf t values) (t .output) ground → ⊥)
+      → OutputIs t values atX

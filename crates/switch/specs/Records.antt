@@ -1,0 +1,51 @@
+-- The code's records in the words of Conduction and Modules: an edge record, a module type, planes of labels, and what a record must be to be one of 01's.
+use Prim.Native.Nat.{ℕ, zero, suc, _≤_, _<_}
+use mathlib.Core.List.{List, [], map}
+use lib.Dec.{T, leb}
+use lib.ListN.{take, getD}
+use Rattle.words.specs.Bits.{bit}
+use Rattle.switch.specs.Conduction.{Value, at0, at1, atX, Edge}
+use Rattle.switch.specs.Modules.{ModuleType, allOf, inRange}
+use Rattle.switch.specs.declared.Edge.{Edge as EdgeRecord}
+use Rattle.switch.specs.declared.ModuleType.{ModuleType as TypeRecord}
+
+-- what stands past the end of a list of edge records
+abbrev pub noEdge : EdgeRecord
+noEdge = record { first = 0; second = 0; count = 0; labels = [] }
+
+-- the edge of a record: of its four places for labels the first `count` are used
+unfoldable pub edgeOf : EdgeRecord → Edge
+edgeOf r = record { first = r .first; second = r .second; labels = take (r .count) (r .labels) }
+
+unfoldable pub edgesOf : List EdgeRecord → List Edge
+edgesOf rs = map edgeOf rs
+
+-- the module type of a record: of its places for edges the first `count` are used
+unfoldable pub typeOf : TypeRecord → ModuleType
+typeOf r = record { highest = r .highest; output = r .output; labels = r .labels; edges = edgesOf (take (r .count) (r .edges)) }
+
+-- the labels of an edge record stand in its four places, each 0 to 11
+pub record LabelsFit (r : EdgeRecord) : Type 0 where
+  pub places : r .count ≤ 4
+  pub labels : (j : ℕ) → j < r .count → getD (r .labels) j 0 < 12
+
+-- so of the first n edge records, which stand in 64 places
+pub record EdgesFit (rs : List EdgeRecord) (n : ℕ) : Type 0 where
+  pub places : n ≤ 64
+  pub edges : (i : ℕ) → i < n → LabelsFit (getD rs i noEdge)
+
+-- a record that a file can give: its counts are within its places, its numbers within 01's ranges. Reading refuses every other (5, 6 and 7)
+pub record Given (r : TypeRecord) : Type 0 where
+  pub places : r .count ≤ 64
+  pub label-places : T (allOf (λ (e : EdgeRecord). leb (e .count) 4) (take (r .count) (r .edges)))
+  pub ranges : T (inRange (typeOf r))
+
+-- a label's value from its bit in the known-1 plane and in the known-0 plane. No file gives both; taken as 1, every pair of planes has a meaning
+unfoldable pub valueOf : ℕ → ℕ → Value
+valueOf (suc b) zeros = at1
+valueOf zero (suc b) = at0
+valueOf zero zero = atX
+
+-- the labels' values under vector v, from the two planes
+unfoldable pub valuesAt : List ℕ → List ℕ → ℕ → ℕ → Value
+valuesAt ones zeros v l = valueOf (bit (getD ones l 0) v) (bit (getD zeros l 0) v)

@@ -1,0 +1,41 @@
+// Switch-level modules, 64 vectors to a word: edge records, which nodes are joined to each rail, and whether a type is complementary.
+pub mod complementary;
+mod conduction;
+pub mod joining;
+mod rounds;
+mod settings;
+
+// An edge of a module type: two nodes, and one to four labels of parallel transistors.
+pub struct Edge {
+    pub first: u8,
+    pub second: u8,
+    pub count: u8,
+    pub labels: [u8; 4],
+}
+
+// A module type: highest node, output node, number of labels, and its edges, in the first `count` places.
+pub struct ModuleType {
+    pub highest: u8,
+    pub output: u8,
+    pub labels: u8,
+    pub count: usize,
+    pub edges: [Edge; 64],
+}
+
+// A word for each node and each rail: under which of 64 vectors the node is joined to it.
+pub struct Rails {
+    pub supply: [u64; 32],
+    pub ground: [u64; 32],
+}
+
+// The known-1 plane and the known-0 plane of one value under 64 vectors.
+pub struct Planes {
+    pub ones: u64,
+    pub zeros: u64,
+}
+
+// The nodes of a type's edges, in two columns.
+pub struct Ends {
+    pub firsts: [u8; 64],
+    pub seconds: [u8; 64],
+}

@@ -10,11 +10,11 @@ use lib.Dec.{T}
 use Rattle.words.specs.Bits.{pack}
 use Rattle.words.proofs.Laws.{bit-pack, pack-lt}
 use Rattle.switch.specs.Conduction.{Value, at0, at1, atX, Edge, Channel, p-channel, n-channel, channelOf, transistorOn, anyOf, edgeOn}
-use Rattle.switch.specs.Conduction.{Wire, Among, Joined, ground, supply}
-use Rattle.switch.specs.Modules.{ModuleType, inRange, wiresOf, known, settingOf}
+use Rattle.switch.specs.Conduction.{Link, Among, Joined, ground, supply}
+use Rattle.switch.specs.Modules.{ModuleType, inRange, linksOf, known, settingOf}
 use Rattle.switch.specs.Modules.{ExactlyOne, only-first, only-second, Complementary}
 use Rattle.switch.specs.Statements.{Accepted, Refines, RailsApart}
-use Rattle.switch.proofs.Paths.{through, turned, more-wires, wires-more, wiresOf-cong}
+use Rattle.switch.proofs.Paths.{through, turned, more-links, links-more, linksOf-cong}
 
 -- ---- refined values turn no edge off
 
@@ -48,12 +48,12 @@ module _ (values finer : ℕ → Value) (refines : Refines values finer) where
       (e .labels)
       t
 
-  pub wire-stays : (t : ModuleType) (w : Wire) → Among w (wiresOf t values) → Among w (wiresOf t finer)
-  unfolding wiresOf
-  wire-stays t w m = wires-more (t .output) values finer (t .edges) (edge-stays-on (t .output)) w m
+  pub link-stays : (t : ModuleType) (w : Link) → Among w (linksOf t values) → Among w (linksOf t finer)
+  unfolding linksOf
+  link-stays t w m = links-more (t .output) values finer (t .edges) (edge-stays-on (t .output)) w m
 
-  pub stays-joined : (t : ModuleType) (a b : ℕ) → Joined (wiresOf t values) a b → Joined (wiresOf t finer) a b
-  stays-joined t a b p = more-wires (wiresOf t values) (wiresOf t finer) (wire-stays t) a b p
+  pub stays-joined : (t : ModuleType) (a b : ℕ) → Joined (linksOf t values) a b → Joined (linksOf t finer) a b
+  stays-joined t a b p = more-links (linksOf t values) (linksOf t finer) (link-stays t) a b p
 
 -- ---- any values are refined by a setting
 
@@ -91,27 +91,27 @@ filling-refines k values l b = rw (← (filling-at k values l b)) (filled-refine
 
 -- what is joined under the values is joined under their filling
 pub joined-when-filled : (t : ModuleType) → T (inRange t) → (values : ℕ → Value) (a b : ℕ)
-    → Joined (wiresOf t values) a b → Joined (wiresOf t (settingOf (filling (t .labels) values))) a b
+    → Joined (linksOf t values) a b → Joined (linksOf t (settingOf (filling (t .labels) values))) a b
 joined-when-filled t r values a b p =
     let full : ℕ → Value = λ l. known (filled (values l)) in
     let setting : ℕ → Value = settingOf (filling (t .labels) values) in
     rw
-    (← (wiresOf-cong t r full setting (filling-at (t .labels) values)))
+    (← (linksOf-cong t r full setting (filling-at (t .labels) values)))
     (stays-joined values full (λ l. filled-refines (values l)) t a b p)
 
 -- ---- apart
 
 -- joined to exactly one of two, a node keeps the two apart
-keeps-apart : (ws : List Wire) (o a b : ℕ) → ExactlyOne (Joined ws o a) (Joined ws o b) → Joined ws b a → ⊥
+keeps-apart : (ws : List Link) (o a b : ℕ) → ExactlyOne (Joined ws o a) (Joined ws o b) → Joined ws b a → ⊥
 keeps-apart ws o a b (only-first p n) j = n (through p (turned j))
 keeps-apart ws o a b (only-second n p) j = n (through p j)
 
-rails : (t : ModuleType) → Accepted t → (values : ℕ → Value) → Joined (wiresOf t values) supply ground → ⊥
+rails : (t : ModuleType) → Accepted t → (values : ℕ → Value) → Joined (linksOf t values) supply ground → ⊥
 unfolding Complementary
 rails t acc values j =
     let s : ℕ = filling (t .labels) values in
     keeps-apart
-    (wiresOf t (settingOf s))
+    (linksOf t (settingOf s))
     (t .output)
     ground
     supply

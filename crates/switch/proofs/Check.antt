@@ -13,14 +13,15 @@ use lib.Pow.{pow-mono}
 use borrow.Author.Tests.{lt-ltb, ltb-true, ltb-false, eqb-true, eqb-false}
 use Rattle.words.specs.Bits.{bit, ofBool}
 use Rattle.words.proofs.Laws.{bit-le-one, bit-or, bit-and, bit-not-under, bits-eq}
-use Rattle.switch.specs.Conduction.{Wire, ground, supply}
-use Rattle.switch.specs.Modules.{ModuleType, wiresOf, settingOf}
+use Rattle.switch.specs.Conduction.{Link, ground, supply}
+use Rattle.switch.specs.Modules.{ModuleType, linksOf, settingOf}
 use Rattle.switch.specs.Deciding.{joins, allBelow, oneRail, isComplementary}
 use Rattle.switch.specs.Records.{edgesOf, typeOf, Given, valuesAt}
-use Rattle.switch.specs.Model.{railWords, railsOf, settingOnes, settingZeros, firstOnes, BlockVerdict}
+use Rattle.switch.specs.Promises.{railWords, railsOf}
+use Rattle.switch.specs.Model.{settingOnes, settingZeros, firstOnes, BlockVerdict}
 use Rattle.switch.specs.declared.Rails.{Rails}
 use Rattle.switch.specs.declared.ModuleType.{ModuleType as TypeRecord}
-use Rattle.switch.proofs.Paths.{wires-cong}
+use Rattle.switch.proofs.Paths.{links-cong}
 use Rattle.switch.proofs.Deciding.{same-test, all-below}
 use Rattle.switch.proofs.Outputs.{bit-railWords}
 use Rattle.switch.proofs.RailWords.{set-bit, bit-set, railWords-lt}
@@ -51,11 +52,11 @@ oneWord r block =
     ((2 ^ 64 - 1) - bitAnd (railWord r block supply) (railWord r block ground))
 
 module _ (r : TypeRecord) (given : Given r) (block v : ℕ) (place : v < 64) where
-  -- under the planes of a block the wires are those of its settings
-  block-wires : wiresOf (typeOf r) (valuesAt (settingOnes block) (settingZeros block) v) ≡ wiresOf (typeOf r) (settingOf (64 * block + v))
-  unfolding wiresOf typeOf
-  block-wires =
-      wires-cong
+  -- under the planes of a block the links are those of its settings
+  block-links : linksOf (typeOf r) (valuesAt (settingOnes block) (settingZeros block) v) ≡ linksOf (typeOf r) (settingOf (64 * block + v))
+  unfolding linksOf typeOf
+  block-links =
+      links-cong
       (r .labels)
       (valuesAt (settingOnes block) (settingZeros block) v)
       (settingOf (64 * block + v))
@@ -65,17 +66,17 @@ module _ (r : TypeRecord) (given : Given r) (block v : ℕ) (place : v < 64) whe
       (edgesOf (take (r .count) (r .edges)))
       (given-edges r given)
 
-  rail-bit : (rail : ℕ) → bit (railWord r block rail) v ≡ ofBool (joins (wiresOf (typeOf r) (settingOf (64 * block + v))) (r .output) rail)
+  rail-bit : (rail : ℕ) → bit (railWord r block rail) v ≡ ofBool (joins (linksOf (typeOf r) (settingOf (64 * block + v))) (r .output) rail)
   rail-bit rail =
       bit-railWords (typeOf r) (settingOnes block) (settingZeros block) rail (r .output) v (output-within r given) place
-      ∙ ap (λ (ws : List Wire). ofBool (joins ws (r .output) rail)) block-wires
+      ∙ ap (λ (ws : List Link). ofBool (joins ws (r .output) rail)) block-links
 
   one-bit : bit (oneWord r block) v ≡ ofBool (oneRail (typeOf r) (settingOf (64 * block + v)))
   unfolding oneRail typeOf
   one-bit =
       let s : ℕ = railWord r block supply in
       let g : ℕ = railWord r block ground in
-      let ws : List Wire = wiresOf (typeOf r) (settingOf (64 * block + v)) in
+      let ws : List Link = linksOf (typeOf r) (settingOf (64 * block + v)) in
       let fits : s < 2 ^ 64 = railWords-lt (typeOf r) (settingOnes block) (settingZeros block) supply (r .output) (output-within r given) in
       bit-not-under 64 (bitOr s g) (bitAnd s g) v (lt-of-le-of-lt (and-le-l s g) fits) place
       ∙ rw (bit-or s g v, bit-and s g v, rail-bit supply, rail-bit ground)

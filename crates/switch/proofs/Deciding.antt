@@ -1,20 +1,21 @@
--- The Boolean tests of specs/Deciding decide what Conduction and Modules say: `joins` decides joined, `isComplementary` decides complementary.
--- With them, what a test over all numbers below a bound or over a list says, and that joins hangs only on which wires there are. Assumes nothing.
+-- The Boolean tests of specs/Deciding decide what they test: `joins` decides joined, `isMarked` marked, `isComplementary` complementary.
+-- With them, what a test over all numbers below a bound or over a list says, and that joins hangs only on which links there are. Assumes nothing.
 use Prim.Native.Nat.{ℕ, zero, suc, _<_, _^_, zero-le, suc-le-suc}
 use native.Mathlib.Nat.{not-suc-le-zero, le-of-suc-le-suc, eq-or-lt-of-le, lt-suc-self}
 use native.Mathlib.Omega.{arith}
 use mathlib.Core.Path.{_≡_, refl, sym, subst, _∙_}
 use mathlib.Core.Bool.{Bool, true, false, cond, _&&_, not, Bool·beq}
 use mathlib.Core.Logic.{_⊎_, inl, inr, ⊎-elim, _↔_}
-use mathlib.Core.List.{List, [], _∷_, List·Memᴰ·not-nil}
+use mathlib.Core.List.{List, [], _∷_, _++_, List·Memᴰ·not-nil}
 use lib.Dec.{T, eqb, eqb→eq, eqb-refl}
 use lib.ListN.{length, getD}
 use borrow.Author.Tests.{eqb-true, eqb-false}
-use Rattle.switch.specs.Conduction.{Value, Wire, Among, Joined, here, forth, back, ground, supply}
-use Rattle.switch.specs.Modules.{ModuleType, allOf, wiresOf, settingOf, ExactlyOne, only-first, only-second, Complementary}
-use Rattle.switch.specs.Deciding.{rename, partIn, renamings, joins, allBelow, oneRail, isComplementary}
-use Rattle.switch.specs.Statements.{JoinsDecides, ComplementaryDecides}
-use Rattle.switch.proofs.Paths.{Linked, turned, more-wires, one-more, both}
+use Rattle.switch.specs.Conduction.{Value, Link, Among, Joined, here, forth, back, ground, supply}
+use Rattle.switch.specs.Modules.{ModuleType, allOf, linksOf, settingOf, ExactlyOne, only-first, only-second, Complementary}
+use Rattle.switch.specs.Deciding.{rename, partIn, renamings, joins, allBelow, oneRail, isComplementary, isMarked}
+use Rattle.switch.specs.Bridges.{Marked, closing}
+use Rattle.switch.specs.Statements.{JoinsDecides, ComplementaryDecides, MarkDecides}
+use Rattle.switch.proofs.Paths.{Linked, turned, more-links, one-more, both}
 
 -- ---- tests
 
@@ -90,15 +91,15 @@ module _ (p q i j : ℕ) where
   renamed = (of-one (eqb i p) (eqb j p) refl refl, one-of (eqb i p) (eqb j p) refl refl)
 
 -- the part of a node over ws
-part : List Wire → ℕ → ℕ
+part : List Link → ℕ → ℕ
 part ws m = partIn (renamings ws) m
 
-no-wire : (a b : ℕ) → Joined [] a b → a ≡ b
-no-wire a b here = refl
-no-wire a b (forth m p) = absurd (List·Memᴰ·not-nil m)
-no-wire a b (back m p) = absurd (List·Memᴰ·not-nil m)
+no-link : (a b : ℕ) → Joined [] a b → a ≡ b
+no-link a b here = refl
+no-link a b (forth m p) = absurd (List·Memᴰ·not-nil m)
+no-link a b (back m p) = absurd (List·Memᴰ·not-nil m)
 
-module _ (ws : List Wire) (to : (a b : ℕ) → Joined ws a b ↔ (part ws a ≡ part ws b)) where
+module _ (ws : List Link) (to : (a b : ℕ) → Joined ws a b ↔ (part ws a ≡ part ws b)) where
   parts-linked : (x y a b : ℕ) → Linked ws x y a b → One (part ws x) (part ws y) (part ws a) (part ws b)
   parts-linked x y a b (inl p) = inl ((to a b) .0 p)
   parts-linked x y a b (inr (inl (p, r))) = inr (inl ((to a x) .0 p, (to y b) .0 r))
@@ -110,9 +111,9 @@ module _ (ws : List Wire) (to : (a b : ℕ) → Joined ws a b ↔ (part ws a ≡
   linked-parts x y a b (inr (inr (p, r))) = inr (inr ((to a y) .1 p, (to x b) .1 r))
 
 -- two nodes are joined exactly when they are in one part
-one-part : (ws : List Wire) (a b : ℕ) → Joined ws a b ↔ (part ws a ≡ part ws b)
+one-part : (ws : List Link) (a b : ℕ) → Joined ws a b ↔ (part ws a ≡ part ws b)
 unfolding part partIn renamings
-one-part [] a b = (no-wire a b, λ e. subst (Joined [] a) e here)
+one-part [] a b = (no-link a b, λ e. subst (Joined [] a) e here)
 one-part ((x, y) ∷ ws) a b = (
   λ j. (renamed (part ws x) (part ws y) (part ws a) (part ws b)) .0 (parts-linked ws (one-part ws) x y a b ((one-more ws x y a b) .0 j)),
   λ e. (one-more ws x y a b) .1 (linked-parts ws (one-part ws) x y a b ((renamed (part ws x) (part ws y) (part ws a) (part ws b)) .1 e)),
@@ -123,17 +124,21 @@ unfolding joins part
 joins-decides ws a b =
     (λ j. rw (← ((one-part ws a b) .0 j)) (eqb-refl (part ws a)), λ t. (one-part ws a b) .1 (eqb→eq (part ws a) (part ws b) t))
 
--- `joins` tells no more than which wires there are
-pub joins-same : (ws others : List Wire) → ((w : Wire) → Among w ws → Among w others) → ((w : Wire) → Among w others → Among w ws)
+pub mark-decides : MarkDecides
+unfolding Marked isMarked
+mark-decides t values bridge = joins-decides (closing bridge values ++ linksOf t values) supply ground
+
+-- `joins` tells no more than which links there are
+pub joins-same : (ws others : List Link) → ((w : Link) → Among w ws → Among w others) → ((w : Link) → Among w others → Among w ws)
     → (a b : ℕ) → joins ws a b ≡ joins others a b
 joins-same ws others f g a b =
     same-test
     (joins ws a b)
     (joins others a b)
-    (λ t. (joins-decides others a b) .0 (more-wires ws others f a b ((joins-decides ws a b) .1 t)))
-    (λ t. (joins-decides ws a b) .0 (more-wires others ws g a b ((joins-decides others a b) .1 t)))
+    (λ t. (joins-decides others a b) .0 (more-links ws others f a b ((joins-decides ws a b) .1 t)))
+    (λ t. (joins-decides ws a b) .0 (more-links others ws g a b ((joins-decides others a b) .1 t)))
 
-pub joins-turned : (ws : List Wire) (a b : ℕ) → joins ws a b ≡ joins ws b a
+pub joins-turned : (ws : List Link) (a b : ℕ) → joins ws a b ≡ joins ws b a
 joins-turned ws a b =
     same-test
     (joins ws a b)
@@ -159,10 +164,10 @@ module _ {A B : Type 0} where
   of-differ false false ea eb t = absurd t
 
 pub one-rail : (t : ModuleType) (values : ℕ → Value)
-    → ExactlyOne (Joined (wiresOf t values) (t .output) ground) (Joined (wiresOf t values) (t .output) supply) ↔ T (oneRail t values)
+    → ExactlyOne (Joined (linksOf t values) (t .output) ground) (Joined (linksOf t values) (t .output) supply) ↔ T (oneRail t values)
 unfolding oneRail
 one-rail t values =
-    let ws : List Wire = wiresOf t values in
+    let ws : List Link = linksOf t values in
     let o : ℕ = t .output in (
       differ (joins ws o ground) (joins ws o supply) (joins-decides ws o ground) (joins-decides ws o supply),
       of-differ (joins ws o ground) (joins ws o supply) (joins-decides ws o ground) (joins-decides ws o supply),

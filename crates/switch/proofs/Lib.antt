@@ -1,12 +1,14 @@
 -- The laws of conduction, from paths to the code's words.
---   Paths, Deciding, Apart, Marks, Refinement   the statements of specs/Statements
---   Examples                                    01's known results on the NAND and the inverter, computed
---   Ranges, OnWords, RoundLaws, RailWords, Outputs, SettingBlocks, Check   what ties the code's words to the meaning
+--   Paths, Channels, Deciding, Apart, Marks, Refinement, KnownOutputs      the statements of specs/Statements on paths
+--   Examples                                                               01's known results on the NAND and the inverter, computed
+--   Ranges, OnWords, RoundLaws, RailWords, Outputs, SettingBlocks, Check   what ties the code's words to the meaning; in Outputs the statements on planes
 pub mod Paths
+pub mod Channels
 pub mod Deciding
 pub mod Apart
 pub mod Marks
 pub mod Refinement
+pub mod KnownOutputs
 pub mod Examples
 pub mod Ranges
 pub mod OnWords

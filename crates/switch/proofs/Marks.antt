@@ -1,12 +1,12 @@
--- (a) A closed bridge makes a path from supply to ground exactly when its ends say so. A bridge is one wire more, so `one-more` gives the ways through
+-- (a) A closed bridge makes a path from supply to ground exactly when its ends say so. A bridge is one link more, so `one-more` gives the ways through
 -- it, and those that do not use it, or use it from a rail back to a rail, would join supply to ground without it: the rails are apart. Assumes nothing.
 use Prim.Native.Nat.{ℕ}
 use native.Mathlib.Omega.{arith}
 use mathlib.Core.Path.{_≡_, refl, sym}
 use mathlib.Core.Logic.{_⊎_, inl, inr}
 use mathlib.Core.List.{List, _++_}
-use Rattle.switch.specs.Conduction.{Value, at0, at1, atX, Wire, Joined, here, ground, supply}
-use Rattle.switch.specs.Modules.{wiresOf}
+use Rattle.switch.specs.Conduction.{Value, at0, at1, atX, Link, Joined, here, ground, supply}
+use Rattle.switch.specs.Modules.{linksOf}
 use Rattle.switch.specs.Bridges.{nodes, input, toLabel, closing, Marked, MarkedByEnds}
 use Rattle.switch.specs.Statements.{ClosedPathIsEnds}
 use Rattle.switch.proofs.Paths.{Linked, turned, one-more}
@@ -21,7 +21,7 @@ atX≢at0 e = let z : _≡_ {A = ℕ} 0 1 = cc in omega arith
 pub atX≢at1 : atX ≡ at1 → ⊥
 atX≢at1 e = let z : _≡_ {A = ℕ} 0 1 = cc in omega arith
 
-module _ (ws : List Wire) (apart : Joined ws supply ground → ⊥) where
+module _ (ws : List Link) (apart : Joined ws supply ground → ⊥) where
   by-ends : (a b : ℕ) → Linked ws a b supply ground → (Joined ws a supply × Joined ws b ground) ⊎ (Joined ws a ground × Joined ws b supply)
   by-ends a b (inl p) = absurd (apart p)
   by-ends a b (inr (inl (p, r))) = inl (turned p, r)
@@ -59,11 +59,11 @@ module _ (ws : List Wire) (apart : Joined ws supply ground → ⊥) where
 pub closed-path-is-ends : ClosedPathIsEnds
 unfolding Marked MarkedByEnds closing
 closed-path-is-ends t acc values (nodes a b) =
-    let ws : List Wire = wiresOf t values in
+    let ws : List Link = linksOf t values in
     let apart : Joined ws supply ground → ⊥ = rails-apart .rails t acc values in
     let closed = one-more ws a b supply ground in
     (λ p. by-ends ws apart a b (closed .0 p), λ ends. closed .1 (of-ends ws apart a b ends))
 closed-path-is-ends t acc values (input m l) =
-    let ws : List Wire = wiresOf t values in
+    let ws : List Link = linksOf t values in
     let apart : Joined ws supply ground → ⊥ = rails-apart .rails t acc values in
     (by-label ws apart m (values l), of-label ws apart m (values l))

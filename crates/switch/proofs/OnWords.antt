@@ -1,53 +1,21 @@
--- The words of conduction: a transistor's word from its label's planes, the or over an edge's labels, and tables that are filled from the front.
+-- The words of conduction: a transistor's word from its label's planes, the or over an edge's labels, and the words and nodes of the first edges.
 -- Each law is over the bit's position, the place in a list, or the length. Assumes nothing.
-use Prim.Native.Nat.{ℕ, zero, suc, _-_, _^_, _≤_, _<_, min, max, zero-le}
-use mathlib.Core.Path.{_≡_, refl, sym, ap, _∙_}
-use mathlib.Core.Bool.{Bool, true, false, cond, _&&_, _||_, and-false, or-assoc, or-false}
-use mathlib.Core.Logic.{_⊎_, inl, inr}
+use Prim.Native.Nat.{ℕ, zero, suc, _-_, _^_, _≤_, _<_, min, max}
+use mathlib.Core.Path.{_≡_, refl, sym, _∙_}
+use mathlib.Core.Bool.{Bool, true, false, cond, _||_, or-assoc, or-false}
 use mathlib.Core.List.{List, [], _∷_, _++_}
 use native.Mathlib.Omega.{arith}
-use borrow.Author.Tests.{ltb-true, ltb-false, lt-ltb, le-ltb, le-leb, lt-leb}
 use lib.Bits.{bitAnd, bitOr, and-le-l, or-lt}
-use lib.Dec.{leb, ltb}
-use lib.ListN.{length, getD, take, set, replicate, length-replicate, getD-replicate}
+use lib.ListN.{length, getD, take}
 use lib.Pow.{pow-pos}
 use lib.Seq.{take-suc}
 use Rattle.words.specs.Bits.{bit, ofBool}
-use Rattle.words.specs.Tables.{table}
 use Rattle.words.proofs.Laws.{bit-le-one, bit-zero, bit-or, bit-not-under, ofBool-le-one, word-of-bits, bit-word, word-lt}
-use Rattle.words.proofs.Tables.{getD-table, is-table, set-table}
-use Rattle.switch.specs.Conduction.{Channel, p-channel, n-channel, Edge, between, channelOf, transistorOn, anyOf, edgeOn}
+use Rattle.words.proofs.Tables.{getD-fill}
+use Rattle.switch.specs.Conduction.{Channel, p-channel, n-channel, Edge, channelOf, transistorOn, anyOf, edgeOn}
 use Rattle.switch.specs.Records.{edgeOf, noEdge, valueOf, valuesAt}
 use Rattle.switch.specs.Model.{isP, transistorWord, onWord, onWords, firstNodes, secondNodes}
 use Rattle.switch.specs.declared.Edge.{Edge as EdgeRecord}
-
--- ---- the channel, by position
-
-is-p-between : (o : ℕ) (e : Edge) → isP (channelOf o e) ≡ (between 1 o (e .first) && between 1 o (e .second))
-unfolding isP channelOf
-is-p-between o e = told (between 1 o (e .first) && between 1 o (e .second))
-  where
-    told : (b : Bool) → isP (cond b p-channel n-channel) ≡ b
-    told true = refl
-    told false = refl
-
-inside : (o m : ℕ) → 1 ≤ m → m ≤ o → between 1 o m ≡ true
-unfolding between
-inside o m low high = rw (le-leb 1 m low, le-leb m o high)
-
-outside : (o m : ℕ) → (m < 1) ⊎ (o < m) → between 1 o m ≡ false
-unfolding between
-outside o m (inl low) = rw (lt-leb 1 m low)
-outside o m (inr high) = rw (lt-leb m o high) (and-false (leb 1 m))
-
-pub p-inside : (o : ℕ) (e : Edge) → 1 ≤ e .first → e .first ≤ o → 1 ≤ e .second → e .second ≤ o → isP (channelOf o e) ≡ true
-p-inside o e a b c d = rw (is-p-between, inside o (e .first) a b, inside o (e .second) c d)
-
-pub n-first-outside : (o : ℕ) (e : Edge) → (e .first < 1) ⊎ (o < e .first) → isP (channelOf o e) ≡ false
-n-first-outside o e out = rw (is-p-between, outside o (e .first) out)
-
-pub n-second-outside : (o : ℕ) (e : Edge) → (e .second < 1) ⊎ (o < e .second) → isP (channelOf o e) ≡ false
-n-second-outside o e out = rw (is-p-between, outside o (e .second) out) (and-false (between 1 o (e .first)))
 
 -- ---- a transistor's word
 
@@ -152,34 +120,6 @@ pub bit-onWord : (o : ℕ) (ones zeros : List ℕ) (e : Edge) (v : ℕ) → v < 
 unfolding onWord
 bit-onWord o ones zeros e =
     bit-word (λ (v : ℕ). ofBool (edgeOn o (valuesAt ones zeros v) e)) (λ v. ofBool-le-one (edgeOn o (valuesAt ones zeros v) e))
-
--- ---- tables whose first n places are f's, and whose others are 0
-
--- the element at place i of such a table
-abbrev pub upTo : (ℕ → ℕ) → ℕ → ℕ → ℕ
-upTo f n i = cond (ltb i n) (f i) 0
-
-at-below : (f : ℕ → ℕ) (n i : ℕ) → i < n → upTo f n i ≡ f i
-at-below f n i h = rw (lt-ltb i n h)
-
-at-past : (f : ℕ → ℕ) (n i : ℕ) → n ≤ i → upTo f n i ≡ 0
-at-past f n i h = rw (le-ltb i n h)
-
-pub fill-none : (m : ℕ) (f : ℕ → ℕ) → replicate m 0 ≡ table m (upTo f 0)
-fill-none m f =
-    is-table 0 m (upTo f 0) (replicate m 0) (length-replicate m 0) (λ i h. getD-replicate m i 0 0 h ∙ sym (at-past f 0 i zero-le))
-
-pub fill-more : (m : ℕ) (f : ℕ → ℕ) (i : ℕ) → i < m → set (table m (upTo f i)) i (f i) ≡ table m (upTo f (suc i))
-fill-more m f i h =
-    ap (set (table m (upTo f i)) i) (sym (at-below f (suc i) i (omega arith)))
-    ∙ set-table 0 m (upTo f i) (upTo f (suc i)) i h (λ j k apart. same j apart (ltb j i) refl)
-  where
-    same : (j : ℕ) → (j ≡ i → ⊥) → (b : Bool) → ltb j i ≡ b → upTo f i j ≡ upTo f (suc i) j
-    same j apart true e = at-below f i j (ltb-true j i e) ∙ sym (at-below f (suc i) j (omega (arith, ltb-true j i e)))
-    same j apart false e = at-past f i j (ltb-false j i e) ∙ sym (at-past f (suc i) j (omega (arith, ltb-false j i e, apart)))
-
-pub getD-fill : (m : ℕ) (f : ℕ → ℕ) (n i : ℕ) → i < n → n ≤ m → getD (table m (upTo f n)) i 0 ≡ f i
-getD-fill m f n i h k = getD-table m (upTo f n) 0 i (omega arith) ∙ at-below f n i h
 
 -- ---- the words and the nodes of the first n edges
 

@@ -1,18 +1,22 @@
--- A type's output in planes: the planes that two words of joining give are those of the output's value by 01, under each vector. Assumes nothing.
+-- Values in planes: the two planes of a value tell it, and those that two words of joining give are of the output's value by 01, under each vector.
+-- Assumes nothing.
 use Prim.Native.Nat.{ℕ, _-_, _^_, _<_}
 use mathlib.Core.Path.{_≡_, refl, ap, _∙_}
 use mathlib.Core.Bool.{Bool, true, false, cond}
 use mathlib.Core.List.{List}
+use native.Mathlib.Omega.{arith}
 use lib.Bits.{bitAnd}
 use lib.ListN.{getD}
 use Rattle.words.specs.Bits.{bit, ofBool, word}
 use Rattle.words.proofs.Laws.{ofBool-le-one, pack-cong, bit-word}
 use Rattle.words.proofs.Tables.{getD-table}
 use Rattle.switch.specs.Conduction.{Value, at0, at1, atX, p-channel, n-channel, transistorOn, supply, ground}
-use Rattle.switch.specs.Modules.{ModuleType, wiresOf}
+use Rattle.switch.specs.Modules.{ModuleType, linksOf}
 use Rattle.switch.specs.Deciding.{joins, outputOf}
 use Rattle.switch.specs.Records.{valueOf, valuesAt}
-use Rattle.switch.specs.Model.{railWords, isAt1, isAt0, planes, planesOf, transistorWord}
+use Rattle.switch.specs.Promises.{railWords, isAt1, isAt0, planes, planesOf}
+use Rattle.switch.specs.Model.{transistorWord}
+use Rattle.switch.specs.Statements.{PlanesAreValues, OutputPlanes}
 use Rattle.switch.specs.declared.Planes.{Planes}
 use Rattle.switch.proofs.OnWords.{transistor-p, transistor-n}
 
@@ -36,6 +40,21 @@ unfolding transistorOn isAt0
 is-0 at0 = refl
 is-0 at1 = refl
 is-0 atX = refl
+
+-- a value from its two bits
+value-again : (x : Value) → valueOf (isAt1 x) (isAt0 x) ≡ x
+unfolding valueOf isAt1 isAt0
+value-again at0 = refl
+value-again at1 = refl
+value-again atX = refl
+
+pub planes-are-values : PlanesAreValues
+planes-are-values f v h =
+    rw (
+      bit-word (λ (u : ℕ). isAt1 (f u)) (λ u. omega (arith, is-1 (f u), ofBool-le-one (transistorOn n-channel (f u)))) v h,
+      bit-word (λ (u : ℕ). isAt0 (f u)) (λ u. omega (arith, is-0 (f u), ofBool-le-one (transistorOn p-channel (f u)))) v h,
+    )
+    (value-again (f v))
 
 -- the known-1 plane is the word of an n-channel transistor, the known-0 plane that of a p-channel one
 pub planesOf-is : (s g : ℕ) → s < 2 ^ 64 → g < 2 ^ 64 → _≡_ {A = Planes} (record { ones = s; zeros = bitAnd g ((2 ^ 64 - 1) - s) }) (planesOf s g)
@@ -62,20 +81,18 @@ value-by-rails false false = refl
 
 -- bit v of the word of node m
 pub bit-railWords : (t : ModuleType) (ones zeros : List ℕ) (rail m v : ℕ) → m < 32 → v < 64
-    → bit (getD (railWords t ones zeros rail) m 0) v ≡ ofBool (joins (wiresOf t (valuesAt ones zeros v)) m rail)
+    → bit (getD (railWords t ones zeros rail) m 0) v ≡ ofBool (joins (linksOf t (valuesAt ones zeros v)) m rail)
 unfolding railWords
 bit-railWords t ones zeros rail m v h l =
-    let joined : ℕ → ℕ → Bool = λ (n u : ℕ). joins (wiresOf t (valuesAt ones zeros u)) n rail in
+    let joined : ℕ → ℕ → Bool = λ (n u : ℕ). joins (linksOf t (valuesAt ones zeros u)) n rail in
     rw (getD-table 32 (λ (n : ℕ). word (λ (u : ℕ). ofBool (joined n u))) 0 m h)
     (bit-word (λ (u : ℕ). ofBool (joined m u)) (λ u. ofBool-le-one (joined m u)) v l)
 
-pub output-planes : (t : ModuleType) (ones zeros : List ℕ) → t .output < 32
-    → planesOf (getD (railWords t ones zeros supply) (t .output) 0) (getD (railWords t ones zeros ground) (t .output) 0)
-    ≡ planes (λ (v : ℕ). outputOf t (valuesAt ones zeros v))
+pub output-planes : OutputPlanes
 unfolding outputOf
 output-planes t ones zeros h =
     let s : ℕ = getD (railWords t ones zeros supply) (t .output) 0 in
     let g : ℕ = getD (railWords t ones zeros ground) (t .output) 0 in
     planes-cong (λ (v : ℕ). valueOf (bit s v) (bit g v)) (λ (v : ℕ). outputOf t (valuesAt ones zeros v)) (λ v l.
     rw (bit-railWords t ones zeros supply (t .output) v h l, bit-railWords t ones zeros ground (t .output) v h l)
-    (value-by-rails (joins (wiresOf t (valuesAt ones zeros v)) (t .output) supply) (joins (wiresOf t (valuesAt ones zeros v)) (t .output) ground)))
+    (value-by-rails (joins (linksOf t (valuesAt ones zeros v)) (t .output) supply) (joins (linksOf t (valuesAt ones zeros v)) (t .output) ground)))

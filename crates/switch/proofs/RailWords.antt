@@ -1,4 +1,4 @@
--- The words that the rounds leave, over the columns of a type's nodes and its on words, are those of the type: under each vector the wires of both
+-- The words that the rounds leave, over the columns of a type's nodes and its on words, are those of the type: under each vector the links of both
 -- are the same. Assumes nothing.
 use Prim.Native.Nat.{ℕ, _^_, _≤_, _<_}
 use native.Mathlib.Nat.{lt-of-not-le}
@@ -11,18 +11,19 @@ use lib.ListN.{length, getD, take, List·getD-eq-default, length-map, length-tak
 use Rattle.words.specs.Bits.{ofBool, word}
 use Rattle.words.proofs.Laws.{ofBool-le-one, pack-cong, word-lt}
 use Rattle.words.proofs.Tables.{getD-table, table-cong}
-use Rattle.switch.specs.Conduction.{Value, Edge, Wire, Among, anyOf, edgeOn, wires}
-use Rattle.switch.specs.Modules.{ModuleType, wiresOf}
+use Rattle.switch.specs.Conduction.{Value, Edge, Link, Among, anyOf, edgeOn, links}
+use Rattle.switch.specs.Modules.{ModuleType, linksOf}
 use Rattle.switch.specs.Deciding.{joins}
 use Rattle.switch.specs.Records.{noEdge, edgeOf, edgesOf, typeOf, valuesAt}
-use Rattle.switch.specs.Model.{firstNodes, secondNodes, onWords, wiresTo, joinedWords, railWords, endsOf, railsOf}
+use Rattle.switch.specs.Promises.{railWords, railsOf}
+use Rattle.switch.specs.Model.{firstNodes, secondNodes, onWords, linksTo, joinedWords, endsOf}
 use Rattle.switch.specs.declared.Edge.{Edge as EdgeRecord}
 use Rattle.switch.specs.declared.Ends.{Ends}
 use Rattle.switch.specs.declared.ModuleType.{ModuleType as TypeRecord}
-use Rattle.switch.proofs.Paths.{OnAt, wires-among}
+use Rattle.switch.proofs.Paths.{OnAt, links-among}
 use Rattle.switch.proofs.Deciding.{joins-same}
 use Rattle.switch.proofs.OnWords.{getD-firstNodes, getD-secondNodes, bit-onWords}
-use Rattle.switch.proofs.RoundLaws.{OnWire, wiresTo-among}
+use Rattle.switch.proofs.RoundLaws.{OnLink, linksTo-among}
 use Rattle.switch.proofs.Ranges.{edge-at}
 
 -- the edge past the end of a list is off, so an edge that is on stands in the list
@@ -39,13 +40,13 @@ pub bit-set : (b : Bool) → T b → ofBool b ≡ 1
 bit-set true t = refl
 bit-set false t = absurd t
 
--- the wires of the columns, under a vector
-abbrev columnWires : List EdgeRecord → ℕ → ℕ → List ℕ → List ℕ → ℕ → List Wire
-columnWires rs n o ones zeros v = wiresTo (firstNodes rs n) (secondNodes rs n) (onWords o ones zeros rs n) v n
+-- the links of the columns, under a vector
+abbrev columnLinks : List EdgeRecord → ℕ → ℕ → List ℕ → List ℕ → ℕ → List Link
+columnLinks rs n o ones zeros v = linksTo (firstNodes rs n) (secondNodes rs n) (onWords o ones zeros rs n) v n
 
-module _ (rs : List EdgeRecord) (n o : ℕ) (places : n ≤ 64) (ones zeros : List ℕ) (v : ℕ) (vector : v < 64) (w : Wire) where
-  -- a place's edge is on, and its wire is w, in the columns exactly when it is in the list of edges
-  in-edges : OnWire (firstNodes rs n) (secondNodes rs n) (onWords o ones zeros rs n) v n w
+module _ (rs : List EdgeRecord) (n o : ℕ) (places : n ≤ 64) (ones zeros : List ℕ) (v : ℕ) (vector : v < 64) (w : Link) where
+  -- a place's edge is on, and its link is w, in the columns exactly when it is in the list of edges
+  in-edges : OnLink (firstNodes rs n) (secondNodes rs n) (onWords o ones zeros rs n) v n w
       → OnAt o (valuesAt ones zeros v) (edgesOf (take n rs)) (edgeOf noEdge) w
   unfolding edgeOf
   in-edges a =
@@ -62,7 +63,7 @@ module _ (rs : List EdgeRecord) (n o : ℕ) (places : n ≤ 64) (ones zeros : Li
       }
 
   in-columns : OnAt o (valuesAt ones zeros v) (edgesOf (take n rs)) (edgeOf noEdge) w
-      → OnWire (firstNodes rs n) (secondNodes rs n) (onWords o ones zeros rs n) v n w
+      → OnLink (firstNodes rs n) (secondNodes rs n) (onWords o ones zeros rs n) v n w
   unfolding edgeOf edgesOf
   in-columns a =
       let i : ℕ = a .place in
@@ -78,24 +79,24 @@ module _ (rs : List EdgeRecord) (n o : ℕ) (places : n ≤ 64) (ones zeros : Li
         ends = rw (getD-firstNodes rs n i within places, getD-secondNodes rs n i within places) (rw same at (a .ends));
       }
 
-  to-edges : Among w (columnWires rs n o ones zeros v) → Among w (wires o (valuesAt ones zeros v) (edgesOf (take n rs)))
+  to-edges : Among w (columnLinks rs n o ones zeros v) → Among w (links o (valuesAt ones zeros v) (edgesOf (take n rs)))
   to-edges m =
-      wires-among o (valuesAt ones zeros v) (edgesOf (take n rs)) (edgeOf noEdge) w .1
-      (in-edges (wiresTo-among (firstNodes rs n) (secondNodes rs n) (onWords o ones zeros rs n) v n w .0 m))
+      links-among o (valuesAt ones zeros v) (edgesOf (take n rs)) (edgeOf noEdge) w .1
+      (in-edges (linksTo-among (firstNodes rs n) (secondNodes rs n) (onWords o ones zeros rs n) v n w .0 m))
 
-  to-columns : Among w (wires o (valuesAt ones zeros v) (edgesOf (take n rs))) → Among w (columnWires rs n o ones zeros v)
+  to-columns : Among w (links o (valuesAt ones zeros v) (edgesOf (take n rs))) → Among w (columnLinks rs n o ones zeros v)
   to-columns m =
-      wiresTo-among (firstNodes rs n) (secondNodes rs n) (onWords o ones zeros rs n) v n w .1
-      (in-columns (wires-among o (valuesAt ones zeros v) (edgesOf (take n rs)) (edgeOf noEdge) w .0 m))
+      linksTo-among (firstNodes rs n) (secondNodes rs n) (onWords o ones zeros rs n) v n w .1
+      (in-columns (links-among o (valuesAt ones zeros v) (edgesOf (take n rs)) (edgeOf noEdge) w .0 m))
 
--- bit v is 1 exactly when m is joined to the rail over the wires under vector v
-abbrev railWord : (ℕ → List Wire) → ℕ → ℕ → ℕ
+-- bit v is 1 exactly when m is joined to the rail over the links under vector v
+abbrev railWord : (ℕ → List Link) → ℕ → ℕ → ℕ
 railWord ws m rail = word (λ (v : ℕ). ofBool (joins (ws v) m rail))
 
 pub railWords-lt : (t : ModuleType) (ones zeros : List ℕ) (rail m : ℕ) → m < 32 → getD (railWords t ones zeros rail) m 0 < 2 ^ 64
 unfolding railWords
 railWords-lt t ones zeros rail m h =
-    let ws : ℕ → List Wire = λ (v : ℕ). wiresOf t (valuesAt ones zeros v) in
+    let ws : ℕ → List Link = λ (v : ℕ). linksOf t (valuesAt ones zeros v) in
     rw (getD-table 32 (λ (n : ℕ). railWord ws n rail) 0 m h)
     (word-lt (λ (v : ℕ). ofBool (joins (ws v) m rail)) (λ v. ofBool-le-one (joins (ws v) m rail)))
 
@@ -103,13 +104,13 @@ railWords-lt t ones zeros rail m h =
 pub rail-words : (r : TypeRecord) → r .count ≤ 64 → (ones zeros : List ℕ) (rail : ℕ)
     → let on = onWords (r .output) ones zeros (r .edges) (r .count) in
     joinedWords (firstNodes (r .edges) (r .count)) (secondNodes (r .edges) (r .count)) on (r .count) rail ≡ railWords (typeOf r) ones zeros rail
-unfolding joinedWords railWords word wiresOf typeOf
+unfolding joinedWords railWords word linksOf typeOf
 rail-words r places ones zeros rail =
     let rs : List EdgeRecord = r .edges in
     let n : ℕ = r .count in
     let o : ℕ = r .output in
-    let inType : ℕ → List Wire = λ (v : ℕ). wires o (valuesAt ones zeros v) (edgesOf (take n rs)) in
-    let inColumns : ℕ → List Wire = columnWires rs n o ones zeros in
+    let inType : ℕ → List Link = λ (v : ℕ). links o (valuesAt ones zeros v) (edgesOf (take n rs)) in
+    let inColumns : ℕ → List Link = columnLinks rs n o ones zeros in
     table-cong 32 (λ (m : ℕ). railWord inColumns m rail) (λ (m : ℕ). railWord inType m rail) (λ m k.
     pack-cong 64 (λ (v : ℕ). ofBool (joins (inColumns v) m rail)) (λ (v : ℕ). ofBool (joins (inType v) m rail)) (λ v l.
     ap ofBool (joins-same (inColumns v) (inType v) (to-edges rs n o places ones zeros v l) (to-columns rs n o places ones zeros v l) m rail)))

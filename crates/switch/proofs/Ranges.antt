@@ -16,6 +16,7 @@ use Rattle.switch.specs.declared.Edge.{Edge as EdgeRecord}
 use Rattle.switch.specs.declared.Ends.{Ends}
 use Rattle.switch.specs.declared.ModuleType.{ModuleType as TypeRecord}
 use Rattle.switch.proofs.Paths.{both}
+use Rattle.switch.proofs.Channels.{in-between}
 use Rattle.switch.proofs.OnWords.{getD-firstNodes, getD-secondNodes}
 
 -- what a test gives of each element, and what holds of that which stands past the end, holds at every place
@@ -25,11 +26,6 @@ unfolding allOf
 every-place P test d past each [] t i = past
 every-place P test d past each (a ∷ as′) t zero = each a (both (test a) (allOf test as′) t .0)
 every-place P test d past each (a ∷ as′) t (suc i) = every-place P test d past each as′ (both (test a) (allOf test as′) t .1) i
-
-in-between : (low high m : ℕ) → T (between low high m) → (low ≤ m) × (m ≤ high)
-unfolding between
-in-between low high m t =
-    let parts = both (leb low m) (leb m high) t in (leb→le low m (parts .0), leb→le m high (parts .1))
 
 -- ---- the type
 

@@ -6,14 +6,14 @@ use mathlib.Core.Bool.{Bool, true, false, cond}
 use mathlib.Core.Logic.{_⊎_, inl, inr, _↔_}
 use mathlib.Core.List.{List, _++_, Memᴰ·append-left, Memᴰ·append-right, List·Memᴰ·append-cases, List·Memᴰ·not-nil}
 use lib.Dec.{T}
-use Rattle.switch.specs.Conduction.{Value, at0, at1, atX, Wire, Among, Joined, ground, supply}
-use Rattle.switch.specs.Modules.{ModuleType, wiresOf, OutputIs, output-0, output-1, output-X}
+use Rattle.switch.specs.Conduction.{Value, at0, at1, atX, Link, Among, Joined, ground, supply}
+use Rattle.switch.specs.Modules.{ModuleType, linksOf, OutputIs, output-0, output-1, output-X}
 use Rattle.switch.specs.Bridges.{Bridge, nodes, input, toLabel, closing, Marked}
 use Rattle.switch.specs.Deciding.{joins, outputOf}
 use Rattle.switch.specs.Statements.{Accepted, Refines, RefinementKeeps, OutputIsOne}
-use Rattle.switch.proofs.Paths.{more-wires}
+use Rattle.switch.proofs.Paths.{more-links}
 use Rattle.switch.proofs.Deciding.{joins-decides}
-use Rattle.switch.proofs.Apart.{edge-stays-on, wire-stays, stays-joined, rails-apart}
+use Rattle.switch.proofs.Apart.{edge-stays-on, link-stays, stays-joined, rails-apart}
 
 -- ---- the output
 
@@ -31,8 +31,8 @@ output-stays : (t : ModuleType) → Accepted t → (values finer : ℕ → Value
     → (outputOf t values ≡ atX) ⊎ (outputOf t finer ≡ outputOf t values)
 unfolding outputOf
 output-stays t acc values finer refines =
-    let ws : List Wire = wiresOf t values in
-    let ws′ : List Wire = wiresOf t finer in
+    let ws : List Link = linksOf t values in
+    let ws′ : List Link = linksOf t finer in
     let o : ℕ = t .output in
     known-stays
     (joins ws o supply)
@@ -45,10 +45,10 @@ output-stays t acc values finer refines =
 
 module _ (t : ModuleType) (values : ℕ → Value) where
   abbrev Supplied : Type 0
-  Supplied = Joined (wiresOf t values) (t .output) supply
+  Supplied = Joined (linksOf t values) (t .output) supply
 
   abbrev Grounded : Type 0
-  Grounded = Joined (wiresOf t values) (t .output) ground
+  Grounded = Joined (linksOf t values) (t .output) ground
 
   given-by : (s g : Bool) → Supplied ↔ T s → Grounded ↔ T g → OutputIs t values (cond s at1 (cond g at0 atX))
   given-by true g es eg = output-1 (es .1 tt)
@@ -70,14 +70,14 @@ module _ (t : ModuleType) (values : ℕ → Value) where
   output-given : OutputIs t values (outputOf t values)
   unfolding outputOf
   output-given =
-      let ws : List Wire = wiresOf t values in
+      let ws : List Link = linksOf t values in
       let o : ℕ = t .output in
       given-by (joins ws o supply) (joins ws o ground) (joins-decides ws o supply) (joins-decides ws o ground)
 
   output-only : Accepted t → (value : Value) → OutputIs t values value → value ≡ outputOf t values
   unfolding outputOf
   output-only acc value is =
-      let ws : List Wire = wiresOf t values in
+      let ws : List Link = linksOf t values in
       let o : ℕ = t .output in
       only-by
       (joins ws o supply)
@@ -93,28 +93,28 @@ output-is-one = record { given = output-given; only = λ t acc values value is. 
 
 -- ---- marks
 
-label-stays : (m : ℕ) (v v′ : Value) → (v ≡ atX) ⊎ (v′ ≡ v) → (w : Wire) → Among w (toLabel m v) → Among w (toLabel m v′)
+label-stays : (m : ℕ) (v v′ : Value) → (v ≡ atX) ⊎ (v′ ≡ v) → (w : Link) → Among w (toLabel m v) → Among w (toLabel m v′)
 unfolding toLabel
 label-stays m v v′ (inl e) w k = absurd (List·Memᴰ·not-nil (rw e at k))
 label-stays m v v′ (inr e) w k = rw e k
 
 module _ (values finer : ℕ → Value) (refines : Refines values finer) where
-  closing-stays : (bridge : Bridge) (w : Wire) → Among w (closing bridge values) → Among w (closing bridge finer)
+  closing-stays : (bridge : Bridge) (w : Link) → Among w (closing bridge values) → Among w (closing bridge finer)
   unfolding closing
   closing-stays (nodes a b) w k = k
   closing-stays (input m l) w k = label-stays m (values l) (finer l) (refines l) w k
 
-  closed-stays : (t : ModuleType) (bridge : Bridge) (w : Wire)
-      → Among w (closing bridge values) ⊎ Among w (wiresOf t values) → Among w (closing bridge finer ++ wiresOf t finer)
-  closed-stays t bridge w (inl k) = Memᴰ·append-left (wiresOf t finer) (closing-stays bridge w k)
-  closed-stays t bridge w (inr k) = Memᴰ·append-right (closing bridge finer) (wire-stays values finer refines t w k)
+  closed-stays : (t : ModuleType) (bridge : Bridge) (w : Link)
+      → Among w (closing bridge values) ⊎ Among w (linksOf t values) → Among w (closing bridge finer ++ linksOf t finer)
+  closed-stays t bridge w (inl k) = Memᴰ·append-left (linksOf t finer) (closing-stays bridge w k)
+  closed-stays t bridge w (inr k) = Memᴰ·append-right (closing bridge finer) (link-stays values finer refines t w k)
 
   pub mark-stays : (t : ModuleType) (bridge : Bridge) → Marked t values bridge → Marked t finer bridge
   unfolding Marked
   mark-stays t bridge p =
-      more-wires
-      (closing bridge values ++ wiresOf t values)
-      (closing bridge finer ++ wiresOf t finer)
+      more-links
+      (closing bridge values ++ linksOf t values)
+      (closing bridge finer ++ linksOf t finer)
       (λ w k. closed-stays t bridge w (List·Memᴰ·append-cases (closing bridge values) k))
       supply
       ground

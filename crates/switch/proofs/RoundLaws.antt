@@ -1,4 +1,4 @@
--- Rounds of joining, as lists of words: which wires the edges give under a vector; what a round adds to the words; words that a round leaves
+-- Rounds of joining, as lists of words: which links the edges give under a vector; what a round adds to the words; words that a round leaves
 -- as they are tell which nodes are joined to the rail; and a round that adds something makes the sum of the words larger. Assumes nothing.
 use Prim.Native.Nat.{ℕ, zero, suc, _+_, _-_, _*_, _^_, _≤_, _<_, max}
 use native.Mathlib.Nat.{not-suc-le-zero, le-of-suc-le-suc, eq-or-lt-of-le, le-refl, le-trans, lt-of-le-of-lt, suc-mul, lt-of-not-le}
@@ -15,65 +15,65 @@ use lib.Seq.{getD-set-same, getD-set-other}
 use Rattle.words.specs.Bits.{bit, ofBool, word}
 use Rattle.words.proofs.Laws.{bit-le-one, bit-zero, bit-or, bit-and, bit-ones, word-of-bits}
 use Rattle.words.proofs.Tables.{is-table}
-use Rattle.switch.specs.Conduction.{Wire, Among, Joined, here, forth, back}
+use Rattle.switch.specs.Conduction.{Link, Among, Joined, here, forth, back}
 use Rattle.switch.specs.Deciding.{joins}
-use Rattle.switch.specs.Model.{NodesInRange, wireIf, wiresTo, joinedWords, added, roundTo}
+use Rattle.switch.specs.Model.{NodesInRange, linkIf, linksTo, joinedWords, added, roundTo}
 use Rattle.switch.proofs.Paths.{turned, carried}
 use Rattle.switch.proofs.Deciding.{joins-decides}
 
--- ---- the wires of the edges that are on under a vector
+-- ---- the links of the edges that are on under a vector
 
--- w is the wire of an edge, by its place, that is on under vector v
-pub record OnWire (firsts seconds on : List ℕ) (v n : ℕ) (w : Wire) : Type 0 where
+-- w is the link of an edge, by its place, that is on under vector v
+pub record OnLink (firsts seconds on : List ℕ) (v n : ℕ) (w : Link) : Type 0 where
   pub place : ℕ
   pub within : place < n
   pub is-on : bit (getD on place 0) v ≡ 1
   pub ends : w ≡ (getD firsts place 0, getD seconds place 0)
 
-module _ (firsts seconds on : List ℕ) (v : ℕ) (w : Wire) where
-  earlier : (i : ℕ) → OnWire firsts seconds on v i w → OnWire firsts seconds on v (suc i) w
+module _ (firsts seconds on : List ℕ) (v : ℕ) (w : Link) where
+  earlier : (i : ℕ) → OnLink firsts seconds on v i w → OnLink firsts seconds on v (suc i) w
   earlier i a = record { place = a .place; within = omega (arith, a .within); is-on = a .is-on; ends = a .ends }
 
-  on-wire-if : (i b : ℕ) → bit (getD on i 0) v ≡ b → (Among w (wiresTo firsts seconds on v i) → OnWire firsts seconds on v i w)
-      → Among w (wireIf b (getD firsts i 0, getD seconds i 0) (wiresTo firsts seconds on v i)) → OnWire firsts seconds on v (suc i) w
-  unfolding wireIf
-  on-wire-if i zero e before m = earlier i (before m)
-  on-wire-if i (suc b) e before m =
+  on-link-if : (i b : ℕ) → bit (getD on i 0) v ≡ b → (Among w (linksTo firsts seconds on v i) → OnLink firsts seconds on v i w)
+      → Among w (linkIf b (getD firsts i 0, getD seconds i 0) (linksTo firsts seconds on v i)) → OnLink firsts seconds on v (suc i) w
+  unfolding linkIf
+  on-link-if i zero e before m = earlier i (before m)
+  on-link-if i (suc b) e before m =
       let o : bit (getD on i 0) v ≡ 1 = omega (arith, bit-le-one (getD on i 0) v) in
       ⊎-elim
       (λ (p : w ≡ (getD firsts i 0, getD seconds i 0)). record { place = i; within = omega arith; is-on = o; ends = p })
-      (λ (n : Among w (wiresTo firsts seconds on v i)). earlier i (before n))
+      (λ (n : Among w (linksTo firsts seconds on v i)). earlier i (before n))
       (List·Memᴰ·cases-cons m)
 
-  on-wire : (n : ℕ) → Among w (wiresTo firsts seconds on v n) → OnWire firsts seconds on v n w
-  unfolding wiresTo
-  on-wire zero m = absurd (List·Memᴰ·not-nil m)
-  on-wire (suc i) m = on-wire-if i (bit (getD on i 0) v) refl (on-wire i) m
+  on-link : (n : ℕ) → Among w (linksTo firsts seconds on v n) → OnLink firsts seconds on v n w
+  unfolding linksTo
+  on-link zero m = absurd (List·Memᴰ·not-nil m)
+  on-link (suc i) m = on-link-if i (bit (getD on i 0) v) refl (on-link i) m
 
-  wire-here : (b : ℕ) (u : Wire) (ws : List Wire) → b ≡ 1 → w ≡ u → Among w (wireIf b u ws)
-  unfolding wireIf
-  wire-here zero u ws e p = absurd (omega arith)
-  wire-here (suc b) u ws e p = List·Memᴰ·head p
+  link-here : (b : ℕ) (u : Link) (ws : List Link) → b ≡ 1 → w ≡ u → Among w (linkIf b u ws)
+  unfolding linkIf
+  link-here zero u ws e p = absurd (omega arith)
+  link-here (suc b) u ws e p = List·Memᴰ·head p
 
-  wire-later : (b : ℕ) (u : Wire) (ws : List Wire) → Among w ws → Among w (wireIf b u ws)
-  unfolding wireIf
-  wire-later zero u ws m = m
-  wire-later (suc b) u ws m = List·Memᴰ·tail m
+  link-later : (b : ℕ) (u : Link) (ws : List Link) → Among w ws → Among w (linkIf b u ws)
+  unfolding linkIf
+  link-later zero u ws m = m
+  link-later (suc b) u ws m = List·Memᴰ·tail m
 
-  of-on-wire : (n i : ℕ) → i < n → bit (getD on i 0) v ≡ 1 → w ≡ (getD firsts i 0, getD seconds i 0) → Among w (wiresTo firsts seconds on v n)
-  unfolding wiresTo
-  of-on-wire zero i l e p = absurd (not-suc-le-zero l)
-  of-on-wire (suc n) i l e p =
-      let u : Wire = (getD firsts n 0, getD seconds n 0) in
+  of-on-link : (n i : ℕ) → i < n → bit (getD on i 0) v ≡ 1 → w ≡ (getD firsts i 0, getD seconds i 0) → Among w (linksTo firsts seconds on v n)
+  unfolding linksTo
+  of-on-link zero i l e p = absurd (not-suc-le-zero l)
+  of-on-link (suc n) i l e p =
+      let u : Link = (getD firsts n 0, getD seconds n 0) in
       ⊎-elim
-      (λ (q : i ≡ n). wire-here (bit (getD on n 0) v) u (wiresTo firsts seconds on v n) (rw q at e) (rw q at p))
-      (λ (k : i < n). wire-later (bit (getD on n 0) v) u (wiresTo firsts seconds on v n) (of-on-wire n i k e p))
+      (λ (q : i ≡ n). link-here (bit (getD on n 0) v) u (linksTo firsts seconds on v n) (rw q at e) (rw q at p))
+      (λ (k : i < n). link-later (bit (getD on n 0) v) u (linksTo firsts seconds on v n) (of-on-link n i k e p))
       (eq-or-lt-of-le (le-of-suc-le-suc l))
 
--- the wires are those of the edges that are on
-pub wiresTo-among : (firsts seconds on : List ℕ) (v n : ℕ) (w : Wire) → Among w (wiresTo firsts seconds on v n) ↔ OnWire firsts seconds on v n w
-wiresTo-among firsts seconds on v n w =
-    (on-wire firsts seconds on v w n, λ a. of-on-wire firsts seconds on v w n (a .place) (a .within) (a .is-on) (a .ends))
+-- the links are those of the edges that are on
+pub linksTo-among : (firsts seconds on : List ℕ) (v n : ℕ) (w : Link) → Among w (linksTo firsts seconds on v n) ↔ OnLink firsts seconds on v n w
+linksTo-among firsts seconds on v n w =
+    (on-link firsts seconds on v w n, λ a. of-on-link firsts seconds on v w n (a .place) (a .within) (a .is-on) (a .ends))
 
 -- ---- a word added to one of the words
 
@@ -128,11 +128,11 @@ data Along (firsts seconds : List ℕ) (j : ℕ) : ℕ → ℕ → Type 0 where
   forward : Along firsts seconds j (getD firsts j 0) (getD seconds j 0)
   backward : Along firsts seconds j (getD seconds j 0) (getD firsts j 0)
 
-of-ends : {firsts seconds : List ℕ} {j a b : ℕ} → _≡_ {A = Wire} (a, b) (getD firsts j 0, getD seconds j 0)
+of-ends : {firsts seconds : List ℕ} {j a b : ℕ} → _≡_ {A = Link} (a, b) (getD firsts j 0, getD seconds j 0)
     → Along firsts seconds j a b × Along firsts seconds j b a
 of-ends e =
-    let first = ap (λ (u : Wire). u .0) e in
-    let second = ap (λ (u : Wire). u .1) e in
+    let first = ap (λ (u : Link). u .0) e in
+    let second = ap (λ (u : Link). u .1) e in
     (rw (first, second) forward, rw (first, second) backward)
 
 -- what edge j hands on of node a's word
@@ -276,7 +276,7 @@ pub record Reached (firsts seconds on : List ℕ) (count rail : ℕ) (joined : L
   pub long : length joined ≡ 32
   pub fits : (m : ℕ) → getD joined m 0 < 2 ^ 64
   pub whole : getD joined rail 0 ≡ 2 ^ 64 - 1
-  pub only : (m v : ℕ) → v < 64 → bit (getD joined m 0) v ≡ 1 → Joined (wiresTo firsts seconds on v count) rail m
+  pub only : (m v : ℕ) → v < 64 → bit (getD joined m 0) v ≡ 1 → Joined (linksTo firsts seconds on v count) rail m
 
 -- a bit that is 1 exactly when a test holds is the test's
 pub decided : (x : ℕ) (b : Bool) → x ≤ 1 → (x ≡ 1 → T b) → (T b → x ≡ 1) → x ≡ ofBool b
@@ -326,9 +326,9 @@ sum-within {joined} r = rw (r .long) at (total-below (2 ^ 64) joined (r .fits))
 module _ {firsts seconds on : List ℕ} {count rail : ℕ} {joined : List ℕ}
     (ranges : NodesInRange firsts seconds count) (r : Reached firsts seconds on count rail joined) where
   along-joined : (v j a b : ℕ) → j < count → Along firsts seconds j a b → bit (getD on j 0) v ≡ 1
-      → Joined (wiresTo firsts seconds on v count) rail a → Joined (wiresTo firsts seconds on v count) rail b
-  along-joined v j a b l forward o p = forth (of-on-wire firsts seconds on v (a, b) count j l o refl) p
-  along-joined v j a b l backward o p = back (of-on-wire firsts seconds on v (b, a) count j l o refl) p
+      → Joined (linksTo firsts seconds on v count) rail a → Joined (linksTo firsts seconds on v count) rail b
+  along-joined v j a b l forward o p = forth (of-on-link firsts seconds on v (a, b) count j l o refl) p
+  along-joined v j a b l backward o p = back (of-on-link firsts seconds on v (b, a) count j l o refl) p
 
   -- a round keeps it
   pub reached-again : Reached firsts seconds on count rail (roundTo firsts seconds on joined count)
@@ -339,7 +339,7 @@ module _ {firsts seconds on : List ℕ} {count rail : ℕ} {joined : List ℕ}
         fits = fits;
         whole = omega (arith, r .whole, fits rail, round-grows firsts seconds on joined count ranges (r .long) rail);
         only = λ m v l.
-            round-only firsts seconds on joined count ranges (r .long) v (Joined (wiresTo firsts seconds on v count) rail)
+            round-only firsts seconds on joined count ranges (r .long) v (Joined (linksTo firsts seconds on v count) rail)
             (λ n q. r .only n v l q) (along-joined v) m;
       }
 
@@ -362,23 +362,23 @@ module _ {firsts seconds on : List ℕ} {count rail : ℕ} {joined : List ℕ}
         )
 
     -- where a round adds nothing, every node that is joined to the rail has its bit
-    joined-has : (m : ℕ) → Joined (wiresTo firsts seconds on v count) rail m → bit (getD joined m 0) v ≡ 1
+    joined-has : (m : ℕ) → Joined (linksTo firsts seconds on v count) rail m → bit (getD joined m 0) v ≡ 1
     joined-has m p =
         carried (λ (n : ℕ). bit (getD joined n 0) v ≡ 1)
-        (λ a b w. let o = on-wire firsts seconds on v (a, b) count w in handed-on (o .place) a b (o .within) (of-ends (o .ends) .0) (o .is-on))
-        (λ a b w. let o = on-wire firsts seconds on v (a, b) count w in handed-on (o .place) b a (o .within) (of-ends (o .ends) .1) (o .is-on))
+        (λ a b w. let o = on-link firsts seconds on v (a, b) count w in handed-on (o .place) a b (o .within) (of-ends (o .ends) .0) (o .is-on))
+        (λ a b w. let o = on-link firsts seconds on v (a, b) count w in handed-on (o .place) b a (o .within) (of-ends (o .ends) .1) (o .is-on))
         p (rw (r .whole) (bit-ones 64 v l))
 
-    joined-bit : (m : ℕ) → bit (getD joined m 0) v ≡ ofBool (joins (wiresTo firsts seconds on v count) m rail)
+    joined-bit : (m : ℕ) → bit (getD joined m 0) v ≡ ofBool (joins (linksTo firsts seconds on v count) m rail)
     joined-bit m =
-        decided (bit (getD joined m 0) v) (joins (wiresTo firsts seconds on v count) m rail) (bit-le-one (getD joined m 0) v)
-        (λ e. (joins-decides (wiresTo firsts seconds on v count) m rail) .0 (turned (r .only m v l e)))
-        (λ t. joined-has m (turned ((joins-decides (wiresTo firsts seconds on v count) m rail) .1 t)))
+        decided (bit (getD joined m 0) v) (joins (linksTo firsts seconds on v count) m rail) (bit-le-one (getD joined m 0) v)
+        (λ e. (joins-decides (linksTo firsts seconds on v count) m rail) .0 (turned (r .only m v l e)))
+        (λ t. joined-has m (turned ((joins-decides (linksTo firsts seconds on v count) m rail) .1 t)))
 
   -- where a round adds nothing, the words are those that are asked
   pub reached-all : joined ≡ roundTo firsts seconds on joined count → joined ≡ joinedWords firsts seconds on count rail
   unfolding joinedWords
   reached-all same =
-      let bits : ℕ → ℕ → ℕ = λ (m v : ℕ). ofBool (joins (wiresTo firsts seconds on v count) m rail) in
+      let bits : ℕ → ℕ → ℕ = λ (m v : ℕ). ofBool (joins (linksTo firsts seconds on v count) m rail) in
       is-table 0 32 (λ (m : ℕ). word (bits m)) joined (r .long)
       (λ m k. word-of-bits (getD joined m 0) (bits m) (r .fits m) (λ v l. joined-bit same v l m))

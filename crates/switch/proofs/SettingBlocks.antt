@@ -9,16 +9,15 @@ use lib.Dec.{ltb}
 use lib.ListN.{getD, set}
 use lib.Seq.{set-getD}
 use lib.Pow.{pow-mono, pow-pos}
-use borrow.Author.Tests.{lt-ltb, le-ltb, ltb-true, ltb-false}
+use borrow.Author.Tests.{lt-ltb, ltb-true, ltb-false}
 use Rattle.words.specs.Bits.{bit, ofBool, pack, word}
-use Rattle.words.specs.Tables.{table}
+use Rattle.words.specs.Tables.{table, upTo}
 use Rattle.words.proofs.Laws.{bit-le-one, bit-past, ofBool-le-one, bit-not, bit-ones, bit-block, bit-block-high}
 use Rattle.words.proofs.Laws.{pack-cong, pack-zero, pack-one, word-of-bits, bit-word, word-lt}
-use Rattle.words.proofs.Tables.{getD-table}
+use Rattle.words.proofs.Tables.{getD-table, up-past, fill-more}
 use Rattle.switch.specs.Modules.{known, settingOf}
 use Rattle.switch.specs.Records.{valueOf, valuesAt}
 use Rattle.switch.specs.Model.{settingOnes, settingZeros, firstOnes}
-use Rattle.switch.proofs.OnWords.{upTo, fill-more}
 
 -- ---- planes
 
@@ -59,32 +58,32 @@ patterns =
 abbrev pattern : ℕ → ℕ
 pattern l = word (λ (v : ℕ). bit v l)
 
-patterns-are : patterns ≡ table 12 (upTo pattern 6)
-unfolding table word pack bit
+patterns-are : patterns ≡ table 12 (upTo 6 pattern)
+unfolding table upTo word pack bit
 patterns-are = refl
 
-pub low-planes : (block : ℕ) → patterns ≡ table 12 (upTo (plane block) 6)
-unfolding table
+pub low-planes : (block : ℕ) → patterns ≡ table 12 (upTo 6 (plane block))
+unfolding table upTo
 low-planes block =
     let low : (l : ℕ) → l < 6 → plane block l ≡ pattern l = plane-low block in
     rw (low 0 (omega arith), low 1 (omega arith), low 2 (omega arith), low 3 (omega arith), low 4 (omega arith), low 5 (omega arith)) patterns-are
 
 -- one label more, of those from 6 on: all ones are written, zeros stand there
 pub planes-one : (block l : ℕ) → 6 ≤ l → l < 12 → bit block (l - 6) ≡ 1
-    → set (table 12 (upTo (plane block) l)) l (2 ^ 64 - 1) ≡ table 12 (upTo (plane block) (suc l))
-planes-one block l h k e = ap (set (table 12 (upTo (plane block) l)) l) (sym (plane-one block l h e)) ∙ fill-more 12 (plane block) l k
+    → set (table 12 (upTo l (plane block))) l (2 ^ 64 - 1) ≡ table 12 (upTo (suc l) (plane block))
+planes-one block l h k e = ap (set (table 12 (upTo l (plane block))) l) (sym (plane-one block l h e)) ∙ fill-more 12 (plane block) l k
 
 pub planes-zero : (block l : ℕ) → 6 ≤ l → l < 12 → (bit block (l - 6) ≡ 1 → ⊥)
-    → table 12 (upTo (plane block) l) ≡ table 12 (upTo (plane block) (suc l))
+    → table 12 (upTo l (plane block)) ≡ table 12 (upTo (suc l) (plane block))
 planes-zero block l h k e =
-    let done : List ℕ = table 12 (upTo (plane block) l) in
+    let done : List ℕ = table 12 (upTo l (plane block)) in
     let stands : getD done l 0 ≡ plane block l =
-    getD-table 12 (upTo (plane block) l) 0 l k
-    ∙ rw (le-ltb l l (omega arith)) (sym (plane-zero block l h (omega (arith, bit-le-one block (l - 6))))) in
+    getD-table 12 (upTo l (plane block)) 0 l k
+    ∙ rw (up-past l (plane block) l (omega arith)) (sym (plane-zero block l h (omega (arith, bit-le-one block (l - 6))))) in
     sym (set-getD done l 0) ∙ ap (set done l) stands ∙ fill-more 12 (plane block) l k
 
-pub settings-of-planes : (block : ℕ) → table 12 (upTo (plane block) 12) ≡ settingOnes block
-unfolding settingOnes table
+pub settings-of-planes : (block : ℕ) → table 12 (upTo 12 (plane block)) ≡ settingOnes block
+unfolding settingOnes table upTo
 settings-of-planes block = refl
 
 -- ---- the known-0 planes
@@ -101,12 +100,12 @@ plane-not block l h =
     ∙ ap (λ (b : ℕ). 1 - b) (bit-word (λ (u : ℕ). bit (64 * block + u) l) (λ u. bit-le-one (64 * block + u) l) v k)))
 
 pub zero-planes-more : (block l : ℕ) → l < 12
-    → set (table 12 (upTo (zeroPlane block) l)) l ((2 ^ 64 - 1) - getD (settingOnes block) l 0) ≡ table 12 (upTo (zeroPlane block) (suc l))
+    → set (table 12 (upTo l (zeroPlane block))) l ((2 ^ 64 - 1) - getD (settingOnes block) l 0) ≡ table 12 (upTo (suc l) (zeroPlane block))
 zero-planes-more block l h =
-    ap (set (table 12 (upTo (zeroPlane block) l)) l) (plane-not block l h) ∙ fill-more 12 (zeroPlane block) l h
+    ap (set (table 12 (upTo l (zeroPlane block))) l) (plane-not block l h) ∙ fill-more 12 (zeroPlane block) l h
 
-pub settings-of-zero-planes : (block : ℕ) → table 12 (upTo (zeroPlane block) 12) ≡ settingZeros block
-unfolding settingZeros table
+pub settings-of-zero-planes : (block : ℕ) → table 12 (upTo 12 (zeroPlane block)) ≡ settingZeros block
+unfolding settingZeros table upTo
 settings-of-zero-planes block = refl
 
 -- ---- the planes give the settings' values

@@ -1,8 +1,8 @@
 -- 01, "Conduction": values 0, 1, X; channels by position; transistors and edges that are on; paths over on edges; joined nodes.
-use Prim.Native.Nat.{ℕ, zero, suc}
-use mathlib.Core.Bool.{Bool, true, false, cond, _&&_, _||_}
+use Prim.Native.Nat.{ℕ}
+use mathlib.Core.Bool.{Bool, true, false, cond, _&&_, _||_, not}
 use mathlib.Core.List.{List, [], _∷_, List·Memᴰ}
-use lib.Dec.{leb}
+use lib.Dec.{leb, eqb}
 
 -- the value of a label: 0, 1, or X, which is not known
 pub data Value : Type 0 where
@@ -29,9 +29,24 @@ pub data Channel : Type 0 where
 unfoldable pub between : ℕ → ℕ → ℕ → Bool
 between low high m = leb low m && leb m high
 
--- the channel of an edge in a type with the output node o: both ends in 1 to o is p-channel. Of the edges that are not refused every other is n-channel
+-- the channel rule, in a type with the highest node h and the output node o. An edge with both ends in 1 to o is p-channel
+unfoldable pub pEnds : ℕ → Edge → Bool
+pEnds o e = between 1 o (e .first) && between 1 o (e .second)
+
+-- an edge with both ends in o to h, or 0, is n-channel
+unfoldable pub nEnd : ℕ → ℕ → ℕ → Bool
+nEnd h o m = eqb m ground || between o h m
+
+unfoldable pub nEnds : ℕ → ℕ → Edge → Bool
+nEnds h o e = nEnd h o (e .first) && nEnd h o (e .second)
+
+-- any other edge is refused, as is one with equal ends (refusal 8, which reading gives)
+unfoldable pub badEnds : ℕ → ℕ → Edge → Bool
+badEnds h o e = eqb (e .first) (e .second) || not (pEnds o e || nEnds h o e)
+
+-- so of the edges that are not refused each is of one channel: only an edge from o to o would be of both, and it has equal ends
 unfoldable pub channelOf : ℕ → Edge → Channel
-channelOf o e = cond (between 1 o (e .first) && between 1 o (e .second)) p-channel n-channel
+channelOf o e = cond (pEnds o e) p-channel n-channel
 
 -- a transistor is on when its label is known and is 0 (p) or 1 (n)
 unfoldable pub transistorOn : Channel → Value → Bool
@@ -50,24 +65,24 @@ anyOf test (a ∷ as′) = test a || anyOf test as′
 unfoldable pub edgeOn : ℕ → (ℕ → Value) → Edge → Bool
 edgeOn o values e = anyOf (λ (l : ℕ). transistorOn (channelOf o e) (values l)) (e .labels)
 
--- a wire: the two nodes of an edge that is on, or of a bridge that is closed
-abbrev pub Wire : Type 0
-Wire = ℕ × ℕ
+-- a link: the two nodes of an edge that is on, or of a bridge that is closed
+abbrev pub Link : Type 0
+Link = ℕ × ℕ
 
--- the wires of the on edges of a type with the output node o
-unfoldable pub wires : ℕ → (ℕ → Value) → List Edge → List Wire
-wires o values [] = []
-wires o values (e ∷ es) = let rest = wires o values es in cond (edgeOn o values e) ((e .first, e .second) ∷ rest) rest
+-- the links of the on edges of a type with the output node o
+unfoldable pub links : ℕ → (ℕ → Value) → List Edge → List Link
+links o values [] = []
+links o values (e ∷ es) = let rest = links o values es in cond (edgeOn o values e) ((e .first, e .second) ∷ rest) rest
 
-abbrev pub Among : Wire → List Wire → Type 0
+abbrev pub Among : Link → List Link → Type 0
 Among w ws = List·Memᴰ w ws
 
--- a path over wires from one node to another, either way along each wire
-pub data WirePath (ws : List Wire) (start : ℕ) : ℕ → Type 0 where
-  here : WirePath ws start start
-  forth : {a b : ℕ} → Among (a, b) ws → WirePath ws start a → WirePath ws start b
-  back : {a b : ℕ} → Among (a, b) ws → WirePath ws start b → WirePath ws start a
+-- a path over links from one node to another, either way along each link
+pub data LinkPath (ws : List Link) (start : ℕ) : ℕ → Type 0 where
+  here : LinkPath ws start start
+  forth : {a b : ℕ} → Among (a, b) ws → LinkPath ws start a → LinkPath ws start b
+  back : {a b : ℕ} → Among (a, b) ws → LinkPath ws start b → LinkPath ws start a
 
 -- two nodes are joined when a path runs between them; a node is joined to itself
-abbrev pub Joined : List Wire → ℕ → ℕ → Type 0
-Joined ws a b = WirePath ws a b
+abbrev pub Joined : List Link → ℕ → ℕ → Type 0
+Joined ws a b = LinkPath ws a b

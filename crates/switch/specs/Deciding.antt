@@ -1,26 +1,32 @@
--- Boolean tests that compute: joined, complementary, the output's value. That they decide what Conduction and Modules say is proved in proofs/Deciding.
+-- Boolean tests that compute: joined, complementary, the output's value, a mark. That they decide what Conduction, Modules and Bridges say is proved in
+-- proofs/Deciding and, of the output's value, in proofs/Refinement.
 use Prim.Native.Nat.{ℕ, zero, suc, _^_}
-use mathlib.Core.Bool.{Bool, true, false, cond, _&&_, not, Bool·beq}
-use mathlib.Core.List.{List, [], _∷_}
+use mathlib.Core.Bool.{Bool, true, cond, _&&_, not, Bool·beq}
+use mathlib.Core.List.{List, [], _∷_, _++_}
 use lib.Dec.{eqb}
-use Rattle.switch.specs.Conduction.{Value, at0, at1, atX, Wire, ground, supply}
-use Rattle.switch.specs.Modules.{ModuleType, wiresOf, settingOf}
+use Rattle.switch.specs.Conduction.{Value, at0, at1, atX, Link, ground, supply}
+use Rattle.switch.specs.Modules.{ModuleType, linksOf, settingOf}
+use Rattle.switch.specs.Bridges.{Bridge, closing}
 
--- parts are numbered by nodes. A list of renamings, the latest first, gives each node its part
+-- parts are numbered by nodes. A renaming is the number that a part had, and the number of the part that it now belongs to
+abbrev pub Renaming : Type 0
+Renaming = ℕ × ℕ
+
 unfoldable pub rename : ℕ → ℕ → ℕ → ℕ
 rename old new part = cond (eqb part old) new part
 
-unfoldable pub partIn : List Wire → ℕ → ℕ
+-- a list of renamings, the latest first, gives each node its part
+unfoldable pub partIn : List Renaming → ℕ → ℕ
 partIn [] m = m
 partIn (r ∷ rs) m = rename (r .0) (r .1) (partIn rs m)
 
--- each wire unites the parts of its two nodes
-unfoldable pub renamings : List Wire → List Wire
+-- each link unites the parts of its two nodes
+unfoldable pub renamings : List Link → List Renaming
 renamings [] = []
 renamings (w ∷ ws) = let rs = renamings ws in (partIn rs (w .0), partIn rs (w .1)) ∷ rs
 
 -- are two nodes joined: are they in one part
-unfoldable pub joins : List Wire → ℕ → ℕ → Bool
+unfoldable pub joins : List Link → ℕ → ℕ → Bool
 joins ws a b = let rs = renamings ws in eqb (partIn rs a) (partIn rs b)
 
 -- does a test pass at each number below n
@@ -31,10 +37,14 @@ allBelow (suc n) test = test n && allBelow n test
 -- is the output joined to exactly one rail under these values
 unfoldable pub oneRail : ModuleType → (ℕ → Value) → Bool
 oneRail t values =
-    let ws = wiresOf t values in not (Bool·beq (joins ws (t .output) ground) (joins ws (t .output) supply))
+    let ws = linksOf t values in not (Bool·beq (joins ws (t .output) ground) (joins ws (t .output) supply))
 
 unfoldable pub isComplementary : ModuleType → Bool
 isComplementary t = allBelow (2 ^ (t .labels)) (λ (s : ℕ). oneRail t (settingOf s))
 
 unfoldable pub outputOf : ModuleType → (ℕ → Value) → Value
-outputOf t values = let ws = wiresOf t values in cond (joins ws (t .output) supply) at1 (cond (joins ws (t .output) ground) at0 atX)
+outputOf t values = let ws = linksOf t values in cond (joins ws (t .output) supply) at1 (cond (joins ws (t .output) ground) at0 atX)
+
+-- is a bridge marked: with it closed, does a path run from supply to ground
+unfoldable pub isMarked : ModuleType → (ℕ → Value) → Bridge → Bool
+isMarked t values bridge = joins (closing bridge values ++ linksOf t values) supply ground

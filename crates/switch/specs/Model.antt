@@ -1,6 +1,6 @@
--- What the code computes, as lists: on words, the rails' words, the output's planes, rounds of joining, planes of 64 settings.
+-- What the code computes on the way, as lists: on words, rounds of joining, planes of 64 settings. Only the code's own proofs use it.
 -- A word has a bit for each of 64 vectors, or of 64 settings.
-use Prim.Native.Nat.{ℕ, zero, suc, _+_, _-_, _*_, _^_, _<_, _≤_}
+use Prim.Native.Nat.{ℕ, zero, suc, _+_, _-_, _*_, _<_, _≤_}
 use mathlib.Core.Bool.{Bool, true, false, cond}
 use mathlib.Core.List.{List, [], _∷_}
 use lib.Bits.{bitAnd, bitOr}
@@ -8,44 +8,13 @@ use mathlib.Core.Path.{_≡_}
 use lib.Dec.{T, ltb}
 use lib.ListN.{getD, set}
 use Rattle.words.specs.Bits.{bit, ofBool, word}
-use Rattle.words.specs.Tables.{table}
-use Rattle.switch.specs.Conduction.{Value, at0, at1, atX, Edge, Channel, p-channel, n-channel, Wire, transistorOn, edgeOn, ground, supply}
-use Rattle.switch.specs.Modules.{ModuleType, wiresOf, settingOf}
+use Rattle.words.specs.Tables.{table, upTo}
+use Rattle.switch.specs.Conduction.{Edge, Channel, p-channel, n-channel, Link, transistorOn, edgeOn}
+use Rattle.switch.specs.Modules.{ModuleType, mostEdges, mostNodes, mostLabels, settingOf}
 use Rattle.switch.specs.Deciding.{joins, oneRail}
 use Rattle.switch.specs.Records.{edgeOf, noEdge, valueOf, valuesAt}
 use Rattle.switch.specs.declared.Edge.{Edge as EdgeRecord}
-use Rattle.switch.specs.declared.Rails.{Rails}
-use Rattle.switch.specs.declared.Planes.{Planes}
 use Rattle.switch.specs.declared.Ends.{Ends}
-
--- ---- what a caller is told
-
--- bit v of node m's word is 1 exactly when m is joined to the rail under vector v
-unfoldable pub railWords : ModuleType → List ℕ → List ℕ → ℕ → List ℕ
-railWords t ones zeros rail =
-    table 32 (λ (m : ℕ). word (λ (v : ℕ). ofBool (joins (wiresOf t (valuesAt ones zeros v)) m rail)))
-
-abbrev pub railsOf : ModuleType → List ℕ → List ℕ → Rails
-railsOf t ones zeros = record { supply = railWords t ones zeros supply; ground = railWords t ones zeros ground }
-
-unfoldable pub isAt1 : Value → ℕ
-isAt1 at1 = 1
-isAt1 at0 = 0
-isAt1 atX = 0
-
-unfoldable pub isAt0 : Value → ℕ
-isAt0 at0 = 1
-isAt0 at1 = 0
-isAt0 atX = 0
-
--- the planes of a value under 64 vectors
-abbrev pub planes : (ℕ → Value) → Planes
-planes values = record { ones = word (λ (v : ℕ). isAt1 (values v)); zeros = word (λ (v : ℕ). isAt0 (values v)) }
-
--- of an output, from the words that tell under which vectors it is joined to supply, and to ground:
--- 1 where it is joined to supply, 0 where it is joined to ground, X where it is joined to neither
-abbrev pub planesOf : ℕ → ℕ → Planes
-planesOf toSupply toGround = planes (λ (v : ℕ). valueOf (bit toSupply v) (bit toGround v))
 
 -- ---- on words
 
@@ -64,14 +33,14 @@ onWord o ones zeros e = word (λ (v : ℕ). ofBool (edgeOn o (valuesAt ones zero
 
 -- the on words of the first n edges, and 0 in the other places
 unfoldable pub onWords : ℕ → List ℕ → List ℕ → List EdgeRecord → ℕ → List ℕ
-onWords o ones zeros edges n = table 64 (λ (i : ℕ). cond (ltb i n) (onWord o ones zeros (edgeOf (getD edges i noEdge))) 0)
+onWords o ones zeros edges n = table mostEdges (upTo n (λ (i : ℕ). onWord o ones zeros (edgeOf (getD edges i noEdge))))
 
 -- the first nodes, and the second nodes, of the first n edges, and 0 in the other places
 unfoldable pub firstNodes : List EdgeRecord → ℕ → List ℕ
-firstNodes edges n = table 64 (λ (i : ℕ). cond (ltb i n) (getD edges i noEdge .first) 0)
+firstNodes edges n = table mostEdges (upTo n (λ (i : ℕ). getD edges i noEdge .first))
 
 unfoldable pub secondNodes : List EdgeRecord → ℕ → List ℕ
-secondNodes edges n = table 64 (λ (i : ℕ). cond (ltb i n) (getD edges i noEdge .second) 0)
+secondNodes edges n = table mostEdges (upTo n (λ (i : ℕ). getD edges i noEdge .second))
 
 abbrev pub endsOf : List EdgeRecord → ℕ → Ends
 endsOf edges n = record { firsts = firstNodes edges n; seconds = secondNodes edges n }
@@ -80,24 +49,24 @@ endsOf edges n = record { firsts = firstNodes edges n; seconds = secondNodes edg
 
 -- the first n of the edges whose nodes are 0 to 31
 pub record NodesInRange (firsts seconds : List ℕ) (n : ℕ) : Type 0 where
-  pub places : n ≤ 64
-  pub first : (i : ℕ) → i < n → getD firsts i 0 < 32
-  pub second : (i : ℕ) → i < n → getD seconds i 0 < 32
+  pub places : n ≤ mostEdges
+  pub first : (i : ℕ) → i < n → getD firsts i 0 < mostNodes
+  pub second : (i : ℕ) → i < n → getD seconds i 0 < mostNodes
 
-unfoldable pub wireIf : ℕ → Wire → List Wire → List Wire
-wireIf zero w ws = ws
-wireIf (suc b) w ws = w ∷ ws
+unfoldable pub linkIf : ℕ → Link → List Link → List Link
+linkIf zero w ws = ws
+linkIf (suc b) w ws = w ∷ ws
 
--- the wires of the first n edges that are on under vector v
-unfoldable pub wiresTo : List ℕ → List ℕ → List ℕ → ℕ → ℕ → List Wire
-wiresTo firsts seconds on v zero = []
-wiresTo firsts seconds on v (suc i) =
-    wireIf (bit (getD on i 0) v) (getD firsts i 0, getD seconds i 0) (wiresTo firsts seconds on v i)
+-- the links of the first n edges that are on under vector v
+unfoldable pub linksTo : List ℕ → List ℕ → List ℕ → ℕ → ℕ → List Link
+linksTo firsts seconds on v zero = []
+linksTo firsts seconds on v (suc i) =
+    linkIf (bit (getD on i 0) v) (getD firsts i 0, getD seconds i 0) (linksTo firsts seconds on v i)
 
--- bit v of node m's word is 1 exactly when m is joined to the rail over those wires
+-- bit v of node m's word is 1 exactly when m is joined to the rail over those links
 unfoldable pub joinedWords : List ℕ → List ℕ → List ℕ → ℕ → ℕ → List ℕ
 joinedWords firsts seconds on n rail =
-    table 32 (λ (m : ℕ). word (λ (v : ℕ). ofBool (joins (wiresTo firsts seconds on v n) m rail)))
+    table mostNodes (λ (m : ℕ). word (λ (v : ℕ). ofBool (joins (linksTo firsts seconds on v n) m rail)))
 
 unfoldable pub added : List ℕ → ℕ → ℕ → List ℕ
 added words m w = set words m (bitOr (getD words m 0) w)
@@ -122,10 +91,10 @@ pub record Compared (a b : List ℕ) (same : Bool) : Type 0 where
 
 -- the known-1 planes of the settings 64 block to 64 block + 63, and their known-0 planes
 unfoldable pub settingOnes : ℕ → List ℕ
-settingOnes block = table 12 (λ (l : ℕ). word (λ (v : ℕ). bit (64 * block + v) l))
+settingOnes block = table mostLabels (λ (l : ℕ). word (λ (v : ℕ). bit (64 * block + v) l))
 
 unfoldable pub settingZeros : ℕ → List ℕ
-settingZeros block = table 12 (λ (l : ℕ). word (λ (v : ℕ). 1 - bit (64 * block + v) l))
+settingZeros block = table mostLabels (λ (l : ℕ). word (λ (v : ℕ). 1 - bit (64 * block + v) l))
 
 -- ones at the first n places of a word, all where n is 64 or more
 unfoldable pub firstOnes : ℕ → ℕ

@@ -1,12 +1,24 @@
 -- 01, "The circuit file" (tags 2 and 3) and "Conduction": a module type, its ranges, when it is complementary, and its output.
-use Prim.Native.Nat.{ℕ, zero, suc, _^_, _<_}
-use mathlib.Core.Bool.{Bool, true, false, cond, _&&_}
-use mathlib.Core.Logic.{_⊎_}
+use Prim.Native.Nat.{ℕ, zero, suc, _-_, _^_, _<_}
+use mathlib.Core.Bool.{Bool, true, _&&_}
 use mathlib.Core.List.{List, [], _∷_}
 use lib.Dec.{leb, ltb}
 use lib.ListN.{length}
 use Rattle.words.specs.Bits.{bit}
-use Rattle.switch.specs.Conduction.{Value, at0, at1, atX, Edge, Wire, Joined, between, wires, ground, supply}
+use Rattle.switch.specs.Conduction.{Value, at0, at1, atX, Edge, Link, Joined, between, links, ground, supply}
+
+-- the limits of a module type: its edges, its nodes (0 to 31), its labels, and the labels of one edge
+abbrev pub mostEdges : ℕ
+mostEdges = 64
+
+abbrev pub mostNodes : ℕ
+mostNodes = 32
+
+abbrev pub mostLabels : ℕ
+mostLabels = 12
+
+abbrev pub mostParallel : ℕ
+mostParallel = 4
 
 -- a module type: highest node h, output node o, number of labels k, edges
 pub record ModuleType : Type 0 where
@@ -21,18 +33,18 @@ allOf test (a ∷ as′) = test a && allOf test as′
 
 -- h is 2 to 31, o is 2 to h, k is 1 to 12
 unfoldable pub typeInRange : ℕ → ℕ → ℕ → Bool
-typeInRange h o k = between 2 31 h && between 2 h o && between 1 12 k
+typeInRange h o k = between 2 (mostNodes - 1) h && between 2 h o && between 1 mostLabels k
 
 -- two nodes 0 to h, then 1 to 4 labels 0 to k - 1
 unfoldable pub edgeInRange : ℕ → ℕ → Edge → Bool
 edgeInRange h k e =
-    leb (e .first) h && leb (e .second) h && between 1 4 (length (e .labels)) && allOf (λ (l : ℕ). ltb l k) (e .labels)
+    leb (e .first) h && leb (e .second) h && between 1 mostParallel (length (e .labels)) && allOf (λ (l : ℕ). ltb l k) (e .labels)
 
 unfoldable pub inRange : ModuleType → Bool
 inRange t = typeInRange (t .highest) (t .output) (t .labels) && allOf (edgeInRange (t .highest) (t .labels)) (t .edges)
 
-unfoldable pub wiresOf : ModuleType → (ℕ → Value) → List Wire
-wiresOf t values = wires (t .output) values (t .edges)
+unfoldable pub linksOf : ModuleType → (ℕ → Value) → List Link
+linksOf t values = links (t .output) values (t .edges)
 
 unfoldable pub known : ℕ → Value
 known zero = at0
@@ -50,11 +62,11 @@ pub data ExactlyOne (A B : Type 0) : Type 0 where
 unfoldable pub Complementary : ModuleType → Type 0
 Complementary t =
     (s : ℕ) → s < 2 ^ (t .labels)
-    → ExactlyOne (Joined (wiresOf t (settingOf s)) (t .output) ground) (Joined (wiresOf t (settingOf s)) (t .output) supply)
+    → ExactlyOne (Joined (linksOf t (settingOf s)) (t .output) ground) (Joined (linksOf t (settingOf s)) (t .output) supply)
 
 -- a type's output under values: 1 where joined to node 1, 0 where joined to node 0, X where joined to neither
 pub data OutputIs (t : ModuleType) (values : ℕ → Value) : Value → Type 0 where
-  output-1 : Joined (wiresOf t values) (t .output) supply → OutputIs t values at1
-  output-0 : Joined (wiresOf t values) (t .output) ground → OutputIs t values at0
-  output-X : (Joined (wiresOf t values) (t .output) supply → ⊥) → (Joined (wiresOf t values) (t .output) ground → ⊥)
+  output-1 : Joined (linksOf t values) (t .output) supply → OutputIs t values at1
+  output-0 : Joined (linksOf t values) (t .output) ground → OutputIs t values at0
+  output-X : (Joined (linksOf t values) (t .output) supply → ⊥) → (Joined (linksOf t values) (t .output) ground → ⊥)
       → OutputIs t values atX

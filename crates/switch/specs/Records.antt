@@ -5,7 +5,7 @@ use lib.Dec.{T, leb}
 use lib.ListN.{take, getD}
 use Rattle.words.specs.Bits.{bit}
 use Rattle.switch.specs.Conduction.{Value, at0, at1, atX, Edge}
-use Rattle.switch.specs.Modules.{ModuleType, allOf, inRange}
+use Rattle.switch.specs.Modules.{ModuleType, mostEdges, mostLabels, mostParallel, allOf, inRange}
 use Rattle.switch.specs.declared.Edge.{Edge as EdgeRecord}
 use Rattle.switch.specs.declared.ModuleType.{ModuleType as TypeRecord}
 
@@ -26,18 +26,18 @@ typeOf r = record { highest = r .highest; output = r .output; labels = r .labels
 
 -- the labels of an edge record stand in its four places, each 0 to 11
 pub record LabelsFit (r : EdgeRecord) : Type 0 where
-  pub places : r .count ≤ 4
-  pub labels : (j : ℕ) → j < r .count → getD (r .labels) j 0 < 12
+  pub places : r .count ≤ mostParallel
+  pub labels : (j : ℕ) → j < r .count → getD (r .labels) j 0 < mostLabels
 
 -- so of the first n edge records, which stand in 64 places
 pub record EdgesFit (rs : List EdgeRecord) (n : ℕ) : Type 0 where
-  pub places : n ≤ 64
+  pub places : n ≤ mostEdges
   pub edges : (i : ℕ) → i < n → LabelsFit (getD rs i noEdge)
 
--- a record that a file can give: its counts are within its places, its numbers within 01's ranges. Reading refuses every other (5, 6 and 7)
+-- counts within the places, numbers within 01's ranges; refusals 8 and 9 are not asked
 pub record Given (r : TypeRecord) : Type 0 where
-  pub places : r .count ≤ 64
-  pub label-places : T (allOf (λ (e : EdgeRecord). leb (e .count) 4) (take (r .count) (r .edges)))
+  pub places : r .count ≤ mostEdges
+  pub label-places : T (allOf (λ (e : EdgeRecord). leb (e .count) mostParallel) (take (r .count) (r .edges)))
   pub ranges : T (inRange (typeOf r))
 
 -- a label's value from its bit in the known-1 plane and in the known-0 plane. No file gives both; taken as 1, every pair of planes has a meaning

@@ -1,54 +1,67 @@
--- The theorems on paths that all later crates rest on. Their proofs are in proofs/.
-use Prim.Native.Nat.{ℕ}
+-- The theorems on paths, and on what the code's words and planes tell of them, that all later crates rest on. Their proofs are in proofs/.
+use Prim.Native.Nat.{ℕ, _<_}
 use mathlib.Core.Path.{_≡_}
+use mathlib.Core.Bool.{false, not}
 use mathlib.Core.Logic.{_⊎_, _↔_}
 use mathlib.Core.List.{List}
 use lib.Dec.{T}
-use Rattle.switch.specs.Conduction.{Value, at0, at1, atX, Edge, Wire, Among, Joined, edgeOn, ground, supply}
-use Rattle.switch.specs.Modules.{ModuleType, inRange, wiresOf, Complementary, OutputIs}
+use lib.ListN.{getD}
+use Rattle.words.specs.Bits.{bit}
+use Rattle.switch.specs.Conduction.{Value, atX, Edge, Link, Among, Joined, pEnds, nEnds, badEnds, edgeOn, ground, supply}
+use Rattle.switch.specs.Modules.{ModuleType, mostNodes, inRange, linksOf, Complementary, OutputIs}
 use Rattle.switch.specs.Bridges.{Bridge, Marked, MarkedByEnds}
-use Rattle.switch.specs.Deciding.{joins, isComplementary, outputOf}
+use Rattle.switch.specs.Deciding.{joins, isComplementary, outputOf, isMarked}
+use Rattle.switch.specs.Records.{valueOf, valuesAt}
+use Rattle.switch.specs.Promises.{railWords, planes, planesOf}
+
+-- 01, "Conduction": an edge that is not refused is p-channel or n-channel, and not both
+abbrev pub OneChannel : Type 0
+OneChannel = (h o : ℕ) (e : Edge) → badEnds h o e ≡ false → pEnds o e ≡ not (nEnds h o e)
 
 -- the tests decide
 abbrev pub JoinsDecides : Type 0
-JoinsDecides = (ws : List Wire) (a b : ℕ) → Joined ws a b ↔ T (joins ws a b)
+JoinsDecides = (ws : List Link) (a b : ℕ) → Joined ws a b ↔ T (joins ws a b)
 
 abbrev pub ComplementaryDecides : Type 0
 ComplementaryDecides = (t : ModuleType) → Complementary t ↔ T (isComplementary t)
 
--- joined is an equivalence; more wires, more joined
+abbrev pub MarkDecides : Type 0
+MarkDecides = (t : ModuleType) (values : ℕ → Value) (bridge : Bridge) → Marked t values bridge ↔ T (isMarked t values bridge)
+
+-- joined is an equivalence; more links, more joined
 pub record JoinedIsEquivalence : Type 0 where
-  pub itself : (ws : List Wire) (a : ℕ) → Joined ws a a
-  pub turned : (ws : List Wire) (a b : ℕ) → Joined ws a b → Joined ws b a
-  pub through : (ws : List Wire) (a b c : ℕ) → Joined ws a b → Joined ws b c → Joined ws a c
+  pub itself : (ws : List Link) (a : ℕ) → Joined ws a a
+  pub turned : (ws : List Link) (a b : ℕ) → Joined ws a b → Joined ws b a
+  pub through : (ws : List Link) (a b c : ℕ) → Joined ws a b → Joined ws b c → Joined ws a c
 
-abbrev pub MoreWires : Type 0
-MoreWires = (ws more : List Wire) → ((w : Wire) → Among w ws → Among w more) → (a b : ℕ) → Joined ws a b → Joined more a b
+abbrev pub MoreLinks : Type 0
+MoreLinks = (ws more : List Link) → ((w : Link) → Among w ws → Among w more) → (a b : ℕ) → Joined ws a b → Joined more a b
 
--- a type that reading accepts: all of its numbers are in range, and it is complementary
+-- what the theorems need of a type; every type that reading accepts is one
 pub record Accepted (t : ModuleType) : Type 0 where
   pub ranges : T (inRange t)
   pub complementary : Complementary t
 
 -- the rails are apart, so the output is never joined to both, under any values, X among them
 pub record RailsApart : Type 0 where
-  pub rails : (t : ModuleType) → Accepted t → (values : ℕ → Value) → Joined (wiresOf t values) supply ground → ⊥
+  pub rails : (t : ModuleType) → Accepted t → (values : ℕ → Value) → Joined (linksOf t values) supply ground → ⊥
   pub output : (t : ModuleType) → Accepted t → (values : ℕ → Value)
-      → Joined (wiresOf t values) (t .output) supply → Joined (wiresOf t values) (t .output) ground → ⊥
+      → Joined (linksOf t values) (t .output) supply → Joined (linksOf t values) (t .output) ground → ⊥
 
 -- (a) 01, "Faults, marks and classes": under any values, X among them, the closed bridge makes a path from supply to ground
 -- exactly when one end is joined to supply and the other to ground, or for kind 1 by the label's value
 abbrev pub ClosedPathIsEnds : Type 0
 ClosedPathIsEnds = (t : ModuleType) → Accepted t → (values : ℕ → Value) (bridge : Bridge) → Marked t values bridge ↔ MarkedByEnds t values bridge
 
--- values are refined when each label that was X is anything now, and each 0 and 1 is kept
+-- values are refined when each label that was X is anything now, and each 0 and 1 is kept. Labels past k are X in every use, so nothing is lost
+-- by asking it of all labels
 abbrev pub Refines : (ℕ → Value) → (ℕ → Value) → Type 0
 Refines values finer = (l : ℕ) → (values l ≡ atX) ⊎ (finer l ≡ values l)
 
 -- (b) refined values keep every on edge, every joining, every known output and every mark
 pub record Kept (t : ModuleType) (values finer : ℕ → Value) : Type 0 where
   pub on-edge : (e : Edge) → T (edgeOn (t .output) values e) → T (edgeOn (t .output) finer e)
-  pub joining : (a b : ℕ) → Joined (wiresOf t values) a b → Joined (wiresOf t finer) a b
+  pub joining : (a b : ℕ) → Joined (linksOf t values) a b → Joined (linksOf t finer) a b
   pub output : (outputOf t values ≡ atX) ⊎ (outputOf t finer ≡ outputOf t values)
   pub mark : (bridge : Bridge) → Marked t values bridge → Marked t finer bridge
 
@@ -59,3 +72,18 @@ RefinementKeeps = (t : ModuleType) → Accepted t → (values finer : ℕ → Va
 pub record OutputIsOne : Type 0 where
   pub given : (t : ModuleType) (values : ℕ → Value) → OutputIs t values (outputOf t values)
   pub only : (t : ModuleType) → Accepted t → (values : ℕ → Value) (value : Value) → OutputIs t values value → value ≡ outputOf t values
+
+-- where every label is known, so is the output
+abbrev pub KnownOutput : Type 0
+KnownOutput = (t : ModuleType) → Accepted t → (values : ℕ → Value)
+    → ((l : ℕ) → l < t .labels → values l ≡ atX → ⊥) → outputOf t values ≡ atX → ⊥
+
+-- the two planes of a value tell it, at each of the 64 positions
+abbrev pub PlanesAreValues : Type 0
+PlanesAreValues = (f : ℕ → Value) (v : ℕ) → v < 64 → valueOf (bit (planes f .ones) v) (bit (planes f .zeros) v) ≡ f v
+
+-- the planes that the output's two words give are those of its value
+abbrev pub OutputPlanes : Type 0
+OutputPlanes = (t : ModuleType) (ones zeros : List ℕ) → t .output < mostNodes
+    → planesOf (getD (railWords t ones zeros supply) (t .output) 0) (getD (railWords t ones zeros ground) (t .output) 0)
+    ≡ planes (λ (v : ℕ). outputOf t (valuesAt ones zeros v))

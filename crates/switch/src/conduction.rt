@@ -1,10 +1,13 @@
 // Which edges are on: a word for each edge, from the labels' known-1 and known-0 planes.
 use crate::Edge;
 use crate::Ends;
+use crate::MOST_EDGES;
+use crate::MOST_LABELS;
 ghost use mathlib.Core.Path.{_≡_};
 ghost use Prim.Native.Nat.{_≤_};
 ghost use Rattle.switch.specs.Conduction.{channelOf};
 ghost use Rattle.switch.specs.Records.{edgeOf, LabelsFit, EdgesFit};
+ghost use Rattle.switch.specs.Modules.{mostEdges};
 ghost use Rattle.switch.specs.Model.{isP, transistorWord, onWord, onWords, endsOf};
 
 // Whether an edge is p-channel in a type with this output node.
@@ -31,7 +34,7 @@ fn transistor_word(p: bool, ones: u64, zeros: u64) -> u64
 }
 
 // The vectors under which an edge is on: one of its transistors is.
-fn on_word(e: Edge, output: u8, ones: &[u64; 12], zeros: &[u64; 12]) -> u64
+fn on_word(e: Edge, output: u8, ones: &[u64; MOST_LABELS], zeros: &[u64; MOST_LABELS]) -> u64
     requires { ⌜ LabelsFit e ⌝ }
     ensures { λ r. ⌜ r ≡ onWord output (now (ones .entry)) (now (zeros .entry)) (edgeOf e) ⌝ }
 {
@@ -50,16 +53,16 @@ fn on_word(e: Edge, output: u8, ones: &[u64; 12], zeros: &[u64; 12]) -> u64
 
 // The on words of the first `count` edges.
 pub fn on_words(
-    edges: [Edge; 64],
+    edges: [Edge; MOST_EDGES],
     count: usize,
     output: u8,
-    ones: &[u64; 12],
-    zeros: &[u64; 12],
-) -> [u64; 64]
+    ones: &[u64; MOST_LABELS],
+    zeros: &[u64; MOST_LABELS],
+) -> [u64; MOST_EDGES]
     requires { ⌜ EdgesFit edges count ⌝ }
     ensures { λ r. ⌜ r ≡ onWords output (now (ones .entry)) (now (zeros .entry)) edges count ⌝ }
 {
-    let mut on = [0u64; 64];
+    let mut on = [0u64; MOST_EDGES];
     let mut i: usize = 0;
     while i < count {
         let e = edges[i];
@@ -70,12 +73,12 @@ pub fn on_words(
 }
 
 // The nodes of the first `count` edges.
-pub fn ends_of(edges: [Edge; 64], count: usize) -> Ends
-    requires { ⌜ count ≤ 64 ⌝ }
+pub fn ends_of(edges: [Edge; MOST_EDGES], count: usize) -> Ends
+    requires { ⌜ count ≤ mostEdges ⌝ }
     ensures { λ r. ⌜ r ≡ endsOf edges count ⌝ }
 {
-    let mut firsts = [0u8; 64];
-    let mut seconds = [0u8; 64];
+    let mut firsts = [0u8; MOST_EDGES];
+    let mut seconds = [0u8; MOST_EDGES];
     let mut i: usize = 0;
     while i < count {
         let e = edges[i];

@@ -5,12 +5,21 @@ pub mod joining;
 mod rounds;
 mod settings;
 
+// The limits of a module type: its edges, its nodes (0 to 31), its labels, and the labels of one edge.
+pub const MOST_EDGES: usize = 64;
+
+pub const MOST_NODES: usize = 32;
+
+pub const MOST_LABELS: usize = 12;
+
+pub const MOST_PARALLEL: usize = 4;
+
 // An edge of a module type: two nodes, and one to four labels of parallel transistors.
 pub struct Edge {
     pub first: u8,
     pub second: u8,
     pub count: u8,
-    pub labels: [u8; 4],
+    pub labels: [u8; MOST_PARALLEL],
 }
 
 // A module type: highest node, output node, number of labels, and its edges, in the first `count` places.
@@ -19,13 +28,13 @@ pub struct ModuleType {
     pub output: u8,
     pub labels: u8,
     pub count: usize,
-    pub edges: [Edge; 64],
+    pub edges: [Edge; MOST_EDGES],
 }
 
 // A word for each node and each rail: under which of 64 vectors the node is joined to it.
 pub struct Rails {
-    pub supply: [u64; 32],
-    pub ground: [u64; 32],
+    pub supply: [u64; MOST_NODES],
+    pub ground: [u64; MOST_NODES],
 }
 
 // The known-1 plane and the known-0 plane of one value under 64 vectors.
@@ -36,6 +45,6 @@ pub struct Planes {
 
 // The nodes of a type's edges, in two columns.
 pub struct Ends {
-    pub firsts: [u8; 64],
-    pub seconds: [u8; 64],
+    pub firsts: [u8; MOST_EDGES],
+    pub seconds: [u8; MOST_EDGES],
 }

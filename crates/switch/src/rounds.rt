@@ -1,16 +1,19 @@
 // Joining by synchronous rounds, 64 vectors to a word: a round hands on along each edge what its ends had before the round.
+use crate::MOST_EDGES;
+use crate::MOST_NODES;
 ghost use mathlib.Core.Path.{_≡_};
 ghost use Prim.Native.Nat.{_<_};
 ghost use lib.ListN.{length};
+ghost use Rattle.switch.specs.Modules.{mostNodes};
 ghost use Rattle.switch.specs.Model.{NodesInRange, roundTo, joinedWords, Compared};
 
-fn same(a: &[u64; 32], b: &[u64; 32]) -> bool
-    requires { ⌜ length (now a) ≡ 32 ⌝ }
-    requires { ⌜ length (now b) ≡ 32 ⌝ }
+fn same(a: &[u64; MOST_NODES], b: &[u64; MOST_NODES]) -> bool
+    requires { ⌜ length (now a) ≡ mostNodes ⌝ }
+    requires { ⌜ length (now b) ≡ mostNodes ⌝ }
     ensures { λ r. ⌜ Compared (now (a .entry)) (now (b .entry)) r ⌝ }
 {
     let mut m: usize = 0;
-    while m < 32 {
+    while m < MOST_NODES {
         if a[m] != b[m] {
             return false;
         }
@@ -21,12 +24,12 @@ fn same(a: &[u64; 32], b: &[u64; 32]) -> bool
 
 // One round: `next` holds the words of the round before, and gains what each on edge hands on.
 fn round(
-    firsts: &[u8; 64],
-    seconds: &[u8; 64],
-    on: &[u64; 64],
+    firsts: &[u8; MOST_EDGES],
+    seconds: &[u8; MOST_EDGES],
+    on: &[u64; MOST_EDGES],
     count: usize,
-    joined: &[u64; 32],
-    next: &mut [u64; 32],
+    joined: &[u64; MOST_NODES],
+    next: &mut [u64; MOST_NODES],
 )
     requires { ⌜ NodesInRange (now firsts) (now seconds) count ⌝ }
     requires { ⌜ now next ≡ now joined ⌝ }
@@ -45,17 +48,17 @@ fn round(
 
 // The nodes joined to a rail: rounds go on until one adds nothing.
 pub fn joined_to(
-    firsts: &[u8; 64],
-    seconds: &[u8; 64],
-    on: &[u64; 64],
+    firsts: &[u8; MOST_EDGES],
+    seconds: &[u8; MOST_EDGES],
+    on: &[u64; MOST_EDGES],
     count: usize,
     rail: usize,
-) -> [u64; 32]
+) -> [u64; MOST_NODES]
     requires { ⌜ NodesInRange (now firsts) (now seconds) count ⌝ }
-    requires { ⌜ rail < 32 ⌝ }
+    requires { ⌜ rail < mostNodes ⌝ }
     ensures { λ r. ⌜ r ≡ joinedWords (now (firsts .entry)) (now (seconds .entry)) (now (on .entry)) count rail ⌝ }
 {
-    let mut joined = [0u64; 32];
+    let mut joined = [0u64; MOST_NODES];
     joined[rail] = !0u64;
     loop {
         let mut next = joined;

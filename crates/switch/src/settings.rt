@@ -1,10 +1,11 @@
 // The settings of labels, 64 at a time: their planes, and the places of those that count.
+use crate::MOST_LABELS;
 ghost use mathlib.Core.Path.{_≡_};
 ghost use Prim.Native.Nat.{_<_};
 ghost use Rattle.switch.specs.Model.{settingOnes, settingZeros, firstOnes};
 
 // The known-1 planes of the settings 64 block to 64 block + 63.
-pub fn setting_ones(block: usize) -> [u64; 12]
+pub fn setting_ones(block: usize) -> [u64; MOST_LABELS]
     ensures { λ r. ⌜ r ≡ settingOnes block ⌝ }
 {
     let mut ones = [
@@ -22,7 +23,7 @@ pub fn setting_ones(block: usize) -> [u64; 12]
         0,
     ];
     let mut l: usize = 6;
-    while l < 12 {
+    while l < MOST_LABELS {
         if (block >> (l - 6)) % 2 == 1 {
             ones[l] = !0u64;
         }
@@ -32,13 +33,13 @@ pub fn setting_ones(block: usize) -> [u64; 12]
 }
 
 // The known-0 planes of the same settings: every label is known.
-pub fn setting_zeros(block: usize) -> [u64; 12]
+pub fn setting_zeros(block: usize) -> [u64; MOST_LABELS]
     ensures { λ r. ⌜ r ≡ settingZeros block ⌝ }
 {
     let ones = setting_ones(block);
-    let mut zeros = [0u64; 12];
+    let mut zeros = [0u64; MOST_LABELS];
     let mut l: usize = 0;
-    while l < 12 {
+    while l < MOST_LABELS {
         zeros[l] = !ones[l];
         l += 1;
     }

@@ -9,6 +9,7 @@ use lib.Arith.{lt-one}
 use lib.Bits.{bitAnd, bitOr, and-shr, or-shr, and-step, or-step}
 use lib.Pow.{pow-pos, pow-mono, shr-shr, high}
 use Rattle.words.specs.Bits.{bit, ofBool, pack, word}
+use Rattle.words.specs.Statements.{BitPack, PackBits}
 
 -- ---- one bit
 
@@ -81,7 +82,7 @@ bit-block-high n b v l h = rw (← (shr-shr (2 ^ n * b + v) n l), mul-comm (2 ^ 
 
 -- ---- packing
 
-pub bit-pack : (n : ℕ) (f : ℕ → ℕ) → ((v : ℕ) → v < n → f v ≤ 1) → (v : ℕ) → v < n → bit (pack n f) v ≡ f v
+pub bit-pack : BitPack
 unfolding pack
 bit-pack zero f d v l = absurd (not-suc-le-zero l)
 bit-pack (suc n) f d zero l = rw bit-here (omega (arith, d 0 l))
@@ -103,7 +104,7 @@ pack-cong (suc n) f g e =
     omega (arith, e 0 (omega arith), pack-cong n (λ (u : ℕ). f (suc u)) (λ (u : ℕ). g (suc u)) (λ u k. e (suc u) (omega arith)))
 
 -- a number of n bits is packed from its bits
-pub pack-bits : (n w : ℕ) → w < 2 ^ n → pack n (bit w) ≡ w
+pub pack-bits : PackBits
 unfolding pack
 pack-bits zero w h = sym (lt-one h)
 pack-bits (suc n) w h =

@@ -8,10 +8,12 @@ use native.Mathlib.Omega.{arith}
 use lib.Count.{ones, trailingZeros}
 use lib.Dec.{ltb}
 use lib.ListN.{getD}
-use borrow.Author.Tests.{lt-ltb, le-ltb}
 use Rattle.words.specs.Bits.{bit, word, sumTo, firstTo}
-use Rattle.words.specs.Rows.{markAt, upTo, rowOf, marksOf, firstMarkOf}
+use Rattle.words.specs.Tables.{upTo}
+use Rattle.words.specs.Rows.{markAt, rowOf, marksOf, firstMarkOf}
+use Rattle.words.specs.Statements.{RowMark, RowMarks, RowFirst}
 use Rattle.words.proofs.Laws.{bit-zero, bit-word}
+use Rattle.words.proofs.Tables.{up-below, up-past}
 use Rattle.words.proofs.Counting.{sum-add, sum-cong, sum-past, ones-sum}
 use Rattle.words.proofs.Counting.{first-mark-meets, first-cong, first-past, first-add-found, first-add-none, firstFrom, trailing-first}
 
@@ -32,7 +34,7 @@ row-word vectors f (suc (suc zero)) h = refl
 row-word vectors f (suc (suc (suc zero))) h = refl
 row-word vectors f (suc (suc (suc (suc w)))) h = absurd (omega arith)
 
-pub row-mark : (vectors : ℕ) (f : ℕ → ℕ) → ((v : ℕ) → f v ≤ 1) → (v : ℕ) → v < 256 → markAt (rowOf vectors f) v ≡ upTo vectors f v
+pub row-mark : RowMark
 unfolding markAt
 row-mark vectors f d v h =
     let w : ℕ = v / 64 in
@@ -42,14 +44,6 @@ row-mark vectors f d v h =
 
 -- ---- what the report says of such a row: its marks are those of the vectors, since it has none past the last
 
-pub up-below : (vectors : ℕ) (f : ℕ → ℕ) (v : ℕ) → v < vectors → upTo vectors f v ≡ f v
-unfolding upTo
-up-below vectors f v h = rw (lt-ltb v vectors h)
-
-pub up-past : (vectors : ℕ) (f : ℕ → ℕ) (v : ℕ) → vectors ≤ v → upTo vectors f v ≡ 0
-unfolding upTo
-up-past vectors f v h = rw (le-ltb v vectors h)
-
 module _ (vectors : ℕ) (f : ℕ → ℕ) (d : (v : ℕ) → f v ≤ 1) (h : vectors ≤ 256) where
   whole : 256 ≡ vectors + (256 - vectors)
   whole = omega arith
@@ -57,21 +51,27 @@ module _ (vectors : ℕ) (f : ℕ → ℕ) (d : (v : ℕ) → f v ≤ 1) (h : ve
   past : (v : ℕ) → v < 256 - vectors → upTo vectors f (vectors + v) ≡ 0
   past v l = up-past vectors f (vectors + v) (omega arith)
 
-  pub row-marks : marksOf (rowOf vectors f) ≡ sumTo vectors f
+  marks-sum : marksOf (rowOf vectors f) ≡ sumTo vectors f
   unfolding marksOf
-  row-marks =
+  marks-sum =
       sum-cong 256 (markAt (rowOf vectors f)) (upTo vectors f) (row-mark vectors f d)
       ∙ ap (λ (n : ℕ). sumTo n (upTo vectors f)) whole
       ∙ sum-past vectors (256 - vectors) (upTo vectors f) past
       ∙ sum-cong vectors (upTo vectors f) f (up-below vectors f)
 
-  pub row-first : firstMarkOf (rowOf vectors f) ≡ firstTo vectors f
+  mark-first : firstMarkOf (rowOf vectors f) ≡ firstTo vectors f
   unfolding firstMarkOf
-  row-first =
+  mark-first =
       first-cong 256 (markAt (rowOf vectors f)) (upTo vectors f) (row-mark vectors f d)
       ∙ ap (λ (n : ℕ). firstTo n (upTo vectors f)) whole
       ∙ first-past vectors (256 - vectors) (upTo vectors f) past
       ∙ first-cong vectors (upTo vectors f) f (up-below vectors f)
+
+pub row-marks : RowMarks
+row-marks = marks-sum
+
+pub row-first : RowFirst
+row-first = mark-first
 
 -- ---- a row of words, a word at a time
 

@@ -1,12 +1,17 @@
--- The laws of a list made from a function: its length, its elements, and that a list with these elements is it.
-use Prim.Native.Nat.{ℕ, zero, suc, _<_, zero-le, suc-le-suc}
+-- The laws of a list made from a function: its length, its elements, and that a list with these elements is it. And those of a list that is filled
+-- from the front: the first n elements are the function's, the others 0.
+use Prim.Native.Nat.{ℕ, zero, suc, _≤_, _<_, zero-le, suc-le-suc}
 use mathlib.Core.Path.{_≡_, refl, ap, sym, _∙_}
-use mathlib.Core.List.{List, [], _∷_}
+use mathlib.Core.Bool.{Bool, true, false}
+use mathlib.Core.List.{List, _∷_}
 use native.Mathlib.Nat.{le-of-suc-le-suc, not-suc-le-zero}
 use native.Mathlib.Decide.{ℕ-discrete}
-use lib.ListN.{length, getD, set, length-set}
+use native.Mathlib.Omega.{arith}
+use borrow.Author.Tests.{ltb-true, ltb-false, lt-ltb, le-ltb}
+use lib.Dec.{ltb}
+use lib.ListN.{length, getD, set, replicate, length-set, length-replicate, getD-replicate}
 use lib.Seq.{ext-getD, getD-set-same, getD-set-other}
-use Rattle.words.specs.Tables.{table}
+use Rattle.words.specs.Tables.{table, upTo}
 
 pub length-table : {A : Type 0} (n : ℕ) (f : ℕ → A) → length (table n f) ≡ n
 unfolding table
@@ -40,3 +45,29 @@ set-table d n f g i h others =
     at j q (yes e) =
         rw e (getD-set-same (table n f) i (g i) d (rw (length-table n f) h))
     at j q (no e) = getD-set-other (table n f) i j (g i) d e ∙ getD-table n f d j q ∙ others j q e
+
+-- ---- filled from the front
+
+pub up-below : (n : ℕ) (f : ℕ → ℕ) (i : ℕ) → i < n → upTo n f i ≡ f i
+unfolding upTo
+up-below n f i h = rw (lt-ltb i n h)
+
+pub up-past : (n : ℕ) (f : ℕ → ℕ) (i : ℕ) → n ≤ i → upTo n f i ≡ 0
+unfolding upTo
+up-past n f i h = rw (le-ltb i n h)
+
+pub fill-none : (m : ℕ) (f : ℕ → ℕ) → replicate m 0 ≡ table m (upTo 0 f)
+fill-none m f =
+    is-table 0 m (upTo 0 f) (replicate m 0) (length-replicate m 0) (λ i h. getD-replicate m i 0 0 h ∙ sym (up-past 0 f i zero-le))
+
+pub fill-more : (m : ℕ) (f : ℕ → ℕ) (i : ℕ) → i < m → set (table m (upTo i f)) i (f i) ≡ table m (upTo (suc i) f)
+fill-more m f i h =
+    ap (set (table m (upTo i f)) i) (sym (up-below (suc i) f i (omega arith)))
+    ∙ set-table 0 m (upTo i f) (upTo (suc i) f) i h (λ j k apart. same j apart (ltb j i) refl)
+  where
+    same : (j : ℕ) → (j ≡ i → ⊥) → (b : Bool) → ltb j i ≡ b → upTo i f j ≡ upTo (suc i) f j
+    same j apart true e = up-below i f j (ltb-true j i e) ∙ sym (up-below (suc i) f j (omega (arith, ltb-true j i e)))
+    same j apart false e = up-past i f j (ltb-false j i e) ∙ sym (up-past (suc i) f j (omega (arith, ltb-false j i e, apart)))
+
+pub getD-fill : (m : ℕ) (f : ℕ → ℕ) (n i : ℕ) → i < n → n ≤ m → getD (table m (upTo n f)) i 0 ≡ f i
+getD-fill m f n i h k = getD-table m (upTo n f) 0 i (omega arith) ∙ up-below n f i h

@@ -1,4 +1,5 @@
--- What the crate `words` means: bits and packing, rows of marks, lists made from functions.
+-- What the crate `words` means: bits and packing, lists made from functions, rows of marks; and the laws on them that other crates rest on.
 pub mod Bits
 pub mod Rows
 pub mod Tables
+pub mod Statements

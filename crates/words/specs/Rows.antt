@@ -3,20 +3,15 @@
 -- 01, "The report": number of marks; first marking vector or 0.
 use Prim.Native.Nat.{ℕ, _+_, _*_, _/_, _%_}
 use mathlib.Core.List.{List, [], _∷_}
-use mathlib.Core.Bool.{cond}
-use lib.Dec.{ltb}
 use lib.ListN.{getD}
 use Rattle.words.specs.Bits.{bit, word, sumTo, firstTo}
+use Rattle.words.specs.Tables.{upTo}
 
 -- the mark of the vector at a position, from 0
 unfoldable pub markAt : List ℕ → ℕ → ℕ
 markAt row v = bit (getD row (v / 64) 0) (v % 64)
 
--- f at the positions of the vectors, of which there are `vectors`, and 0 past the last
-unfoldable pub upTo : ℕ → (ℕ → ℕ) → ℕ → ℕ
-upTo vectors f v = cond (ltb v vectors) (f v) 0
-
--- the row whose mark at each of its vectors is `f`
+-- the row whose mark at each of its vectors, of which there are `vectors`, is f's; past the last it has none
 unfoldable pub rowOf : ℕ → (ℕ → ℕ) → List ℕ
 rowOf vectors f = wordAt 0 ∷ wordAt 1 ∷ wordAt 2 ∷ wordAt 3 ∷ []
   where

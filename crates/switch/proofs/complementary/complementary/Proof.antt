@@ -32,7 +32,7 @@ mul-loop : tie.Need-mul-loop Inv-loop μ-loop
 mul-loop c = omega arith
 
 block-holds-requires : tie.Need-block-holds-requires Inv-loop μ-loop
-block-holds-requires c κs = (c .before .before .before .pre, (c .loop-test .taken, c .before .loop .inv .1))
+block-holds-requires c κs = (c .before .before .before .pre, (omega arith, c .before .loop .inv .1))
 
 returns : tie.Need-returns Inv-loop μ-loop
 unfolding typeOf

@@ -8,7 +8,7 @@ use lib.ListN.{getD}
 use Rattle.switch.specs.Records.{noEdge}
 use Rattle.switch.specs.declared.Edge.{Edge}
 use Rattle.switch.specs.Model.{firstNodes, secondNodes}
-use Rattle.switch.proofs.OnWords.{fill-none, fill-more}
+use Rattle.words.proofs.Tables.{fill-none, fill-more}
 use Rattle.switch.proofs.conduction.ends_of.Statement.{statement}
 use Rattle.switch.proofs.conduction.ends_of.Tie as tie
 

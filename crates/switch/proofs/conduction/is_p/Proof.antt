@@ -5,7 +5,7 @@ use Prim.Native.Nat.{ℕ, _<_}
 use borrow.Author.Tests.{ltb-true, ltb-false}
 use Rattle.switch.specs.Conduction.{Edge}
 use Rattle.switch.specs.Records.{edgeOf}
-use Rattle.switch.proofs.OnWords.{p-inside, n-first-outside, n-second-outside}
+use Rattle.switch.proofs.Channels.{p-inside, n-first-outside, n-second-outside}
 use Rattle.switch.proofs.conduction.is_p.Statement.{statement}
 use Rattle.switch.proofs.conduction.is_p.Tie as tie
 

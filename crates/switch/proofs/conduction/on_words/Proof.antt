@@ -6,7 +6,7 @@ use native.Mathlib.Omega.{arith}
 use lib.ListN.{getD}
 use Rattle.switch.specs.Records.{edgeOf, noEdge}
 use Rattle.switch.specs.Model.{onWord, onWords}
-use Rattle.switch.proofs.OnWords.{fill-none, fill-more}
+use Rattle.words.proofs.Tables.{fill-none, fill-more}
 use Rattle.switch.proofs.conduction.on_words.Statement.{statement}
 use Rattle.switch.proofs.conduction.on_words.Tie as tie
 

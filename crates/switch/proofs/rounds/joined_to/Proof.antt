@@ -45,7 +45,10 @@ again h = reached-again (h .before .pre .0) (h .loop .inv)
 
 same-requires : tie.Need-same-requires Inv-loop μ-loop
 same-requires c κs =
-    let h = c .before .before .before .before .before in (h .loop .inv .long, ap length (is-after (c .before .before)) ∙ again h .long)
+    let h = c .before .before .before .before .before in
+    let before : length (h .loop .joined) ≡ 32 = h .loop .inv .long in
+    let behind : length (c .before .before .round .last .1 .1 .1 .1 .1 .0) ≡ 32 = ap length (is-after (c .before .before)) ∙ again h .long in
+    (omega arith, omega arith)
 
 returns : tie.Need-returns Inv-loop μ-loop
 unfolding after

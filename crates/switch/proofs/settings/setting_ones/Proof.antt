@@ -7,14 +7,13 @@ use native.Mathlib.Numerals.{add-one}
 use native.Mathlib.Omega.{arith}
 use lib.ListN.{set}
 use Rattle.words.specs.Bits.{bit}
-use Rattle.words.specs.Tables.{table}
-use Rattle.switch.proofs.OnWords.{upTo}
+use Rattle.words.specs.Tables.{table, upTo}
 use Rattle.switch.proofs.SettingBlocks.{plane, low-planes, planes-one, planes-zero, settings-of-planes}
 use Rattle.switch.proofs.settings.setting_ones.Statement.{statement}
 use Rattle.switch.proofs.settings.setting_ones.Tie as tie
 
 abbrev Inv-loop : tie.InvT-loop
-Inv-loop block ones₀ l₀ ones l = (6 ≤ l) × (l ≤ 12) × (ones ≡ table 12 (upTo (plane block) l))
+Inv-loop block ones₀ l₀ ones l = (6 ≤ l) × (l ≤ 12) × (ones ≡ table 12 (upTo l (plane block)))
 
 abbrev μ-loop : tie.MeasureT-loop
 μ-loop block ones₀ l₀ ones l = 12 - l

@@ -6,16 +6,16 @@ use native.Mathlib.Numerals.{add-one}
 use native.Mathlib.Omega.{arith}
 use lib.ListN.{getD, set}
 use borrow.Author.Needs.{needs}
-use Rattle.words.specs.Tables.{table}
+use Rattle.words.specs.Tables.{table, upTo}
 use Rattle.switch.specs.Model.{settingOnes}
-use Rattle.switch.proofs.OnWords.{upTo, fill-none}
+use Rattle.words.proofs.Tables.{fill-none}
 use Rattle.switch.proofs.SettingBlocks.{zeroPlane, zero-planes-more, settings-of-zero-planes}
 use Rattle.switch.proofs.settings.setting_zeros.Statement.{statement}
 use Rattle.switch.proofs.settings.setting_zeros.Tie as tie
 
 abbrev Inv-loop : tie.InvT-loop
 Inv-loop block ones zeros₀ l₀ zeros l =
-    (l ≤ 12) × (ones ≡ settingOnes block) × (zeros ≡ table 12 (upTo (zeroPlane block) l))
+    (l ≤ 12) × (ones ≡ settingOnes block) × (zeros ≡ table 12 (upTo l (zeroPlane block)))
 
 abbrev μ-loop : tie.MeasureT-loop
 μ-loop block ones zeros₀ l₀ zeros l = 12 - l
@@ -53,7 +53,7 @@ loop-again c =
       before .1,
       rw add-one
           (ap (λ (zeros : List ℕ). set zeros l ((2 ^ 64 - 1) - getD (c .before .before .setting-ones .result) l 0)) (before .2)
-          ∙ ap (λ (ones : List ℕ). set (table 12 (upTo (zeroPlane block) l)) l ((2 ^ 64 - 1) - getD ones l 0)) (before .1)
+          ∙ ap (λ (ones : List ℕ). set (table 12 (upTo l (zeroPlane block))) l ((2 ^ 64 - 1) - getD ones l 0)) (before .1)
           ∙ zero-planes-more block l (omega arith)),
     )
 

@@ -1,0 +1,41 @@
+-- What the crate promises a caller, as lists and records: the rails' words, and the planes of values under 64 vectors.
+-- A word has a bit for each of 64 vectors.
+use Prim.Native.Nat.{ℕ}
+use mathlib.Core.List.{List}
+use Rattle.words.specs.Bits.{bit, ofBool, word}
+use Rattle.words.specs.Tables.{table}
+use Rattle.switch.specs.Conduction.{Value, at0, at1, atX, ground, supply}
+use Rattle.switch.specs.Modules.{ModuleType, mostNodes, linksOf}
+use Rattle.switch.specs.Deciding.{joins}
+use Rattle.switch.specs.Records.{valueOf, valuesAt}
+use Rattle.switch.specs.declared.Rails.{Rails}
+use Rattle.switch.specs.declared.Planes.{Planes}
+
+-- bit v of node m's word is 1 exactly when m is joined to the rail under vector v. The 64 positions are alike: those past the last vector have bits
+-- too, by what the planes hold there, and only `rowOf` of the crate `words` leaves them out
+unfoldable pub railWords : ModuleType → List ℕ → List ℕ → ℕ → List ℕ
+railWords t ones zeros rail =
+    table mostNodes (λ (m : ℕ). word (λ (v : ℕ). ofBool (joins (linksOf t (valuesAt ones zeros v)) m rail)))
+
+abbrev pub railsOf : ModuleType → List ℕ → List ℕ → Rails
+railsOf t ones zeros = record { supply = railWords t ones zeros supply; ground = railWords t ones zeros ground }
+
+-- a value's bit in the known-1 plane, and in the known-0 plane
+unfoldable pub isAt1 : Value → ℕ
+isAt1 at1 = 1
+isAt1 at0 = 0
+isAt1 atX = 0
+
+unfoldable pub isAt0 : Value → ℕ
+isAt0 at0 = 1
+isAt0 at1 = 0
+isAt0 atX = 0
+
+-- the planes of a value under 64 vectors
+abbrev pub planes : (ℕ → Value) → Planes
+planes values = record { ones = word (λ (v : ℕ). isAt1 (values v)); zeros = word (λ (v : ℕ). isAt0 (values v)) }
+
+-- of an output, from the words that tell under which vectors it is joined to supply, and to ground:
+-- 1 where it is joined to supply, 0 where it is joined to ground, X where it is joined to neither
+abbrev pub planesOf : ℕ → ℕ → Planes
+planesOf toSupply toGround = planes (λ (v : ℕ). valueOf (bit toSupply v) (bit toGround v))

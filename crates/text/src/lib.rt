@@ -1,0 +1,58 @@
+// Text into a lent buffer: bytes and decimal numbers, each at a place, with the place behind it as the answer.
+ghost use mathlib.Core.Path.{_≡_};
+ghost use mathlib.Core.List.{[], _∷_};
+ghost use Prim.Native.Nat.{_+_, _<_, _≤_};
+ghost use lib.ListN.{length};
+ghost use Rattle.text.specs.Decimal.{digitsOf, lengthIn, decimal};
+ghost use Rattle.text.specs.Written.{written};
+
+// One byte.
+pub fn put_byte(out: &mut [u8], at: usize, b: u8) -> usize
+    requires { ⌜ at < length (now out) ⌝ }
+    ensures { λ r. ⌜ (r ≡ at + 1) × (now (out .exit) ≡ written (now (out .entry)) at (b ∷ [])) ⌝ }
+{
+    out[at] = b;
+    at + 1
+}
+
+// All of some bytes.
+pub fn put_bytes(out: &mut [u8], at: usize, bytes: &[u8]) -> usize
+    requires { ⌜ at + length (now bytes) ≤ length (now out) ⌝ }
+    ensures { λ r. ⌜ (r ≡ at + length (now (bytes .entry))) × (now (out .exit) ≡ written (now (out .entry)) at (now (bytes .entry))) ⌝ }
+{
+    let mut i: usize = 0;
+    while i < bytes.len() {
+        out[at + i] = bytes[i];
+        i += 1;
+    }
+    at + i
+}
+
+// How many decimal digits a number has.
+fn digits(n: u64) -> usize
+    ensures { λ r. ⌜ r ≡ lengthIn 20 n ⌝ }
+{
+    let mut left = n;
+    let mut count: usize = 1;
+    while 10 <= left {
+        left = left / 10;
+        count += 1;
+    }
+    count
+}
+
+// A number in decimal. It has at most 20 digits.
+pub fn put_number(out: &mut [u8], at: usize, n: u64) -> usize
+    requires { ⌜ at + 20 ≤ length (now out) ⌝ }
+    ensures { λ r. ⌜ (r ≡ at + length (decimal n)) × (now (out .exit) ≡ written (now (out .entry)) at (decimal n)) ⌝ }
+{
+    let count = digits(n);
+    let mut left = n;
+    let mut i = count;
+    while 0 < i {
+        i -= 1;
+        out[at + i] = (left % 10) as u8 + 48;
+        left = left / 10;
+    }
+    at + count
+}

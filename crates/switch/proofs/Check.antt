@@ -18,7 +18,7 @@ use Rattle.switch.specs.Modules.{ModuleType, linksOf, settingOf}
 use Rattle.switch.specs.Deciding.{joins, allBelow, oneRail, isComplementary}
 use Rattle.switch.specs.Records.{edgesOf, typeOf, Given, valuesAt}
 use Rattle.switch.specs.Promises.{railWords, railsOf}
-use Rattle.switch.specs.Model.{settingOnes, settingZeros, firstOnes, BlockVerdict}
+use Rattle.switch.specs.Model.{settingOnes, settingZeros, BlockVerdict}
 use Rattle.switch.specs.declared.Rails.{Rails}
 use Rattle.switch.specs.declared.ModuleType.{ModuleType as TypeRecord}
 use Rattle.switch.proofs.Paths.{links-cong}
@@ -26,7 +26,9 @@ use Rattle.switch.proofs.Deciding.{same-test, all-below}
 use Rattle.switch.proofs.Outputs.{bit-railWords}
 use Rattle.switch.proofs.RailWords.{set-bit, bit-set, railWords-lt}
 use Rattle.switch.proofs.Ranges.{given-type, given-edges}
-use Rattle.switch.proofs.SettingBlocks.{setting-values, firstOnes-lt, bit-firstOnes}
+use Rattle.switch.proofs.SettingBlocks.{setting-values}
+use Rattle.words.proofs.FirstOnes.{firstOnes-lt, bit-firstOnes}
+use Rattle.words.specs.Bits.{firstOnes}
 
 -- ---- the word of a block
 

@@ -1,23 +1,19 @@
 -- The planes of 64 settings: a label below 6 has one pattern in every block, any other label is all ones or all zeros by a bit of the block, and the
--- known-0 plane is the complement. With them, the ones at the first places of a word, and that the planes give the settings' values. Assumes nothing.
+-- known-0 plane is the complement. So the planes give the settings' values. Assumes nothing.
 use mathlib.Core.Path.{_≡_, refl, sym, ap, _∙_}
-use mathlib.Core.Bool.{Bool, true, false}
 use mathlib.Core.List.{List, [], _∷_}
 use Prim.Native.Nat.{ℕ, zero, suc, _+_, _-_, _*_, _^_, _≤_, _<_}
 use native.Mathlib.Omega.{arith}
-use lib.Dec.{ltb}
 use lib.ListN.{getD, set}
 use lib.Seq.{set-getD}
-use lib.Pow.{pow-mono, pow-pos}
-use borrow.Author.Tests.{lt-ltb, ltb-true, ltb-false}
-use Rattle.words.specs.Bits.{bit, ofBool, pack, word}
+use Rattle.words.specs.Bits.{bit, pack, word}
 use Rattle.words.specs.Tables.{table, upTo}
-use Rattle.words.proofs.Laws.{bit-le-one, bit-past, ofBool-le-one, bit-not, bit-ones, bit-block, bit-block-high}
+use Rattle.words.proofs.Laws.{bit-le-one, bit-not, bit-block, bit-block-high}
 use Rattle.words.proofs.Laws.{pack-cong, pack-zero, pack-one, word-of-bits, bit-word, word-lt}
 use Rattle.words.proofs.Tables.{getD-table, up-past, fill-more}
 use Rattle.switch.specs.Modules.{known, settingOf}
 use Rattle.switch.specs.Records.{valueOf, valuesAt}
-use Rattle.switch.specs.Model.{settingOnes, settingZeros, firstOnes}
+use Rattle.switch.specs.Model.{settingOnes, settingZeros}
 
 -- ---- planes
 
@@ -125,28 +121,3 @@ setting-values block v l h k =
       bit-word (λ (u : ℕ). 1 - bit (64 * block + u) l) (λ u. omega arith) v h,
     )
     (value-known (bit (64 * block + v) l))
-
--- ---- the first places of a word
-
-pub firstOnes-lt : (n : ℕ) → firstOnes n < 2 ^ 64
-unfolding firstOnes
-firstOnes-lt n = word-lt (λ (v : ℕ). ofBool (ltb v n)) (λ v. ofBool-le-one (ltb v n))
-
-pub bit-firstOnes : (n v : ℕ) → v < 64 → bit (firstOnes n) v ≡ ofBool (ltb v n)
-unfolding firstOnes
-bit-firstOnes n v h = bit-word (λ (u : ℕ). ofBool (ltb u n)) (λ u. ofBool-le-one (ltb u n)) v h
-
--- a word of n ones
-ones-bit : (n v : ℕ) (b : Bool) → ltb v n ≡ b → bit (2 ^ n - 1) v ≡ ofBool b
-ones-bit n v true e = bit-ones n v (ltb-true v n e)
-ones-bit n v false e = bit-past n (2 ^ n - 1) v (omega (arith, pow-pos n)) (ltb-false v n e)
-
-pub ones-some : (n : ℕ) → n ≤ 64 → 2 ^ n - 1 ≡ firstOnes n
-unfolding firstOnes
-ones-some n h =
-    word-of-bits (2 ^ n - 1) (λ (v : ℕ). ofBool (ltb v n)) (omega (arith, pow-pos n, pow-mono {i = n} {j = 64} h)) (λ v k. ones-bit n v (ltb v n) refl)
-
-pub ones-all : (n : ℕ) → 64 ≤ n → 2 ^ 64 - 1 ≡ firstOnes n
-unfolding firstOnes
-ones-all n h =
-    word-of-bits (2 ^ 64 - 1) (λ (v : ℕ). ofBool (ltb v n)) (omega arith) (λ v k. bit-ones 64 v k ∙ rw (lt-ltb v n (omega arith)))

@@ -96,10 +96,6 @@ settingOnes block = table mostLabels (λ (l : ℕ). word (λ (v : ℕ). bit (64 
 unfoldable pub settingZeros : ℕ → List ℕ
 settingZeros block = table mostLabels (λ (l : ℕ). word (λ (v : ℕ). 1 - bit (64 * block + v) l))
 
--- ones at the first n places of a word, all where n is 64 or more
-unfoldable pub firstOnes : ℕ → ℕ
-firstOnes n = word (λ (v : ℕ). ofBool (ltb v n))
-
 -- under each of the 64 settings of a block that are below `settings`, the output is joined to exactly one rail
 pub record BlockVerdict (t : ModuleType) (block settings : ℕ) (holds : Bool) : Type 0 where
   pub each : holds ≡ true → (v : ℕ) → v < 64 → 64 * block + v < settings → T (oneRail t (settingOf (64 * block + v)))

@@ -1,9 +1,9 @@
 // The complementary check: over all settings of a type's labels, 64 at a time, with only the running verdict kept.
 use crate::ModuleType;
 use crate::joining::joining;
-use crate::settings::first_ones;
 use crate::settings::setting_ones;
 use crate::settings::setting_zeros;
+use words::first_ones;
 ghost use mathlib.Core.Path.{_≡_};
 ghost use Prim.Native.Nat.{_<_, _≤_, _*_};
 ghost use Rattle.switch.specs.Records.{Given, typeOf};

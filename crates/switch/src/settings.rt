@@ -2,7 +2,7 @@
 use crate::MOST_LABELS;
 ghost use mathlib.Core.Path.{_≡_};
 ghost use Prim.Native.Nat.{_<_};
-ghost use Rattle.switch.specs.Model.{settingOnes, settingZeros, firstOnes};
+ghost use Rattle.switch.specs.Model.{settingOnes, settingZeros};
 
 // The known-1 planes of the settings 64 block to 64 block + 63.
 pub fn setting_ones(block: usize) -> [u64; MOST_LABELS]
@@ -44,14 +44,4 @@ pub fn setting_zeros(block: usize) -> [u64; MOST_LABELS]
         l += 1;
     }
     zeros
-}
-
-// Ones at the first n places of a word, at all where n is 64 or more.
-pub fn first_ones(n: usize) -> u64
-    ensures { λ r. ⌜ r ≡ firstOnes n ⌝ }
-{
-    if 64 <= n {
-        return !0u64;
-    }
-    (1u64 << n) - 1
 }

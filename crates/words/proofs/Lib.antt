@@ -1,5 +1,6 @@
 -- Laws on bits, packing, counting, rows of marks and lists made from functions, which other crates cite.
 pub mod Laws
+pub mod FirstOnes
 pub mod Counting
 pub mod Rows
 pub mod Tables

@@ -2,6 +2,7 @@
 -- 01, "Faults, marks and classes": vector v, from 1, is bit (v - 1) mod 64. Positions here count from 0.
 use Prim.Native.Nat.{ℕ, zero, suc, _+_, _*_, _/_, _%_, _^_}
 use mathlib.Core.Bool.{Bool, true, false}
+use lib.Dec.{ltb}
 
 -- the bit of a word at a position: 0 or 1
 unfoldable pub bit : ℕ → ℕ → ℕ
@@ -20,6 +21,10 @@ pack (suc n) f = f 0 + 2 * pack n (λ (v : ℕ). f (suc v))
 -- the word whose bit v is `f v`
 unfoldable pub word : (ℕ → ℕ) → ℕ
 word f = pack 64 f
+
+-- ones at the first n places of a word, at all where n is 64 or more
+unfoldable pub firstOnes : ℕ → ℕ
+firstOnes n = word (λ (v : ℕ). ofBool (ltb v n))
 
 -- the sum of f over the positions below n
 unfoldable pub sumTo : ℕ → (ℕ → ℕ) → ℕ

@@ -1,5 +1,6 @@
-// Rows of marks, 64 vectors to a word: how many marks a row has, and which vector marks first.
+// Words of 64 vectors: how many marks a row of four has, which vector marks first, and a word of ones for some vectors.
 ghost use mathlib.Core.Path.{_≡_};
+ghost use Rattle.words.specs.Bits.{firstOnes};
 ghost use Rattle.words.specs.Rows.{marksOf, firstMarkOf};
 
 // The number of marks of a row.
@@ -29,4 +30,14 @@ pub fn first_mark(row: [u64; 4]) -> u32
         w += 1;
     }
     0
+}
+
+// Ones at the first n places of a word, at all where n is 64 or more.
+pub fn first_ones(n: usize) -> u64
+    ensures { λ r. ⌜ r ≡ firstOnes n ⌝ }
+{
+    if 64 <= n {
+        return !0u64;
+    }
+    (1u64 << n) - 1
 }

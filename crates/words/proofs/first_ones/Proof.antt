@@ -1,12 +1,12 @@
--- `switch::settings::first_ones` meets its contract. Assumes nothing.
+-- `words::first_ones` meets its contract. Assumes nothing.
 use mathlib.Core.Path.{_≡_}
 use Prim.Native.Nat.{ℕ, _-_, _*_, _^_, _%_, _<_}
 use native.Mathlib.Omega.{arith}
 use lib.Pow.{pow-pos, pow-lt}
 use borrow.Author.Needs.{needs}
-use Rattle.switch.proofs.SettingBlocks.{ones-some, ones-all}
-use Rattle.switch.proofs.settings.first_ones.Statement.{statement}
-use Rattle.switch.proofs.settings.first_ones.Tie as tie
+use Rattle.words.proofs.FirstOnes.{ones-some, ones-all}
+use Rattle.words.proofs.first_ones.Statement.{statement}
+use Rattle.words.proofs.first_ones.Tie as tie
 
 returns : tie.Need-returns
 returns c = ones-all (c .before .args .n) (c .if1 .taken)

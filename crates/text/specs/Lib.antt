@@ -1,3 +1,2 @@
--- What the crate `text` means: decimal numbers, and text written into a lent buffer.
+-- What the crate `text` means: decimal numbers.
 pub mod Decimal
-pub mod Written

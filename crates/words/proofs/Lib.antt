@@ -4,3 +4,4 @@ pub mod FirstOnes
 pub mod Counting
 pub mod Rows
 pub mod Tables
+pub mod WrittenLaws

@@ -2,4 +2,5 @@
 pub mod Bits
 pub mod Rows
 pub mod Tables
+pub mod Written
 pub mod Statements

@@ -1,4 +1,4 @@
--- Text written into a buffer at a place; all else there is as it was.
+-- A list written into a buffer at a place; all else there is as it was.
 use Prim.Native.Nat.{ℕ, _+_}
 use mathlib.Core.List.{List, _++_}
 use lib.ListN.{length, take, drop}

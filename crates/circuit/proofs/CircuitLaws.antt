@@ -1,0 +1,420 @@
+-- What holds of every accepted circuit, and of every refusal. Each stage keeps what specs/Laws says of its list, field by field; at the end of the last stage
+-- stands the circuit, with all of it. That the stages give what reading says is StageLaws.
+use Prim.Native.Nat.{ℕ, zero, suc, _+_, _-_, _≤_, _<_}
+use mathlib.Core.Path.{_≡_, refl, subst, _∙_}
+use mathlib.Core.Bool.{Bool, true, false, cond, not, _&&_}
+use mathlib.Core.List.{List, [], _∷_, _++_}
+use native.Mathlib.Nat.{not-suc-le-zero, le-of-suc-le-suc}
+use native.Mathlib.Decide.{decLt, ℕ-discrete}
+use native.Mathlib.Omega.{arith}
+use borrow.Author.Tests.{ltb-false, eqb-false}
+use lib.Dec.{T, eqb, ltb}
+use lib.ListN.{length, getD, set, length-set, take, drop, List·getD-append}
+use lib.Seq.{getD-set-same, getD-set-other}
+use Rattle.switch.specs.Conduction.{Value}
+use Rattle.switch.specs.Modules.{ModuleType}
+use Rattle.switch.specs.Deciding.{isComplementary}
+use Rattle.circuit.specs.Limits.{mostBytes, mostTypes, mostBridges, mostInstances, mostVectors, mostFaults}
+use Rattle.circuit.specs.Fields.{Cut, clean, broken, field, cutIn, cutFrom, twoBytes}
+use Rattle.circuit.specs.Circuit.{Instance, Listed, noType, faultCount}
+use Rattle.circuit.specs.Known.{typeIn, edgeIn, listedIn, instanceIn, vectorIn, latest, withEdge, edgeAdded, tagOf}
+use Rattle.circuit.specs.Table.{Test, Verdict, passes, refused, firstOf, floats, isEmpty, isUnknown, inputsTests, typeTests, edgeTests, bridgeTests, instanceTests, vectorTests}
+use Rattle.circuit.specs.Reading.{Reading, accepted, refusal, unless}
+use Rattle.circuit.specs.Records.{emptyCircuit}
+use Rattle.circuit.specs.Stages.{Stage, stopped, ifPasses, section, floatingBefore, floatingVerdict, judged, typeStage, endedVerdict, pastVerdict, endingVerdict, afterStage, afterInputs, fromStart, staged}
+use Rattle.circuit.specs.Laws.{Each, TypeSound, TypeGood, ListedGood, InstanceGood, CircuitGood, RefusalGood, AcceptedIsGood, RefusalIsGood}
+use Rattle.circuit.proofs.StageLaws.{staged-is-reading}
+use Rattle.circuit.proofs.Tested.{VerdictGood, TestsGood, first-good, inputs-refuse, types-refuse, edges-refuse, bridges-refuse, instances-refuse, vectors-refuse, inputs-pass, type-pass, edge-pass, bridge-pass, faults-snoc, instance-pass, vector-pass, holds, length-snoc, each-none, each-snoc, never-passes}
+
+-- ---- offsets
+
+-- every offset of a cut is inside the file, or its end
+abbrev Placed : ℕ → Cut → Type 0
+Placed size clean = Unit {0}
+Placed size (broken at) = at ≤ size
+Placed size (field f rest) = (f .at ≤ size) × Placed size rest
+
+cut-placed : (most : ℕ) (file : List ℕ) (at : ℕ) → at ≤ length file → Placed (length file) (cutIn most file at)
+unfolding cutIn
+cut-placed zero file at h = tt
+cut-placed (suc most) file at h =
+    go (eqb at (length file)) (ltb (length file) (at + 3)) (ltb (length file) next) refl (λ q. cut-placed most file next q)
+  where
+    next : ℕ
+    next = at + 3 + twoBytes file (at + 1)
+
+    go : (a b c : Bool) → ltb (length file) next ≡ c → (next ≤ length file → Placed (length file) (cutIn most file next))
+        → Placed (length file) (cond a clean (cond b (broken at) (cond c (broken at)
+        (field (record { at = at; tag = getD file at 0; body = take (twoBytes file (at + 1)) (drop (at + 3) file) }) (cutIn most file next)))))
+    go true b c e more = tt
+    go false true c e more = h
+    go false false true e more = h
+    go false false false e more = (h, more (ltb-false (length file) next e))
+
+-- ---- readings
+
+abbrev ReadingGood : ℕ → Reading → Type 0
+ReadingGood size (accepted c) = CircuitGood c
+ReadingGood size (refusal number place) = RefusalGood size number place
+
+unless-good : (size : ℕ) (v : Verdict) (r : Reading) → VerdictGood size v → (v ≡ passes → ReadingGood size r) → ReadingGood size (unless v r)
+unfolding unless
+unless-good size passes r g later = later refl
+unless-good size (refused n p) r g later = g
+
+stage-good : {A : Type 0} (size : ℕ) (v : Verdict) (s : Stage A) (next : A → Cut → Reading)
+    → VerdictGood size v → (v ≡ passes → ReadingGood size (afterStage s next)) → ReadingGood size (afterStage (ifPasses v s) next)
+unfolding ifPasses afterStage
+stage-good size passes s next g later = later refl
+stage-good size (refused n p) s next g later = g
+
+-- ---- a stage of one tag keeps what each of its fields keeps
+
+module _ (size n : ℕ) {A : Type 0} (tests : A → ℕ → List ℕ → List Test) (add : A → List ℕ → A) (Holds : A → Type 0)
+    (refuses-well : (a : A) (at : ℕ) (body : List ℕ) → at ≤ size → TestsGood size (tests a at body))
+    (keeps : (a : A) (at : ℕ) (body : List ℕ) → Holds a → firstOf (tests a at body) ≡ passes → Holds (add a body))
+    (next : A → Cut → Reading) (goes-on : (a : A) (cut : Cut) → Holds a → Placed size cut → ReadingGood size (next a cut)) where
+  section-good : (a : A) (cut : Cut) → Holds a → Placed size cut → ReadingGood size (afterStage (section n tests add a cut) next)
+  unfolding section afterStage
+  section-good a clean h p = goes-on a clean h p
+  section-good a (broken at) h p = goes-on a (broken at) h p
+  section-good a (field f rest) h p = go (eqb (f .tag) n) (λ k. section-good (add a (f .body)) rest k (p .1))
+    where
+      go : (b : Bool) → (Holds (add a (f .body)) → ReadingGood size (afterStage (section n tests add (add a (f .body)) rest) next))
+          → ReadingGood size
+          (afterStage (cond b (ifPasses (firstOf (tests a (f .at) (f .body))) (section n tests add (add a (f .body)) rest)) (stopped a (field f rest))) next)
+      go true more =
+          stage-good size (firstOf (tests a (f .at) (f .body))) (section n tests add (add a (f .body)) rest) next
+          (first-good size (tests a (f .at) (f .body)) (refuses-well a (f .at) (f .body) (p .0)))
+          (λ e. more (keeps a (f .at) (f .body) h e))
+      go false more = goes-on a (field f rest) h p
+
+-- ---- types
+
+record TypesGood (types : List ModuleType) : Type 0 where
+  few : length types ≤ mostTypes
+  each : Each (λ (i : ℕ) (t : ModuleType). TypeGood t) types
+
+-- types whose latest is not judged yet
+record TypesSound (types : List ModuleType) : Type 0 where
+  few : length types ≤ mostTypes
+  each : Each (λ (i : ℕ) (t : ModuleType). TypeSound t) types
+  judged : (i : ℕ) (none : ModuleType) → suc i < length types → T (isComplementary (getD types i none))
+
+no-types : TypesSound []
+no-types = record { few = omega arith; each = each-none _; judged = λ i none h. absurd (not-suc-le-zero h) }
+
+getD-any : {A : Type 0} (as′ : List A) (i : ℕ) (d e : A) → i < length as′ → getD as′ i d ≡ getD as′ i e
+getD-any [] i d e h = absurd (not-suc-le-zero h)
+getD-any (a ∷ as′) zero d e h = refl
+getD-any (a ∷ as′) (suc i) d e h = getD-any as′ i d e (le-of-suc-le-suc h)
+
+some-length : {A : Type 0} (as′ : List A) → isEmpty as′ ≡ false → 1 ≤ length as′
+unfolding isEmpty
+some-length [] e = let z : _≡_ {A = ℕ} 0 1 = cc in omega arith
+some-length (a ∷ as′) e = omega arith
+
+no-length : {A : Type 0} (as′ : List A) → isEmpty as′ ≡ true → length as′ ≡ 0
+unfolding isEmpty
+no-length [] e = refl
+no-length (a ∷ as′) e = cc
+
+latest-sound : (types : List ModuleType) → isEmpty types ≡ false → TypesSound types → TypeSound (latest types)
+unfolding latest
+latest-sound types some s = let h = some-length types some in s .each (length types - 1) noType (omega arith)
+
+edge-keeps : (types : List ModuleType) (t : ModuleType) → isEmpty types ≡ false → TypesSound types → TypeSound t → TypesSound (set types (length types - 1) t)
+edge-keeps types t some s new =
+    record {
+      few = rw (length-set types (length types - 1) t) (s .few);
+      each = λ i none h. at i none (rw (length-set types (length types - 1) t) at h) (ℕ-discrete i (length types - 1));
+      judged = λ i none h.
+          let q : suc i < length types = (rw (length-set types (length types - 1) t) at h) in
+          rw (getD-set-other types (length types - 1) i t none (omega arith)) (s .judged i none q);
+    }
+  where
+    at : (i : ℕ) (none : ModuleType) → i < length types → Dec (i ≡ length types - 1) → TypeSound (getD (set types (length types - 1) t) i none)
+    at i none h (yes e) = let l = some-length types some in rw (e, getD-set-same types (length types - 1) t none (omega arith)) new
+    at i none h (no e) = rw (getD-set-other types (length types - 1) i t none e) (s .each i none h)
+
+type-keeps : (types : List ModuleType) (t : ModuleType) → TypesGood types → length types < mostTypes → TypeSound t → TypesSound (types ++ (t ∷ []))
+type-keeps types t g room new =
+    record {
+      few = omega (arith, length-snoc types t);
+      each = each-snoc (λ (i : ℕ) (u : ModuleType). TypeSound u) types t (λ i none h. g .each i none h .sound) new;
+      judged = λ i none h.
+          let q : i < length types = omega (arith, length-snoc types t) in
+          rw (List·getD-append types (t ∷ []) none i q) (g .each i none q .complementary);
+    }
+
+floating-refuses : (typeAt : ℕ) (cut : Cut) → floatingVerdict typeAt cut ≡ passes → ⊥
+unfolding floatingVerdict floatingBefore
+floating-refuses typeAt clean e = never-passes e
+floating-refuses typeAt (broken at) e = never-passes e
+floating-refuses typeAt (field f rest) e = go (isUnknown (tagOf (f .tag))) (eqb (f .tag) 1) e
+  where
+    go : (a b : Bool) → cond a (refused 3 (f .at)) (cond b (refused 4 (f .at)) (refused 9 typeAt)) ≡ passes → ⊥
+    go true b q = never-passes q
+    go false true q = never-passes q
+    go false false q = never-passes q
+
+-- types that were judged are complementary, the latest too
+judged-types : (types : List ModuleType) (typeAt : ℕ) (cut : Cut) → TypesSound types → judged types typeAt cut ≡ passes → TypesGood types
+unfolding judged floats latest
+judged-types types typeAt cut s e =
+    record {
+      few = s .few;
+      each = λ i none h.
+          record { sound = s .each i none h; complementary = go (isEmpty types) (isComplementary (latest types)) refl refl e i none h };
+    }
+  where
+    go : (em co : Bool) → isEmpty types ≡ em → isComplementary (latest types) ≡ co
+        → cond em passes (cond (not co) (floatingVerdict typeAt cut) passes) ≡ passes
+        → (i : ℕ) (none : ModuleType) → i < length types → T (isComplementary (getD types i none))
+    go true co em co′ q i none h = absurd (omega (arith, no-length types em))
+    go false false em co q i none h = absurd (floating-refuses typeAt cut q)
+    go false true em co q i none h = at (decLt (suc i) (length types))
+      where
+        at : Dec (suc i < length types) → T (isComplementary (getD types i none))
+        at (yes k) = s .judged i none k
+        at (no k) =
+            let last : i ≡ length types - 1 = omega arith in
+            rw (getD-any types i none noType h, last) (holds (isComplementary (latest types)) co)
+
+module _ (size : ℕ) (next : List ModuleType → Cut → Reading)
+    (goes-on : (types : List ModuleType) (cut : Cut) → TypesGood types → Placed size cut → ReadingGood size (next types cut)) where
+  floating-good : (typeAt : ℕ) (cut : Cut) → typeAt ≤ size → Placed size cut → VerdictGood size (floatingVerdict typeAt cut)
+  unfolding floatingVerdict floatingBefore
+  floating-good typeAt clean h p = omega arith
+  floating-good typeAt (broken at) h p = omega arith
+  floating-good typeAt (field f rest) h p = go (isUnknown (tagOf (f .tag))) (eqb (f .tag) 1)
+    where
+      go : (a b : Bool) → VerdictGood size (cond a (refused 3 (f .at)) (cond b (refused 4 (f .at)) (refused 9 typeAt)))
+      go true b = let q = p .0 in omega arith
+      go false true = let q = p .0 in omega arith
+      go false false = omega arith
+
+  judged-good : (types : List ModuleType) (typeAt : ℕ) (cut : Cut) → typeAt ≤ size → Placed size cut → VerdictGood size (judged types typeAt cut)
+  unfolding judged
+  judged-good types typeAt cut h p = go (isEmpty types) (floats types)
+    where
+      go : (em fl : Bool) → VerdictGood size (cond em passes (cond fl (floatingVerdict typeAt cut) passes))
+      go true fl = tt
+      go false true = floating-good typeAt cut h p
+      go false false = tt
+
+  types-good : (types : List ModuleType) (typeAt : ℕ) (cut : Cut) → TypesSound types → typeAt ≤ size → Placed size cut
+      → ReadingGood size (afterStage (typeStage types typeAt cut) next)
+  unfolding typeStage afterStage edgeAdded
+  types-good types typeAt clean s h p =
+      stage-good size (judged types typeAt clean) (stopped types clean) next (judged-good types typeAt clean h p)
+      (λ e. goes-on types clean (judged-types types typeAt clean s e) p)
+  types-good types typeAt (broken at) s h p =
+      stage-good size (judged types typeAt (broken at)) (stopped types (broken at)) next (judged-good types typeAt (broken at) h p)
+      (λ e. goes-on types (broken at) (judged-types types typeAt (broken at) s e) p)
+  types-good types typeAt (field f rest) s h p =
+      go (eqb (f .tag) 3) (isEmpty types) refl
+      (λ k. types-good (edgeAdded types (edgeIn (f .body))) typeAt rest k h (p .1))
+      (λ k. types-good (types ++ (typeIn (f .body) ∷ [])) (f .at) rest k (p .0) (p .1))
+    where
+      more-edges : Stage (List ModuleType)
+      more-edges = typeStage (edgeAdded types (edgeIn (f .body))) typeAt rest
+
+      more-types : Stage (List ModuleType)
+      more-types = typeStage (types ++ (typeIn (f .body) ∷ [])) (f .at) rest
+
+      edge : Stage (List ModuleType)
+      edge = ifPasses (firstOf (edgeTests (latest types) (f .at) (f .body))) more-edges
+
+      type : Stage (List ModuleType)
+      type = ifPasses (firstOf (typeTests (length types) (f .at) (f .body))) more-types
+
+      as-type : (two : Bool) → TypesGood types → (TypesSound (types ++ (typeIn (f .body) ∷ [])) → ReadingGood size (afterStage more-types next))
+          → ReadingGood size (afterStage (cond two type (stopped types (field f rest))) next)
+      as-type true g more =
+          stage-good size (firstOf (typeTests (length types) (f .at) (f .body))) more-types next
+          (first-good size (typeTests (length types) (f .at) (f .body)) (types-refuse size (f .at) (p .0) (f .body) (length types)))
+          (λ e. let new = type-pass (length types) (f .at) (f .body) e in more (type-keeps types (typeIn (f .body)) g (new .0) (new .1)))
+      as-type false g more = goes-on types (field f rest) g p
+
+      other : (TypesSound (types ++ (typeIn (f .body) ∷ [])) → ReadingGood size (afterStage more-types next))
+          → ReadingGood size (afterStage (ifPasses (judged types typeAt (field f rest)) (cond (eqb (f .tag) 2) type (stopped types (field f rest)))) next)
+      other more =
+          stage-good size (judged types typeAt (field f rest)) (cond (eqb (f .tag) 2) type (stopped types (field f rest))) next
+          (judged-good types typeAt (field f rest) h p)
+          (λ e. as-type (eqb (f .tag) 2) (judged-types types typeAt (field f rest) s e) more)
+
+      go : (three em : Bool) → isEmpty types ≡ em
+          → (TypesSound (edgeAdded types (edgeIn (f .body))) → ReadingGood size (afterStage more-edges next))
+          → (TypesSound (types ++ (typeIn (f .body) ∷ [])) → ReadingGood size (afterStage more-types next))
+          → ReadingGood size (afterStage (cond (three && not em) edge
+          (ifPasses (judged types typeAt (field f rest)) (cond (eqb (f .tag) 2) type (stopped types (field f rest))))) next)
+      go true true em edges types′ = other types′
+      go true false em edges types′ =
+          stage-good size (firstOf (edgeTests (latest types) (f .at) (f .body))) more-edges next
+          (first-good size (edgeTests (latest types) (f .at) (f .body)) (edges-refuse size (f .at) (p .0) (f .body) (latest types)))
+          (λ e. edges (edge-keeps types (withEdge (latest types) (edgeIn (f .body))) em s
+          (edge-pass (latest types) (f .at) (f .body) e (latest-sound types em s))))
+      go false em em′ edges types′ = other types′
+
+-- ---- bridges, instances, vectors
+
+record BridgesGood (bridges : List Listed) : Type 0 where
+  few : length bridges ≤ mostBridges
+  each : Each (λ (i : ℕ) (b : Listed). ListedGood b) bridges
+
+record InstancesGood (P : ℕ) (types : List ModuleType) (bridges : List Listed) (instances : List Instance) : Type 0 where
+  few : length instances ≤ mostInstances
+  each : Each (InstanceGood P types bridges) instances
+  faults : faultCount types bridges instances ≤ mostFaults
+
+record VectorsGood (P : ℕ) (vectors : List (List Value)) : Type 0 where
+  few : length vectors ≤ mostVectors
+  each : Each (λ (i : ℕ) (v : List Value). length v ≡ P) vectors
+
+bridge-keeps : (bs : List Listed) (at : ℕ) (body : List ℕ) → BridgesGood bs → firstOf (bridgeTests (length bs) at body) ≡ passes
+    → BridgesGood (bs ++ (listedIn body ∷ []))
+bridge-keeps bs at body g e =
+    let new = bridge-pass (length bs) at body e in
+    let room = new .0 in
+    record {
+      few = omega (arith, length-snoc bs (listedIn body));
+      each = each-snoc (λ (i : ℕ) (b : Listed). ListedGood b) bs (listedIn body) (g .each) (new .1);
+    }
+
+instance-keeps : (P : ℕ) (types : List ModuleType) (bridges : List Listed) (is : List Instance) (at : ℕ) (body : List ℕ)
+    → InstancesGood P types bridges is → firstOf (instanceTests P types bridges (length is) (faultCount types bridges is) at body) ≡ passes
+    → InstancesGood P types bridges (is ++ (instanceIn body ∷ []))
+instance-keeps P types bridges is at body g e =
+    let new = instance-pass P types bridges (length is) (faultCount types bridges is) at body e in
+    let room = new .0 in
+    let fits = new .2 in
+    record {
+      few = omega (arith, length-snoc is (instanceIn body));
+      each = each-snoc (InstanceGood P types bridges) is (instanceIn body) (g .each) (new .1);
+      faults = omega (arith, faults-snoc types bridges is (instanceIn body));
+    }
+
+vector-keeps : (P : ℕ) (vs : List (List Value)) (at : ℕ) (body : List ℕ) → VectorsGood P vs → firstOf (vectorTests P (length vs) at body) ≡ passes
+    → VectorsGood P (vs ++ (vectorIn body ∷ []))
+vector-keeps P vs at body g e =
+    let new = vector-pass P (length vs) at body e in
+    let room = new .0 in
+    record {
+      few = omega (arith, length-snoc vs (vectorIn body));
+      each = each-snoc (λ (i : ℕ) (v : List Value). length v ≡ P) vs (vectorIn body) (g .each) (new .1);
+    }
+
+-- ---- the ending, and the whole
+
+past-good : (size tag at : ℕ) → at ≤ size → VerdictGood size (pastVerdict tag at)
+unfolding pastVerdict
+past-good size tag at h = go (isUnknown (tagOf tag))
+  where
+    go : (b : Bool) → VerdictGood size (cond b (refused 3 at) (refused 4 at))
+    go true = omega arith
+    go false = omega arith
+
+past-refuses : (tag at : ℕ) → pastVerdict tag at ≡ passes → ⊥
+unfolding pastVerdict
+past-refuses tag at = go (isUnknown (tagOf tag))
+  where
+    go : (b : Bool) → cond b (refused 3 at) (refused 4 at) ≡ passes → ⊥
+    go true e = never-passes e
+    go false e = never-passes e
+
+ended-good : (size instances vectors : ℕ) → VerdictGood size (endedVerdict size instances vectors)
+unfolding endedVerdict
+ended-good size instances vectors = go (eqb instances 0) (eqb vectors 0)
+  where
+    go : (a b : Bool) → VerdictGood size (cond a (refused 14 size) (cond b (refused 14 size) passes))
+    go true b = omega arith
+    go false true = omega arith
+    go false false = tt
+
+ended-some : (size instances vectors : ℕ) → endedVerdict size instances vectors ≡ passes → (1 ≤ instances) × (1 ≤ vectors)
+unfolding endedVerdict
+ended-some size instances vectors = go (eqb instances 0) (eqb vectors 0) refl refl
+  where
+    go : (a b : Bool) → eqb instances 0 ≡ a → eqb vectors 0 ≡ b → cond a (refused 14 size) (cond b (refused 14 size) passes) ≡ passes
+        → (1 ≤ instances) × (1 ≤ vectors)
+    go true b p q e = absurd (never-passes e)
+    go false true p q e = absurd (never-passes e)
+    go false false p q e = omega (arith, eqb-false instances 0 p, eqb-false vectors 0 q)
+
+ending-good : (size instances vectors : ℕ) (cut : Cut) → Placed size cut → VerdictGood size (endingVerdict size instances vectors cut)
+unfolding endingVerdict
+ending-good size instances vectors clean p = ended-good size instances vectors
+ending-good size instances vectors (broken at) p = omega arith
+ending-good size instances vectors (field f rest) p = past-good size (f .tag) (f .at) (p .0)
+
+ending-some : (size instances vectors : ℕ) (cut : Cut) → endingVerdict size instances vectors cut ≡ passes → (1 ≤ instances) × (1 ≤ vectors)
+unfolding endingVerdict
+ending-some size instances vectors clean e = ended-some size instances vectors e
+ending-some size instances vectors (broken at) e = absurd (never-passes e)
+ending-some size instances vectors (field f rest) e = absurd (past-refuses (f .tag) (f .at) e)
+
+after-inputs-good : (size P : ℕ) (cut : Cut) → (1 ≤ P) × (P ≤ 64) → Placed size cut → ReadingGood size (afterInputs size P cut)
+unfolding afterInputs faultCount
+after-inputs-good size P cut some p =
+    types-good size _ (λ types cut₂ t p₂.
+    section-good size 4 _ _ BridgesGood (λ bs at body h. bridges-refuse size at h body (length bs)) bridge-keeps _ (λ bridges cut₃ b p₃.
+    section-good size 5 _ _ (InstancesGood P types bridges)
+    (λ is at body h. instances-refuse size at h body P types bridges (length is) (faultCount types bridges is)) (instance-keeps P types bridges) _
+    (λ instances cut₄ i p₄.
+    section-good size 6 _ _ (VectorsGood P) (λ vs at body h. vectors-refuse size at h body P (length vs)) (vector-keeps P) _ (λ vectors cut₅ v p₅.
+    unless-good size (endingVerdict size (length instances) (length vectors) cut₅) _ (ending-good size (length instances) (length vectors) cut₅ p₅)
+    (λ e. let there = ending-some size (length instances) (length vectors) cut₅ e in
+    record {
+      inputs = some;
+      few-types = t .few;
+      types = t .each;
+      few-bridges = b .few;
+      bridges = b .each;
+      some-instance = there .0;
+      few-instances = i .few;
+      instances = i .each;
+      few-faults = i .faults;
+      some-vector = there .1;
+      few-vectors = v .few;
+      vectors = v .each;
+    }))
+    [] cut₄ (record { few = omega arith; each = each-none _ }) p₄)
+    [] cut₃ (record { few = omega arith; each = each-none _; faults = omega arith }) p₃)
+    [] cut₂ (record { few = omega arith; each = each-none _ }) p₂)
+    [] 0 cut no-types (omega arith) p
+
+start-good : (size : ℕ) (cut : Cut) → Placed size cut → ReadingGood size (fromStart size cut)
+unfolding fromStart
+start-good size clean p =
+    unless-good size (endingVerdict size 0 0 clean) (accepted emptyCircuit) (ending-good size 0 0 clean p)
+    (λ e. let there = ending-some size 0 0 clean e in absurd (omega arith))
+start-good size (broken at) p =
+    unless-good size (endingVerdict size 0 0 (broken at)) (accepted emptyCircuit) (ending-good size 0 0 (broken at) p)
+    (λ e. let there = ending-some size 0 0 (broken at) e in absurd (omega arith))
+start-good size (field f rest) p = go (eqb (f .tag) 1)
+  where
+    go : (one : Bool) → ReadingGood size
+        (cond one (unless (firstOf (inputsTests (f .at) (f .body))) (afterInputs size (twoBytes (f .body) 0) rest))
+        (unless (pastVerdict (f .tag) (f .at)) (accepted emptyCircuit)))
+    go true =
+        unless-good size (firstOf (inputsTests (f .at) (f .body))) (afterInputs size (twoBytes (f .body) 0) rest)
+        (first-good size (inputsTests (f .at) (f .body)) (inputs-refuse size (f .at) (p .0) (f .body)))
+        (λ e. after-inputs-good size (twoBytes (f .body) 0) rest (inputs-pass (f .at) (f .body) e) (p .1))
+    go false =
+        unless-good size (pastVerdict (f .tag) (f .at)) (accepted emptyCircuit) (past-good size (f .tag) (f .at) (p .0))
+        (λ e. absurd (past-refuses (f .tag) (f .at) e))
+
+staged-good : (file : List ℕ) → ReadingGood (length file) (staged file)
+unfolding staged cutFrom
+staged-good file = go (ltb mostBytes (length file))
+  where
+    go : (long : Bool) → ReadingGood (length file) (cond long (refusal 1 0) (fromStart (length file) (cutFrom file 0)))
+    go true = omega arith
+    go false = start-good (length file) (cutFrom file 0) (cut-placed (suc (length file) - 0) file 0 (omega arith))
+
+pub accepted-is-good : AcceptedIsGood
+accepted-is-good file c e = subst (ReadingGood (length file)) (staged-is-reading file ∙ e) (staged-good file)
+
+pub refusal-is-good : RefusalIsGood
+refusal-is-good file number place e = subst (ReadingGood (length file)) (staged-is-reading file ∙ e) (staged-good file)

@@ -1,0 +1,41 @@
+-- 01's examples of reading, computed on the definitions: the inverter's 42 bytes, the empty file, a broken field.
+use Prim.Native.Nat.{ℕ}
+use mathlib.Core.Path.{_≡_, refl}
+use mathlib.Core.List.{List, [], _∷_, _++_}
+use lib.ListN.{length}
+use Rattle.switch.specs.Conduction.{at0, at1, atX, transistorOn, channelOf, pEnds, edgeOn, anyOf, between, links}
+use Rattle.switch.specs.Modules.{allOf, inRange, typeInRange, edgeInRange, linksOf, settingOf, known}
+use Rattle.switch.specs.Deciding.{joins, renamings, partIn, rename, allBelow, oneRail, isComplementary}
+use Rattle.words.specs.Bits.{bit}
+use Rattle.words.specs.Tables.{table}
+use Rattle.circuit.specs.Fields.{twoBytes, cutIn, cutFrom}
+use Rattle.circuit.specs.Circuit.{primary, exhaustive, numbered, exhaustiveSize, chosenSize, faultCount, userList}
+use Rattle.circuit.specs.Numbers.{signed, choiceOf, choiceInRange, referenceOf, referenceGood}
+use Rattle.circuit.specs.Known.{tagOf, typeIn, edgeIn, bridgeOf, listedIn, referencesIn, instanceIn, letterOf, vectorIn, latest, withEdge, edgeAdded, taken, typeAtAfter, knownAfter}
+use Rattle.circuit.specs.Table.{firstOf, misplaced, isEdge, unjudged, floats, lowSide, badNodes, bridgeInRange, bridgeSuits, isEmpty, listUnsuited, listEmpty, isLetter, inputsTests, typeTests, edgeTests, edgeTestsOf, bridgeTests, instanceTests, vectorTests, bodyTests, isUnknown, fieldTests, endTests}
+use Rattle.circuit.specs.Reading.{accepted, refusal, unless, readFrom, readingOf}
+
+inverter : List ℕ
+inverter = 1 ∷ 0 ∷ 2 ∷ 0 ∷ 1 ∷ 2 ∷ 0 ∷ 3 ∷ 2 ∷ 2 ∷ 1 ∷ 3 ∷ 0 ∷ 3 ∷ 1 ∷ 2 ∷ 0 ∷ 3 ∷ 0 ∷ 3 ∷ 0 ∷ 2 ∷ 0 ∷ 5 ∷ 0 ∷ 4 ∷ 1 ∷ 255 ∷ 0 ∷ 1 ∷ 6 ∷ 0 ∷ 1 ∷ 48 ∷ 6 ∷ 0 ∷ 1 ∷ 49 ∷ 6 ∷ 0 ∷ 1 ∷ 88 ∷ []
+
+size : length inverter ≡ 42
+unfolding inverter
+size = refl
+
+read-inverter : readingOf inverter ≡ accepted (record {
+  inputs = 1;
+  types = record { highest = 2; output = 2; labels = 1; edges = record { first = 1; second = 2; labels = 0 ∷ [] } ∷ record { first = 0; second = 2; labels = 0 ∷ [] } ∷ [] } ∷ [];
+  bridges = [];
+  instances = record { type = 1; choice = exhaustive; references = primary 1 ∷ [] } ∷ [];
+  vectors = (at0 ∷ []) ∷ (at1 ∷ []) ∷ (atX ∷ []) ∷ [];
+})
+unfolding inverter readingOf readFrom unless fieldTests endTests firstOf bodyTests inputsTests typeTests edgeTests edgeTestsOf bridgeTests instanceTests vectorTests isUnknown misplaced isEdge unjudged floats lowSide badNodes isEmpty listUnsuited listEmpty isLetter tagOf typeIn edgeIn referencesIn instanceIn letterOf vectorIn latest withEdge edgeAdded taken typeAtAfter knownAfter signed choiceOf choiceInRange referenceOf referenceGood twoBytes cutIn cutFrom numbered exhaustiveSize chosenSize faultCount userList bit table joins renamings partIn rename allBelow oneRail isComplementary allOf inRange typeInRange edgeInRange linksOf settingOf known transistorOn channelOf pEnds edgeOn anyOf between links
+read-inverter = refl
+
+read-empty : readingOf [] ≡ refusal 14 0
+unfolding readingOf readFrom unless endTests firstOf unjudged cutIn cutFrom between isEmpty
+read-empty = refl
+
+read-one-byte : readingOf (1 ∷ []) ≡ refusal 2 0
+unfolding readingOf readFrom unless cutIn cutFrom twoBytes
+read-one-byte = refl

@@ -1,0 +1,42 @@
+-- The laws of a list in n places: one element more, one element changed, and none at all.
+use Prim.Native.Nat.{ℕ, zero, suc, _<_}
+use mathlib.Core.Path.{_≡_, refl, sym, ap, _∙_}
+use mathlib.Core.List.{List, [], _∷_, _++_}
+use native.Mathlib.Decide.{decLt}
+use native.Mathlib.Omega.{arith}
+use lib.ListN.{length, getD, set, replicate, length-append, length-replicate, getD-replicate, List·getD-append, List·getD-eq-default}
+use lib.Seq.{getD-append-seam, getD-set-same, getD-set-other}
+use Rattle.words.specs.Tables.{table}
+use Rattle.words.proofs.Tables.{getD-table, set-table, is-table, table-cong}
+use Rattle.circuit.specs.Records.{padded}
+
+module _ {A : Type 0} (none : A) where
+  pub getD-padded : (n : ℕ) (as′ : List A) (d : A) (i : ℕ) → i < n → getD (padded n none as′) i d ≡ getD as′ i none
+  unfolding padded
+  getD-padded n as′ d i h = getD-table n (λ (j : ℕ). getD as′ j none) d i h
+
+  pub padded-nil : (n : ℕ) → padded n none [] ≡ replicate n none
+  unfolding padded
+  padded-nil n = sym (is-table none n (λ (i : ℕ). none) (replicate n none) (length-replicate n none) (λ i h. getD-replicate n i none none h))
+
+  -- what stands elsewhere is as it was when an element is put behind the last
+  elsewhere : (as′ : List A) (a : A) (j : ℕ) → (j ≡ length as′ → ⊥) → getD as′ j none ≡ getD (as′ ++ (a ∷ [])) j none
+  elsewhere as′ a j other = go (decLt j (length as′))
+    where
+      go : Dec (j < length as′) → getD as′ j none ≡ getD (as′ ++ (a ∷ [])) j none
+      go (yes h) = sym (List·getD-append as′ (a ∷ []) none j h)
+      go (no h) =
+          List·getD-eq-default as′ none (omega arith)
+          ∙ sym (List·getD-eq-default (as′ ++ (a ∷ [])) none (omega (arith, length-append as′ (a ∷ []))))
+
+  pub padded-snoc : (n : ℕ) (as′ : List A) (a : A) → length as′ < n → set (padded n none as′) (length as′) a ≡ padded n none (as′ ++ (a ∷ []))
+  unfolding padded
+  padded-snoc n as′ a h =
+      ap (λ (x : A). set (table n (λ (j : ℕ). getD as′ j none)) (length as′) x) (sym (getD-append-seam as′ a [] none))
+      ∙ set-table none n (λ (j : ℕ). getD as′ j none) (λ (j : ℕ). getD (as′ ++ (a ∷ [])) j none) (length as′) h (λ j q other. elsewhere as′ a j other)
+
+  pub padded-set : (n : ℕ) (as′ : List A) (i : ℕ) (a : A) → i < length as′ → i < n → set (padded n none as′) i a ≡ padded n none (set as′ i a)
+  unfolding padded
+  padded-set n as′ i a h q =
+      ap (λ (x : A). set (table n (λ (j : ℕ). getD as′ j none)) i x) (sym (getD-set-same as′ i a none h))
+      ∙ set-table none n (λ (j : ℕ). getD as′ j none) (λ (j : ℕ). getD (set as′ i a) j none) i q (λ j r other. sym (getD-set-other as′ i j a none other))

@@ -1,0 +1,116 @@
+-- What holds of reading, whatever the file: theorems, each with its name. Their proofs are in proofs/: StageLaws, CircuitLaws, FaultLaws, AnswerLaws.
+use Prim.Native.Nat.{ℕ, _≤_, _<_}
+use mathlib.Core.Path.{_≡_}
+use mathlib.Core.Bool.{Bool, true, false, not, _&&_}
+use mathlib.Core.List.{List, map}
+use lib.Dec.{T, eqb, leb}
+use lib.ListN.{length, getD}
+use Rattle.switch.specs.Conduction.{Value, Edge, between}
+use Rattle.switch.specs.Modules.{ModuleType, allOf, inRange}
+use Rattle.switch.specs.Bridges.{Bridge, nodes, input}
+use Rattle.switch.specs.Deciding.{isComplementary}
+use Rattle.circuit.specs.Limits.{mostTypes, mostEdges, mostBridges, mostInstances, mostVectors, mostFaults}
+use Rattle.circuit.specs.Circuit.{Circuit, Instance, Listed, Choice, exhaustive, no-faults, list, typeOfInstance, joinLists, chosenSize, faultsOf, faultCount}
+use Rattle.circuit.specs.Numbers.{referenceGood}
+use Rattle.circuit.specs.Table.{badNodes, listUnsuited, listEmpty}
+use Rattle.circuit.specs.Reading.{Reading, accepted, refusal, readingOf}
+use Rattle.circuit.specs.Answers.{Answers}
+use Rattle.circuit.specs.Stages.{staged}
+use Rattle.circuit.specs.declared.Reading.{Reading as ReadingRecord}
+
+-- ---- what holds of a circuit that was accepted
+
+-- at each place of a list; places are counted from 0, and `none` is what stands past the end
+abbrev pub Each : {A : Type 0} → (ℕ → A → Type 0) → List A → Type 0
+Each {A} Holds as′ = (i : ℕ) (none : A) → i < length as′ → Holds i (getD as′ i none)
+
+-- the ends of an edge keep the channel rule, in a type with h and o
+unfoldable pub endsGood : ℕ → ℕ → Edge → Bool
+endsGood h o e = not (badNodes h o (e .first) (e .second))
+
+-- a type: its numbers and its edges' are in range, its edges are few and keep the channel rule
+pub record TypeSound (t : ModuleType) : Type 0 where
+  pub ranges : T (inRange t)
+  pub few : length (t .edges) ≤ mostEdges
+  pub ends : T (allOf (endsGood (t .highest) (t .output)) (t .edges))
+
+-- and it is complementary
+pub record TypeGood (t : ModuleType) : Type 0 where
+  pub sound : TypeSound t
+  pub complementary : T (isComplementary t)
+
+-- two different nodes 0 to 31, or a node 0 to 31 and a label 0 to 11
+unfoldable pub bridgeGood : Bridge → Bool
+bridgeGood (nodes a b) = leb a 31 && leb b 31 && not (eqb a b)
+bridgeGood (input m l) = leb m 31 && leb l 11
+
+pub record ListedGood (b : Listed) : Type 0 where
+  pub list : T (between 1 127 (b .list))
+  pub bridge : T (bridgeGood (b .bridge))
+
+-- a user list has a number 1 to 127
+unfoldable pub choiceGood : Choice → Bool
+choiceGood exhaustive = true
+choiceGood no-faults = true
+choiceGood (list n) = between 1 127 n
+
+-- an instance after `before` others, of P inputs, these types and these user lists
+pub record InstanceGood (P : ℕ) (types : List ModuleType) (bridges : List Listed) (before : ℕ) (i : Instance) : Type 0 where
+  pub type : T (between 1 (length types) (i .type))
+  pub choice : T (choiceGood (i .choice))
+  pub count : length (i .references) ≡ typeOfInstance types i .labels
+  pub references : T (allOf (referenceGood P before) (i .references))
+  pub suited : listUnsuited (typeOfInstance types i) bridges (i .choice) ≡ false
+  pub filled : listEmpty bridges (i .choice) ≡ false
+
+pub record CircuitGood (c : Circuit) : Type 0 where
+  pub inputs : (1 ≤ c .inputs) × (c .inputs ≤ 64)
+  pub few-types : length (c .types) ≤ mostTypes
+  pub types : Each (λ (i : ℕ) (t : ModuleType). TypeGood t) (c .types)
+  pub few-bridges : length (c .bridges) ≤ mostBridges
+  pub bridges : Each (λ (i : ℕ) (b : Listed). ListedGood b) (c .bridges)
+  pub some-instance : 1 ≤ length (c .instances)
+  pub few-instances : length (c .instances) ≤ mostInstances
+  pub instances : Each (InstanceGood (c .inputs) (c .types) (c .bridges)) (c .instances)
+  pub few-faults : faultCount (c .types) (c .bridges) (c .instances) ≤ mostFaults
+  pub some-vector : 1 ≤ length (c .vectors)
+  pub few-vectors : length (c .vectors) ≤ mostVectors
+  pub vectors : Each (λ (i : ℕ) (v : List Value). length v ≡ c .inputs) (c .vectors)
+
+abbrev pub AcceptedIsGood : Type 0
+AcceptedIsGood = (file : List ℕ) (c : Circuit) → readingOf file ≡ accepted c → CircuitGood c
+
+-- ---- what holds of a refusal
+
+-- a number of the table, and a place in the file or at its end
+pub record RefusalGood (size number place : ℕ) : Type 0 where
+  pub low : 1 ≤ number
+  pub high : number ≤ 14
+  pub inside : place ≤ size
+
+abbrev pub RefusalIsGood : Type 0
+RefusalIsGood = (file : List ℕ) (number place : ℕ) → readingOf file ≡ refusal number place → RefusalGood (length file) number place
+
+-- ---- the faults of instances
+
+-- the size formula is the list's length
+abbrev pub SizeIsLength : Type 0
+SizeIsLength =
+    (types : List ModuleType) (bridges : List Listed) (i : Instance)
+    → length (faultsOf types bridges i) ≡ chosenSize (typeOfInstance types i) bridges (i .choice)
+
+-- the number of faults is that of the rows of all instances
+abbrev pub CountIsRows : Type 0
+CountIsRows =
+    (types : List ModuleType) (bridges : List Listed) (instances : List Instance)
+    → length (joinLists (map (faultsOf types bridges) instances)) ≡ faultCount types bridges instances
+
+-- ---- the code's order of work, and its answer
+
+-- reading stage by stage is reading field by field
+abbrev pub StagedIsReading : Type 0
+StagedIsReading = (file : List ℕ) → staged file ≡ readingOf file
+
+-- the promise of reading is met by one answer only
+abbrev pub AnswersUnique : Type 0
+AnswersUnique = (reading : Reading) (r s : ReadingRecord) → Answers reading r → Answers reading s → r ≡ s

@@ -1,0 +1,20 @@
+-- What the crate `circuit` means, from meaning to model:
+--   Limits, Fields, Circuit, Numbers   the circuit file of 01: its limits, its cut into fields, the circuit that it tells, its signed numbers
+--   Known                              what is known part of the way through a file, and what a field adds
+--   Table                              the refusal table, a list of numbered tests for each field and for the end of the file
+--   Reading                            a file's circuit or refusal: the fields in file order against the table
+--   Records, Answers                   the code's records and answers in those words; the promise of `read`
+--   Laws                               theorems on reading, each with its name
+--   Stages, Sections                   how the code reads, stage by stage, and what the function of each stage promises
+pub mod Limits
+pub mod Fields
+pub mod Circuit
+pub mod Numbers
+pub mod Known
+pub mod Table
+pub mod Reading
+pub mod Records
+pub mod Answers
+pub mod Laws
+pub mod Stages
+pub mod Sections

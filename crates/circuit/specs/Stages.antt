@@ -1,0 +1,148 @@
+-- How the code reads: types with their edges, then bridges, instances and vectors, a stage each, and then the ending.
+-- That this order of work gives what Reading says is proved in proofs/StageLaws.
+use Prim.Native.Nat.{ℕ, zero, suc, _+_, _<_, _≤_}
+use mathlib.Core.Path.{_≡_}
+use mathlib.Core.Bool.{Bool, true, false, cond, not, _&&_}
+use mathlib.Core.List.{List, [], _∷_, _++_, map}
+use lib.Dec.{eqb, ltb}
+use lib.ListN.{length, getD, take, drop}
+use Rattle.switch.specs.Conduction.{Value, Edge}
+use Rattle.switch.specs.Modules.{ModuleType}
+use Rattle.switch.specs.Bridges.{Bridge, nodes, input}
+use Rattle.circuit.specs.Limits.{mostBytes, mostTypes, mostEdges, mostBridges, mostInstances, mostVectors}
+use Rattle.circuit.specs.Fields.{Field, Cut, clean, broken, field, cutFrom, twoBytes}
+use Rattle.circuit.specs.Circuit.{Instance, Listed, faultCount}
+use Rattle.circuit.specs.Known.{typeIn, edgeIn, listedIn, instanceIn, vectorIn, latest, withEdge, edgeAdded, tagOf}
+use Rattle.circuit.specs.Table.{Test, Verdict, passes, refused, firstOf, floats, isEmpty, isUnknown, inputsTests, typeTests, edgeTests, bridgeTests, instanceTests, vectorTests}
+use Rattle.circuit.specs.Reading.{Reading, accepted, refusal, unless}
+use Rattle.circuit.specs.Records.{emptyCircuit}
+use Rattle.circuit.specs.Answers.{verdictOf}
+use Rattle.circuit.specs.declared.fields.Field.{Field as FieldRecord}
+use Rattle.circuit.specs.declared.fields.Step.{Step}
+use Rattle.circuit.specs.declared.fields.Step.the-variants.{Whole, Broken, End}
+use Rattle.circuit.specs.declared.fields.Next.{Next}
+use Rattle.circuit.specs.declared.fields.Next.the-variants.{Found, Other}
+
+-- ---- steps over the file
+
+unfoldable pub bodyOf : List ℕ → FieldRecord → List ℕ
+bodyOf file f = take (f .len) (drop (f .body) file)
+
+unfoldable pub fieldIn : List ℕ → FieldRecord → Field
+fieldIn file f = record { at = f .at; tag = f .tag; body = bodyOf file f }
+
+-- a whole field stands at an offset
+pub record FieldAt (file : List ℕ) (at : ℕ) (f : FieldRecord) : Type 0 where
+  pub place : f .at ≡ at
+  pub inside : f .body + f .len ≤ length file
+  pub further : at < f .body + f .len
+  pub cut : cutFrom file at ≡ field (fieldIn file f) (cutFrom file (f .body + f .len))
+
+unfoldable pub StepIs : List ℕ → ℕ → Step → Type 0
+StepIs file at (Whole f) = FieldAt file at f
+StepIs file at Broken = cutFrom file at ≡ broken at
+StepIs file at End = cutFrom file at ≡ clean
+
+unfoldable pub NextIs : List ℕ → ℕ → ℕ → Next → Type 0
+NextIs file at tag (Found f) = FieldAt file at f × (f .tag ≡ tag)
+NextIs file at tag Other = (f : Field) (rest : Cut) → cutFrom file at ≡ field f rest → f .tag ≡ tag → ⊥
+
+-- ---- a stage
+
+-- a stage stops at the first field that is not its own, or fails by a test of the table
+pub data Stage (A : Type 0) : Type 0 where
+  stopped : A → Cut → Stage A
+  failed : ℕ → ℕ → Stage A
+
+unfoldable pub ifPasses : {A : Type 0} → Verdict → Stage A → Stage A
+ifPasses passes stage = stage
+ifPasses (refused number place) stage = failed number place
+
+-- the fields with one tag, each tested against what was gathered from those before it
+unfoldable pub section : {A : Type 0} → ℕ → (A → ℕ → List ℕ → List Test) → (A → List ℕ → A) → A → Cut → Stage A
+section tag tests add sofar clean = stopped sofar clean
+section tag tests add sofar (broken at) = stopped sofar (broken at)
+section tag tests add sofar (field f rest) =
+    let more = section tag tests add (add sofar (f .body)) rest in
+    let tested = ifPasses (firstOf (tests sofar (f .at) (f .body))) more in
+    cond (eqb (f .tag) tag) tested (stopped sofar (field f rest))
+
+abbrev pub edgeStage : ModuleType → Cut → Stage ModuleType
+edgeStage = section 3 edgeTests (λ (t : ModuleType) (body : List ℕ). withEdge t (edgeIn body))
+
+abbrev pub bridgeStage : List Listed → Cut → Stage (List Listed)
+bridgeStage =
+    section 4 (λ (bs : List Listed). bridgeTests (length bs)) (λ (bs : List Listed) (body : List ℕ). bs ++ (listedIn body ∷ []))
+
+abbrev pub instanceStage : ℕ → List ModuleType → List Listed → List Instance → Cut → Stage (List Instance)
+instanceStage P types bridges =
+    section 5 (λ (is : List Instance). instanceTests P types bridges (length is) (faultCount types bridges is))
+    (λ (is : List Instance) (body : List ℕ). is ++ (instanceIn body ∷ []))
+
+abbrev pub vectorStage : ℕ → List (List Value) → Cut → Stage (List (List Value))
+vectorStage P =
+    section 6 (λ (vs : List (List Value)). vectorTests P (length vs)) (λ (vs : List (List Value)) (body : List ℕ). vs ++ (vectorIn body ∷ []))
+
+-- ---- types, each judged when its edges are read
+
+-- the refusal of a type that floats: 9, unless what stands next is refused before 9 is looked at
+unfoldable pub floatingBefore : ℕ → ℕ → ℕ → Verdict
+floatingBefore tag at typeAt =
+    cond (isUnknown (tagOf tag)) (refused 3 at) (cond (eqb tag 1) (refused 4 at) (refused 9 typeAt))
+
+unfoldable pub floatingVerdict : ℕ → Cut → Verdict
+floatingVerdict typeAt clean = refused 9 typeAt
+floatingVerdict typeAt (broken at) = refused 2 at
+floatingVerdict typeAt (field f rest) = floatingBefore (f .tag) (f .at) typeAt
+
+-- the latest of some types is judged
+unfoldable pub judged : List ModuleType → ℕ → Cut → Verdict
+judged types typeAt cut = cond (isEmpty types) passes (cond (floats types) (floatingVerdict typeAt cut) passes)
+
+unfoldable pub typeStage : List ModuleType → ℕ → Cut → Stage (List ModuleType)
+typeStage types typeAt clean = ifPasses (judged types typeAt clean) (stopped types clean)
+typeStage types typeAt (broken at) = ifPasses (judged types typeAt (broken at)) (stopped types (broken at))
+typeStage types typeAt (field f rest) =
+    let edge = ifPasses (firstOf (edgeTests (latest types) (f .at) (f .body))) (typeStage (edgeAdded types (edgeIn (f .body))) typeAt rest) in
+    let type = ifPasses (firstOf (typeTests (length types) (f .at) (f .body))) (typeStage (types ++ (typeIn (f .body) ∷ [])) (f .at) rest) in
+    let other = ifPasses (judged types typeAt (field f rest)) (cond (eqb (f .tag) 2) type (stopped types (field f rest))) in
+    cond (eqb (f .tag) 3 && not (isEmpty types)) edge other
+
+-- ---- the ending, and the whole
+
+-- after all stages nothing may stand but the end, and an instance and a vector must have been there
+unfoldable pub endedVerdict : ℕ → ℕ → ℕ → Verdict
+endedVerdict size instances vectors = cond (eqb instances 0) (refused 14 size) (cond (eqb vectors 0) (refused 14 size) passes)
+
+unfoldable pub pastVerdict : ℕ → ℕ → Verdict
+pastVerdict tag at = cond (isUnknown (tagOf tag)) (refused 3 at) (refused 4 at)
+
+unfoldable pub endingVerdict : ℕ → ℕ → ℕ → Cut → Verdict
+endingVerdict size instances vectors clean = endedVerdict size instances vectors
+endingVerdict size instances vectors (broken at) = refused 2 at
+endingVerdict size instances vectors (field f rest) = pastVerdict (f .tag) (f .at)
+
+unfoldable pub afterStage : {A : Type 0} → Stage A → (A → Cut → Reading) → Reading
+afterStage (stopped a cut) next = next a cut
+afterStage (failed number place) next = refusal number place
+
+unfoldable pub afterInputs : ℕ → ℕ → Cut → Reading
+afterInputs size P cut =
+    afterStage (typeStage [] 0 cut) λ (types : List ModuleType) (cut₂ : Cut).
+    afterStage (bridgeStage [] cut₂) λ (bridges : List Listed) (cut₃ : Cut).
+    afterStage (instanceStage P types bridges [] cut₃) λ (instances : List Instance) (cut₄ : Cut).
+    afterStage (vectorStage P [] cut₄) λ (vectors : List (List Value)) (cut₅ : Cut).
+    unless (endingVerdict size (length instances) (length vectors) cut₅)
+    (accepted (record { inputs = P; types = types; bridges = bridges; instances = instances; vectors = vectors }))
+
+-- the first field is tag 1, or the file ends before it begins
+unfoldable pub fromStart : ℕ → Cut → Reading
+fromStart size clean = unless (endingVerdict size 0 0 clean) (accepted emptyCircuit)
+fromStart size (broken at) = unless (endingVerdict size 0 0 (broken at)) (accepted emptyCircuit)
+fromStart size (field f rest) =
+    let first = unless (firstOf (inputsTests (f .at) (f .body))) (afterInputs size (twoBytes (f .body) 0) rest) in
+    let other = unless (pastVerdict (f .tag) (f .at)) (accepted emptyCircuit) in
+    cond (eqb (f .tag) 1) first other
+
+unfoldable pub staged : List ℕ → Reading
+staged file = let whole = fromStart (length file) (cutFrom file 0) in cond (ltb mostBytes (length file)) (refusal 1 0) whole

@@ -1,0 +1,199 @@
+-- 01, "Refusal numbers": the table. For each field a list of numbered tests in the order in which they are looked at, and one list for the end of the file.
+-- In one field by number, except that 9 comes right after 4. A place is the offset of the field's tag byte.
+use Prim.Native.Nat.{ℕ, zero, suc, _+_, _-_, _*_, _/_, _%_}
+use mathlib.Core.Bool.{Bool, true, false, cond, not, _&&_, _||_}
+use mathlib.Core.List.{List, [], _∷_, _++_}
+use lib.Dec.{eqb, leb, ltb}
+use lib.ListN.{length, getD}
+use Rattle.switch.specs.Conduction.{Edge, between, anyOf}
+use Rattle.switch.specs.Modules.{ModuleType, allOf, typeInRange, edgeInRange}
+use Rattle.switch.specs.Bridges.{Bridge, nodes, input}
+use Rattle.switch.specs.Deciding.{isComplementary}
+use Rattle.circuit.specs.Limits.{mostTypes, mostEdges, mostBridges, mostInstances, mostVectors, mostFaults}
+use Rattle.circuit.specs.Fields.{Field, twoBytes}
+use Rattle.circuit.specs.Circuit.{Circuit, Instance, Listed, Choice, exhaustive, no-faults, list, typeOfInstance, userList, chosenSize, faultCount}
+use Rattle.circuit.specs.Numbers.{signed, choiceInRange, referenceGood}
+use Rattle.circuit.specs.Known.{Known, Tag, inputs-tag, type-tag, edge-tag, bridge-tag, instance-tag, vector-tag, no-tag, tagOf, typeIn, edgeIn, instanceIn, latest}
+
+-- a test of the table: its number, whether it refuses, and the place that it gives
+pub record Test : Type 0 where
+  pub number : ℕ
+  pub refuses : Bool
+  pub place : ℕ
+
+abbrev pub test : ℕ → Bool → ℕ → Test
+test number refuses place = record { number = number; refuses = refuses; place = place }
+
+pub data Verdict : Type 0 where
+  passes : Verdict
+  refused : ℕ → ℕ → Verdict
+
+-- the first test that refuses
+unfoldable pub firstOf : List Test → Verdict
+firstOf [] = passes
+firstOf (t ∷ ts) = let later = firstOf ts in cond (t .refuses) (refused (t .number) (t .place)) later
+
+-- ---- number 4: a first field that is not tag 1, a later tag 1, an edge not right after its type or an edge of it, or a tag whose place in this order is past
+
+-- the tag `previous` of the field before, 0 before the first
+unfoldable pub misplaced : ℕ → Tag → Bool
+misplaced previous inputs-tag = not (eqb previous 0)
+misplaced previous type-tag = eqb previous 0 || ltb 3 previous
+misplaced previous edge-tag = not (between 2 3 previous)
+misplaced previous bridge-tag = eqb previous 0 || ltb 4 previous
+misplaced previous instance-tag = eqb previous 0 || ltb 5 previous
+misplaced previous vector-tag = eqb previous 0
+misplaced previous no-tag = false
+
+-- ---- number 9: a type is judged when a tag other than 3 has passed 4, or at the end of the file before 14
+
+unfoldable pub isEdge : Tag → Bool
+isEdge inputs-tag = false
+isEdge type-tag = false
+isEdge edge-tag = true
+isEdge bridge-tag = false
+isEdge instance-tag = false
+isEdge vector-tag = false
+isEdge no-tag = false
+
+-- the field before was a type's or one of its edges, so that the latest type has not been judged
+unfoldable pub unjudged : ℕ → Bool
+unjudged previous = between 2 3 previous
+
+unfoldable pub floats : List ModuleType → Bool
+floats types = not (isComplementary (latest types))
+
+-- ---- ranges and rules of one field
+
+-- number 8: edge ends equal, or breaking the channel rule: both ends in 1 to o, or both in o to h or 0
+unfoldable pub lowSide : ℕ → ℕ → ℕ → Bool
+lowSide h o m = eqb m 0 || between o h m
+
+unfoldable pub badNodes : ℕ → ℕ → ℕ → ℕ → Bool
+badNodes h o a b =
+    eqb a b || not (between 1 o a && between 1 o b || lowSide h o a && lowSide h o b)
+
+-- list number 1 to 127; kind 0 joins two different nodes 0 to 31, kind 1 a node 0 to 31 and a label 0 to 11
+unfoldable pub bridgeInRange : ℕ → ℕ → ℕ → ℕ → Bool
+bridgeInRange listNumber kind first second =
+    between 1 127 listNumber && leb first 31
+    && (eqb kind 0 && leb second 31 && not (eqb first second) || eqb kind 1 && leb second 11)
+
+-- a bridge suits a type: its nodes are 0 to h, its label 0 to k - 1
+unfoldable pub bridgeSuits : ModuleType → Bridge → Bool
+bridgeSuits t (nodes a b) = leb a (t .highest) && leb b (t .highest)
+bridgeSuits t (input m l) = leb m (t .highest) && ltb l (t .labels)
+
+unfoldable pub isEmpty : {A : Type 0} → List A → Bool
+isEmpty [] = true
+isEmpty (a ∷ as′) = false
+
+-- number 11: a bridge of the chosen list has a node above h or a label not below k
+unfoldable pub listUnsuited : ModuleType → List Listed → Choice → Bool
+listUnsuited t bridges exhaustive = false
+listUnsuited t bridges no-faults = false
+listUnsuited t bridges (list n) = not (allOf (bridgeSuits t) (userList n bridges))
+
+-- number 12: chosen list has no bridge
+unfoldable pub listEmpty : List Listed → Choice → Bool
+listEmpty bridges exhaustive = false
+listEmpty bridges no-faults = false
+listEmpty bridges (list n) = isEmpty (userList n bridges)
+
+unfoldable pub isLetter : ℕ → Bool
+isLetter b = eqb b 48 || eqb b 49 || eqb b 88
+
+-- ---- the tests of a body, tag by tag
+
+unfoldable pub inputsTests : ℕ → List ℕ → List Test
+inputsTests at body = test 5 (not (eqb (length body) 2)) at ∷ test 7 (not (between 1 64 (twoBytes body 0))) at ∷ []
+
+-- after `count` types
+unfoldable pub typeTests : ℕ → ℕ → List ℕ → List Test
+typeTests count at body =
+    test 5 (not (eqb (length body) 3)) at
+    ∷ test 6 (leb mostTypes count) at
+    ∷ test 7 (not (typeInRange (getD body 0 0) (getD body 1 0) (getD body 2 0))) at
+    ∷ []
+
+-- in a type with h, o, k and `count` edges so far
+unfoldable pub edgeTestsOf : ℕ → ℕ → ℕ → ℕ → ℕ → List ℕ → List Test
+edgeTestsOf h o k count at body =
+    test 5 (not (between 3 6 (length body))) at
+    ∷ test 6 (leb mostEdges count) at
+    ∷ test 7 (not (edgeInRange h k (edgeIn body))) at
+    ∷ test 8 (badNodes h o (getD body 0 0) (getD body 1 0)) at
+    ∷ []
+
+unfoldable pub edgeTests : ModuleType → ℕ → List ℕ → List Test
+edgeTests t at body = edgeTestsOf (t .highest) (t .output) (t .labels) (length (t .edges)) at body
+
+-- after `count` bridges
+unfoldable pub bridgeTests : ℕ → ℕ → List ℕ → List Test
+bridgeTests count at body =
+    test 5 (not (eqb (length body) 4)) at
+    ∷ test 6 (leb mostBridges count) at
+    ∷ test 7 (not (bridgeInRange (getD body 0 0) (getD body 1 0) (getD body 2 0) (getD body 3 0))) at
+    ∷ []
+
+-- with P inputs, after `count` instances with `faults` faults
+unfoldable pub instanceTests : ℕ → List ModuleType → List Listed → ℕ → ℕ → ℕ → List ℕ → List Test
+instanceTests P types bridges count faults at body =
+    let i = instanceIn body in
+    let t = typeOfInstance types i in
+    test 5 (not (eqb (length body % 2) 0 && between 4 26 (length body))) at
+    ∷ test 6 (leb mostInstances count) at
+    ∷ test 7 (not (between 1 (length types) (i .type) && choiceInRange (signed 128 (getD body 1 0)))) at
+    ∷ test 10 (not (eqb (length (i .references)) (t .labels) && allOf (referenceGood P count) (i .references))) at
+    ∷ test 11 (listUnsuited t bridges (i .choice)) at
+    ∷ test 12 (listEmpty bridges (i .choice)) at
+    ∷ test 13 (ltb mostFaults (faults + chosenSize t bridges (i .choice))) at
+    ∷ []
+
+-- with P inputs, after `count` vectors
+unfoldable pub vectorTests : ℕ → ℕ → ℕ → List ℕ → List Test
+vectorTests P count at body =
+    test 5 (not (eqb (length body) P)) at
+    ∷ test 6 (leb mostVectors count) at
+    ∷ test 7 (not (allOf isLetter body)) at
+    ∷ []
+
+unfoldable pub bodyTests : Tag → Circuit → ℕ → List ℕ → List Test
+bodyTests inputs-tag c at body = inputsTests at body
+bodyTests type-tag c at body = typeTests (length (c .types)) at body
+bodyTests edge-tag c at body = edgeTests (latest (c .types)) at body
+bodyTests bridge-tag c at body = bridgeTests (length (c .bridges)) at body
+bodyTests instance-tag c at body =
+    instanceTests (c .inputs) (c .types) (c .bridges) (length (c .instances)) (faultCount (c .types) (c .bridges) (c .instances)) at body
+bodyTests vector-tag c at body = vectorTests (c .inputs) (length (c .vectors)) at body
+bodyTests no-tag c at body = []
+
+-- ---- all tests of a field, and those of the end of the file
+
+unfoldable pub isUnknown : Tag → Bool
+isUnknown inputs-tag = false
+isUnknown type-tag = false
+isUnknown edge-tag = false
+isUnknown bridge-tag = false
+isUnknown instance-tag = false
+isUnknown vector-tag = false
+isUnknown no-tag = true
+
+unfoldable pub fieldTests : Known → Field → List Test
+fieldTests known f =
+    let tag = tagOf (f .tag) in
+    let floating = floats (known .circuit .types) in
+    test 3 (isUnknown tag) (f .at)
+    ∷ test 4 (misplaced (known .previous) tag) (f .at)
+    ∷ test 9 (cond (unjudged (known .previous) && not (isEdge tag)) floating false) (known .typeAt)
+    ∷ bodyTests tag (known .circuit) (f .at) (f .body)
+
+-- file ended with no tag 1, no instance or no vector
+unfoldable pub endTests : Known → ℕ → List Test
+endTests known size =
+    let floating = floats (known .circuit .types) in
+    test 9 (cond (unjudged (known .previous)) floating false) (known .typeAt)
+    ∷ test 14 (eqb (known .previous) 0) size
+    ∷ test 14 (isEmpty (known .circuit .instances)) size
+    ∷ test 14 (isEmpty (known .circuit .vectors)) size
+    ∷ []

@@ -1,0 +1,14 @@
+// The limits of a circuit file.
+pub const MOST_BYTES: usize = 32768;
+
+pub const MOST_TYPES: usize = 16;
+
+pub const MOST_EDGES: usize = 64;
+
+pub const MOST_BRIDGES: usize = 256;
+
+pub const MOST_INSTANCES: usize = 128;
+
+pub const MOST_VECTORS: usize = 256;
+
+pub const MOST_FAULTS: usize = 2048;

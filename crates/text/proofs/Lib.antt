@@ -1,0 +1,2 @@
+-- Laws of decimal numbers, which other crates cite.
+pub mod DecimalLaws

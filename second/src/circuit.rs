@@ -8,6 +8,17 @@ pub enum Value {
     X,
 }
 
+impl Value {
+    /// As in a vector.
+    pub fn letter(self) -> char {
+        match self {
+            Value::Zero => '0',
+            Value::One => '1',
+            Value::X => 'X',
+        }
+    }
+}
+
 #[derive(Clone, Debug, PartialEq, Eq)]
 pub struct Edge {
     pub ends: [u8; 2],
@@ -27,6 +38,16 @@ pub struct ModuleType {
 pub enum Kind {
     Nodes,
     Label,
+}
+
+impl Kind {
+    /// As in the report.
+    pub fn letter(self) -> char {
+        match self {
+            Kind::Nodes => 'n',
+            Kind::Label => 'i',
+        }
+    }
 }
 
 #[derive(Clone, Copy, Debug, PartialEq, Eq)]

@@ -1,18 +1,23 @@
 //! The second grader: reads a circuit file, grades its bridges one path search
-//! at a time, prints the report, and makes or damages circuit files from a seed.
+//! at a time, prints the report or the circuit, makes or damages circuit files
+//! from a seed, and writes files by hand at every limit.
 
+pub mod builder;
 pub mod circuit;
 pub mod conduction;
 pub mod damage;
 pub mod faults;
 pub mod fields;
 pub mod grade;
+pub mod limits;
 pub mod make;
 pub mod networks;
 pub mod random;
 pub mod read;
 pub mod refusal;
 pub mod report;
+pub mod show;
 pub mod spoil;
+pub mod starts;
 pub mod types;
 pub mod write;

@@ -1,5 +1,5 @@
-//! The commands: grade files, make circuits, damage circuits, and tally which
-//! refusals a set of files reaches.
+//! The commands: grade files, show circuits, make circuits, damage circuits, lay
+//! the files at the limits, and tally which refusals a set of files reaches.
 
 use std::ffi::{OsStr, OsString};
 use std::fs::{create_dir_all, write, File};
@@ -8,13 +8,17 @@ use std::path::Path;
 use std::process::ExitCode;
 
 use second::damage::damaged_file;
+use second::limits::limit_files;
 use second::make::made_file;
 use second::read::{read, LONGEST_FILE};
 use second::report::report_of;
+use second::show::show_of;
 
 const USAGE: &str = "usage: second grade [FILE...]
+       second show [FILE...]
        second make OUTDIR SEED COUNT
        second damage OUTDIR SEED COUNT
+       second limits OUTDIR
        second refusals [FILE...]
 ";
 
@@ -28,10 +32,12 @@ fn main() -> ExitCode {
     let command = words.first().and_then(|word| word.to_str());
     let rest = words.get(1..).unwrap_or_default();
     let ending = match command {
-        Some("grade") => grade_files(rest),
+        Some("grade") => print_each(rest, report_of),
+        Some("show") => print_each(rest, show_of),
         Some("refusals") => tally_refusals(rest),
-        Some("make") => lay_files(rest, "made", made_file),
-        Some("damage") => lay_files(rest, "damaged", damaged_file),
+        Some("make") => lay_from_seed(rest, "made", made_file),
+        Some("damage") => lay_from_seed(rest, "damaged", damaged_file),
+        Some("limits") => lay_limits(rest),
         _ => None,
     };
     match ending {
@@ -84,7 +90,8 @@ fn print(text: &[u8]) -> bool {
     is_well(OsStr::new("standard output"), written)
 }
 
-fn grade_files(files: &[OsString]) -> Ending {
+/// Prints the text of each file; more than one file get headings.
+fn print_each(files: &[OsString], text_of: fn(&[u8]) -> String) -> Ending {
     let mut blank = "";
     let all_well = visit_files(files, |name, bytes| {
         let mut text = Vec::new();
@@ -95,7 +102,7 @@ fn grade_files(files: &[OsString]) -> Ending {
             text.extend_from_slice(b" <==\n");
             blank = "\n";
         }
-        text.extend_from_slice(report_of(bytes).as_bytes());
+        text.extend_from_slice(text_of(bytes).as_bytes());
         print(&text)
     });
     Some(all_well)
@@ -115,19 +122,31 @@ fn tally_refusals(files: &[OsString]) -> Ending {
     Some(print(lines.as_bytes()) && all_read)
 }
 
-fn lay_files(words: &[OsString], name: &str, file: fn(u64, u64) -> Vec<u8>) -> Ending {
+fn lay_from_seed(words: &[OsString], name: &str, file: fn(u64, u64) -> Vec<u8>) -> Ending {
     let [directory, seed, count] = words else {
         return None;
     };
     let seed: u64 = seed.to_str()?.parse().ok()?;
     let count: u64 = count.to_str()?.parse().ok()?;
-    let lay_all = || -> io::Result<()> {
-        create_dir_all(directory)?;
-        for index in 0..count {
-            let path = Path::new(directory).join(format!("{name}-{index:05}.cir"));
-            write(path, file(seed, index))?;
-        }
-        Ok(())
+    let files = (0..count).map(|index| (format!("{name}-{index:05}.cir"), file(seed, index)));
+    Some(is_well(directory, lay(directory, files)))
+}
+
+fn lay_limits(words: &[OsString]) -> Ending {
+    let [directory] = words else {
+        return None;
     };
-    Some(is_well(directory, lay_all()))
+    let files = limit_files()
+        .into_iter()
+        .map(|file| (file.name, file.bytes));
+    Some(is_well(directory, lay(directory, files)))
+}
+
+/// Writes files with these names and bytes into the directory.
+fn lay(directory: &OsStr, files: impl Iterator<Item = (String, Vec<u8>)>) -> io::Result<()> {
+    create_dir_all(directory)?;
+    for (name, bytes) in files {
+        write(Path::new(directory).join(name), bytes)?;
+    }
+    Ok(())
 }

@@ -6,6 +6,13 @@ pub struct Refusal {
     pub place: usize,
 }
 
+impl Refusal {
+    /// The one line that is printed for it.
+    pub fn line(&self) -> String {
+        format!("refused {} at {}\n", self.number, self.place)
+    }
+}
+
 /// Refuses with this number and place when `applies` holds.
 pub fn refuse_if(applies: bool, number: u8, place: usize) -> Result<(), Refusal> {
     if applies {

@@ -1,7 +1,6 @@
 //! The report of a grading, byte for byte: a first line and a line for each row,
 //! or the one line of a refusal.
 
-use crate::circuit::Kind;
 use crate::grade::{grade, Graded, Row, WORDS_A_ROW};
 use crate::read::MOST_FAULTS;
 use crate::refusal::Refusal;
@@ -23,15 +22,12 @@ pub fn report(answer: &Result<Graded, Refusal>) -> String {
                 graded.found
             )
         }
-        Err(refusal) => format!("refused {} at {}\n", refusal.number, refusal.place),
+        Err(refusal) => refusal.line(),
     }
 }
 
 fn row_line(row: &Row) -> String {
-    let kind = match row.bridge.kind {
-        Kind::Nodes => 'n',
-        Kind::Label => 'i',
-    };
+    let kind = row.bridge.kind.letter();
     let digits: String = row
         .marks
         .iter()

@@ -73,13 +73,6 @@ pub fn instance_field(instance: &Instance) -> LooseField {
 }
 
 pub fn vector_field(vector: &[Value]) -> LooseField {
-    let body = vector
-        .iter()
-        .map(|value| match value {
-            Value::Zero => b'0',
-            Value::One => b'1',
-            Value::X => b'X',
-        })
-        .collect();
-    LooseField::new(6, body)
+    let letters: String = vector.iter().map(|value| value.letter()).collect();
+    LooseField::new(6, letters.into_bytes())
 }

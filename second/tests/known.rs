@@ -3,9 +3,10 @@
 
 mod support;
 
+use second::builder::FileBuilder;
 use second::circuit::Kind;
 use second::report::{report, report_of};
-use support::{answer, digits, refusal, FileBuilder};
+use support::{answer, digits, refusal, Accepted};
 
 /// The 42 bytes: inputs; type and its two edges; instance; vectors 0, 1, X.
 const INVERTER_FILE: &str = "
@@ -148,7 +149,7 @@ fn nand_with_equal_references() {
 fn references_to_earlier_instances() {
     let two = |first: i16, second: i16| {
         let file = FileBuilder::inputs(1).inverter().instance(1, 0, &[first]);
-        let second_place = file.len();
+        let second_place = file.end();
         let file = file.instance(1, 0, &[second]).vectors(&["0"]);
         (refusal(&file.bytes), second_place)
     };

@@ -6,8 +6,11 @@ use std::io::Write;
 use std::path::PathBuf;
 use std::process::{Command, Output, Stdio};
 
+use second::limits::limit_files;
 use second::make::made_file;
 use second::report::report_of;
+use second::show::show_of;
+use second::starts::inverter_file;
 
 fn run(words: &[&str], input: &[u8]) -> Output {
     let mut child = Command::new(env!("CARGO_BIN_EXE_second"))
@@ -64,20 +67,65 @@ fn grades_named_files() {
 }
 
 #[test]
+fn shows_standard_input() {
+    let file = made_file(1, 0);
+    let output = run(&["show"], &file);
+    assert_eq!(text(&output.stdout), show_of(&file));
+    assert_eq!(output.status.code(), Some(0));
+    let long = run(&["show"], &vec![1; 200_000]);
+    assert_eq!(text(&long.stdout), "refused 1 at 0\n");
+    assert_eq!(long.status.code(), Some(0));
+}
+
+#[test]
+fn shows_named_files() {
+    let directory = fresh_directory("shown");
+    let (one, two) = (directory.join("one.cir"), directory.join("two.cir"));
+    fs::write(&one, inverter_file().bytes).unwrap();
+    fs::write(&two, []).unwrap();
+    let (one, two) = (one.to_str().unwrap(), two.to_str().unwrap());
+    let shown = show_of(&inverter_file().bytes);
+    assert_eq!(text(&run(&["show", one], &[]).stdout), shown);
+    let both = run(&["show", one, two], &[]);
+    let expected = format!("==> {one} <==\n{shown}\n==> {two} <==\nrefused 14 at 0\n");
+    assert_eq!(text(&both.stdout), expected);
+    assert_eq!(both.status.code(), Some(0));
+}
+
+#[test]
 fn tells_a_failed_read() {
     let directory = fresh_directory("failed");
     let good = directory.join("good.cir");
     fs::write(&good, [1]).unwrap();
     let (good, missing) = (good.to_str().unwrap(), "no/such/file.cir");
-    let output = run(&["grade", missing, good, directory.to_str().unwrap()], &[]);
-    assert_eq!(
-        text(&output.stdout),
-        format!("==> {good} <==\nrefused 2 at 0\n")
-    );
-    assert_eq!(output.status.code(), Some(1));
-    let told = text(&output.stderr);
-    assert!(told.contains(missing) && told.contains("failed"), "{told}");
-    assert_eq!(told.lines().count(), 2);
+    for command in ["grade", "show"] {
+        let output = run(&[command, missing, good, directory.to_str().unwrap()], &[]);
+        assert_eq!(
+            text(&output.stdout),
+            format!("==> {good} <==\nrefused 2 at 0\n")
+        );
+        assert_eq!(output.status.code(), Some(1));
+        let told = text(&output.stderr);
+        assert!(told.contains(missing) && told.contains("failed"), "{told}");
+        assert_eq!(told.lines().count(), 2);
+    }
+}
+
+#[test]
+fn lays_the_limits() {
+    let directory = fresh_directory("limits").join("made/on/the/way");
+    let output = run(&["limits", directory.to_str().unwrap()], &[]);
+    assert_eq!(output.status.code(), Some(0));
+    let files = limit_files();
+    assert_eq!(fs::read_dir(&directory).unwrap().count(), files.len());
+    for file in files {
+        let laid = fs::read(directory.join(&file.name)).unwrap();
+        assert!(laid == file.bytes, "{}", file.name);
+    }
+    let in_the_way = directory.join("inputs-1.cir");
+    let failed = run(&["limits", in_the_way.to_str().unwrap()], &[]);
+    assert_eq!(failed.status.code(), Some(1));
+    assert!(text(&failed.stderr).contains("inputs-1.cir"));
 }
 
 #[test]
@@ -115,7 +163,7 @@ fn makes_damages_and_tallies() {
 
 #[test]
 fn wrong_words_show_the_usage() {
-    let wrong: [&[&str]; 7] = [
+    let wrong: [&[&str]; 9] = [
         &[],
         &["judge"],
         &["make"],
@@ -123,6 +171,8 @@ fn wrong_words_show_the_usage() {
         &["make", "out", "one", "2"],
         &["damage", "out", "1", "-2"],
         &["damage", "out", "1", "2", "3"],
+        &["limits"],
+        &["limits", "out", "1"],
     ];
     for words in wrong {
         let output = run(words, &[]);

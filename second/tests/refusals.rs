@@ -3,9 +3,14 @@
 
 mod support;
 
+use second::builder::{FileBuilder, INVERTER};
 use second::grade::grade;
 use second::refusal::Refusal;
-use support::{refusal, FileBuilder, INVERTER};
+use second::starts::{
+    broken_type, nothing, two_inputs, with_bridges, with_edges, with_faults_2048, with_instance,
+    with_instances, with_many_bridges, with_type, with_types, with_vector, with_vectors,
+};
+use support::refusal;
 
 /// What is said of the field, the file before it, its tag and body, the number.
 type Case<'a> = (&'a str, FileBuilder, u8, &'a [u8], u8);
@@ -13,76 +18,12 @@ type Case<'a> = (&'a str, FileBuilder, u8, &'a [u8], u8);
 /// Each field is refused at its own offset, whatever comes after it.
 fn check_at_field(cases: Vec<Case>) {
     for (name, before, tag, body, number) in cases {
-        let place = before.len();
+        let place = before.end();
         let file = before.field(tag, body);
         assert_eq!(refusal(&file.bytes), Some((number, place)), "{name}");
         let longer = file.raw(&[9]);
         assert_eq!(refusal(&longer.bytes), Some((number, place)), "{name}");
     }
-}
-
-fn nothing() -> FileBuilder {
-    FileBuilder::default()
-}
-
-fn two_inputs() -> FileBuilder {
-    FileBuilder::inputs(2)
-}
-
-fn with_type() -> FileBuilder {
-    two_inputs().inverter()
-}
-
-/// List 1 fits the inverter, list 2 has a node and list 3 a label past it.
-fn with_bridges() -> FileBuilder {
-    with_type()
-        .bridge(1, 0, 0, 1)
-        .bridge(2, 0, 0, 3)
-        .bridge(3, 1, 0, 1)
-        .bridge(4, 1, 3, 0)
-}
-
-fn with_instance() -> FileBuilder {
-    with_bridges().instance(1, 0, &[1])
-}
-
-fn with_vector() -> FileBuilder {
-    with_instance().vectors(&["01"])
-}
-
-fn with_types(count: usize) -> FileBuilder {
-    two_inputs().times(count, FileBuilder::inverter)
-}
-
-fn with_edges(count: usize) -> FileBuilder {
-    let file = two_inputs().field(2, &[2, 2, 1]);
-    file.times(count, |file| file.field(3, &[1, 2, 0]))
-}
-
-fn with_many_bridges(count: usize) -> FileBuilder {
-    with_type().times(count, |file| file.bridge(1, 0, 0, 1))
-}
-
-fn with_instances(count: usize) -> FileBuilder {
-    with_bridges().times(count, |file| file.instance(1, 0, &[1]))
-}
-
-fn with_vectors(count: usize) -> FileBuilder {
-    with_instance().times(count, |file| file.vectors(&["0X"]))
-}
-
-/// 2,048 faults: 8 lists of 253 and 4 inverters of 6. List 2 does not fit.
-fn with_faults_2048() -> FileBuilder {
-    with_type()
-        .times(253, |file| file.bridge(1, 0, 0, 1))
-        .times(3, |file| file.bridge(2, 0, 0, 3))
-        .times(8, |file| file.instance(1, 1, &[1]))
-        .times(4, |file| file.instance(1, -1, &[1]))
-}
-
-/// A type whose output is joined to nothing while its label is 1, at offset 5.
-fn broken_type() -> FileBuilder {
-    two_inputs().field(2, &[2, 2, 1]).field(3, &[1, 2, 0])
 }
 
 #[test]
@@ -101,7 +42,7 @@ fn number_1_comes_before_all() {
 #[test]
 fn number_2_for_cut_fields() {
     let file = with_vector();
-    let end = file.len();
+    let end = file.end();
     for tail in [
         &[6u8][..],
         &[6, 0],
@@ -317,7 +258,7 @@ fn number_8_for_edge_ends() {
 #[test]
 fn number_9_stands_after_4() {
     let after = |tag: u8, body: &[u8]| refusal(&broken_type().field(tag, body).bytes);
-    let next = broken_type().len();
+    let next = broken_type().end();
     let cut = broken_type().raw(&[5, 0, 9, 1]);
     assert_eq!(refusal(&cut.bytes), Some((2, next)));
     assert_eq!(after(7, &[]), Some((3, next)));
@@ -344,12 +285,12 @@ fn number_9_stands_after_4() {
 #[test]
 fn number_9_is_given_for_the_latest_type() {
     let second = with_type().field(2, &[2, 2, 1]).field(3, &[0, 2, 0]);
-    let place = with_type().len();
+    let place = with_type().end();
     assert_eq!(refusal(&second.clone().bytes), Some((9, place)));
     let third = second.inverter().instance(1, 0, &[1]).vectors(&["00"]);
     assert_eq!(refusal(&third.bytes), Some((9, place)));
     let sixteenth = with_types(15).field(2, &[2, 2, 1]);
-    let place = with_types(15).len();
+    let place = with_types(15).end();
     let seventeenth = sixteenth.field(2, &[2, 2, 1]);
     assert_eq!(refusal(&seventeenth.bytes), Some((9, place)), "9 before 6");
     let shorted = two_inputs().module(2, 2, 2, &[(1, 2, &[0, 1]), (0, 2, &[0, 1])]);
@@ -441,7 +382,7 @@ fn number_14_at_the_end() {
         with_bridges().vectors(&["00"]),
     ];
     for file in ends {
-        assert_eq!(refusal(&file.bytes), Some((14, file.len())));
+        assert_eq!(refusal(&file.bytes), Some((14, file.end())));
     }
     assert_eq!(refusal(&with_vector().bytes), None);
 }
@@ -452,7 +393,7 @@ fn an_earlier_field_comes_first() {
     let file = file.raw(&[9, 255, 255]);
     assert_eq!(refusal(&file.bytes), Some((8, 17)));
     let file = with_bridges().instance(1, 9, &[1]);
-    let place = file.len() - 7;
+    let place = file.end() - 7;
     assert_eq!(refusal(&file.field(1, &[]).bytes), Some((12, place)));
 }
 
@@ -469,5 +410,5 @@ fn numbers_15_and_22_for_lent_buffers() {
     assert_eq!(ask(23, 5), refused(15, 24));
     let no_vector = with_bridges().instance(1, -1, &[1]);
     let refusal = grade(&no_vector.bytes, 0, 0).map(|_| ());
-    assert_eq!(refusal, refused(14, no_vector.len()));
+    assert_eq!(refusal, refused(14, no_vector.end()));
 }

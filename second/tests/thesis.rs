@@ -8,10 +8,11 @@
 
 mod support;
 
+use second::builder::FileBuilder;
 use second::circuit::Kind;
 use second::grade::{Graded, Row};
 use support::nets::{all_orders, edge, Module, Net};
-use support::FileBuilder;
+use support::Accepted;
 
 /// Input shorts, general shorts, transistor stuck-on faults, as in the tables.
 type Counts = [usize; 3];

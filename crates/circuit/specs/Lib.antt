@@ -5,7 +5,7 @@
 --   Reading                            a file's circuit or refusal: the fields in file order against the table
 --   Records, Answers                   the code's records and answers in those words; the promise of `read`
 --   Laws                               theorems on reading, each with its name
---   Stages, Sections                   how the code reads, stage by stage, and what the function of each stage promises
+--   Stages                             how the crate `reader` reads, stage by stage
 pub mod Limits
 pub mod Fields
 pub mod Circuit
@@ -17,4 +17,3 @@ pub mod Records
 pub mod Answers
 pub mod Laws
 pub mod Stages
-pub mod Sections

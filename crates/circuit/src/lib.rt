@@ -1,16 +1,8 @@
-// The circuit file: any bytes are read as a circuit or refused by the table.
-mod bridges;
-mod edges;
-mod ending;
-mod fields;
-mod instances;
+// The circuit file: the circuit that it tells, its fields, and the refusals of the table.
+pub mod fields;
 pub mod limits;
-mod lists;
-mod ranges;
-pub mod read;
+pub mod ranges;
 pub mod refusal;
-mod types;
-mod vectors;
 
 use crate::limits::MOST_BRIDGES;
 use crate::limits::MOST_INSTANCES;

@@ -1,86 +1,22 @@
-//! Building circuit files by hand for the tests, field by field, and asking for
-//! their answers. It uses none of the crate's own writing.
+//! Asking for the answers of files built by hand, for the tests.
 
 #![allow(dead_code)] // Each test file uses its own part of these.
 
+use second::builder::FileBuilder;
 use second::circuit::Kind;
 use second::grade::{grade, Graded};
+use second::limits::limit_files;
 use second::refusal::Refusal;
 
 pub mod nets;
 
-pub type EdgeRow<'a> = (u8, u8, &'a [u8]);
-
-pub const INVERTER: &[EdgeRow] = &[(1, 2, &[0]), (0, 2, &[0])];
-pub const NAND: &[EdgeRow] = &[(1, 2, &[0, 1]), (2, 3, &[0]), (3, 0, &[1])];
-
-#[derive(Clone, Default)]
-pub struct FileBuilder {
-    pub bytes: Vec<u8>,
+/// Grading a file that is accepted.
+pub trait Accepted {
+    fn graded(&self) -> Graded;
 }
 
-impl FileBuilder {
-    pub fn inputs(count: u16) -> FileBuilder {
-        FileBuilder::default().field(1, &count.to_be_bytes())
-    }
-
-    pub fn field(mut self, tag: u8, body: &[u8]) -> FileBuilder {
-        self.bytes.push(tag);
-        self.bytes
-            .extend_from_slice(&(body.len() as u16).to_be_bytes());
-        self.bytes.extend_from_slice(body);
-        self
-    }
-
-    pub fn module(self, highest: u8, output: u8, labels: u8, edges: &[EdgeRow]) -> FileBuilder {
-        let mut file = self.field(2, &[highest, output, labels]);
-        for &(a, b, labels) in edges {
-            file = file.field(3, &[&[a, b], labels].concat());
-        }
-        file
-    }
-
-    pub fn inverter(self) -> FileBuilder {
-        self.module(2, 2, 1, INVERTER)
-    }
-
-    pub fn nand(self) -> FileBuilder {
-        self.module(3, 2, 2, NAND)
-    }
-
-    pub fn bridge(self, list: u8, kind: u8, first: u8, second: u8) -> FileBuilder {
-        self.field(4, &[list, kind, first, second])
-    }
-
-    pub fn instance(self, type_number: u8, choice: i8, references: &[i16]) -> FileBuilder {
-        let mut body = vec![type_number, choice as u8];
-        for reference in references {
-            body.extend_from_slice(&reference.to_be_bytes());
-        }
-        self.field(5, &body)
-    }
-
-    pub fn vectors(self, vectors: &[&str]) -> FileBuilder {
-        vectors
-            .iter()
-            .fold(self, |file, vector| file.field(6, vector.as_bytes()))
-    }
-
-    /// Repeats a step, for the tests of limits.
-    pub fn times(self, count: usize, step: impl Fn(FileBuilder) -> FileBuilder) -> FileBuilder {
-        (0..count).fold(self, |file, _| step(file))
-    }
-
-    pub fn raw(mut self, bytes: &[u8]) -> FileBuilder {
-        self.bytes.extend_from_slice(bytes);
-        self
-    }
-
-    pub fn len(&self) -> usize {
-        self.bytes.len()
-    }
-
-    pub fn graded(&self) -> Graded {
+impl Accepted for FileBuilder {
+    fn graded(&self) -> Graded {
         answer(&self.bytes).expect("the file is accepted")
     }
 }
@@ -94,6 +30,12 @@ pub fn refusal(bytes: &[u8]) -> Option<(u8, usize)> {
     answer(bytes)
         .err()
         .map(|refusal| (refusal.number, refusal.place))
+}
+
+/// The bytes of one of the files that `limits` lays.
+pub fn limit_file(name: &str) -> Vec<u8> {
+    let file = limit_files().into_iter().find(|file| file.name == name);
+    file.unwrap_or_else(|| panic!("{name} is not laid")).bytes
 }
 
 /// The digits of the one row of an instance that is this bridge as written.

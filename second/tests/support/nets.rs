@@ -1,7 +1,7 @@
 //! Networks as series and parallel groups of edges, every order of their series,
 //! and the module type of a p and an n network, for the thesis's circuits.
 
-use super::{EdgeRow, FileBuilder};
+use second::builder::{EdgeRow, FileBuilder};
 
 #[derive(Clone, Debug, PartialEq, Eq)]
 pub enum Net {

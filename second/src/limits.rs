@@ -1,0 +1,58 @@
+//! Files made by hand at every limit and one past it, around every range end, and
+//! with faults that meet in one field, so that two programs can be compared there.
+//! The numbers stand as in the paper and are not taken from the reader.
+
+use std::fmt::Display;
+
+use crate::builder::FileBuilder;
+
+mod bridges;
+mod bytes;
+mod choices;
+mod counts;
+mod cuts;
+mod edges;
+mod frame;
+mod inputs;
+mod lengths;
+mod orders;
+mod references;
+mod tags;
+mod type_numbers;
+mod types;
+mod vectors;
+
+/// The name says what is in the file; it ends in `.cir`.
+#[derive(Clone, Debug, PartialEq, Eq)]
+pub struct NamedFile {
+    pub name: String,
+    pub bytes: Vec<u8>,
+}
+
+fn named(name: impl Display, file: FileBuilder) -> NamedFile {
+    NamedFile {
+        name: format!("{name}.cir"),
+        bytes: file.bytes,
+    }
+}
+
+/// Every file, each name once, the same on every run.
+pub fn limit_files() -> Vec<NamedFile> {
+    [
+        counts::files(),
+        bytes::files(),
+        cuts::files(),
+        lengths::files(),
+        inputs::files(),
+        types::files(),
+        edges::files(),
+        bridges::files(),
+        type_numbers::files(),
+        choices::files(),
+        references::files(),
+        vectors::files(),
+        tags::files(),
+        orders::files(),
+    ]
+    .concat()
+}

@@ -1,0 +1,166 @@
+//! Numbers 5 to 13 with each other: faults of the field's length, its count, its
+//! numbers, its edge ends, its references and its list.
+
+use super::{after, within, Meeting};
+use crate::builder::FileBuilder;
+use crate::starts::{
+    nothing, two_inputs, with_bridges, with_edges, with_faults_2048, with_instance, with_instances,
+    with_many_bridges, with_type, with_types, with_vectors,
+};
+
+pub fn meetings() -> Vec<Meeting> {
+    [
+        lengths_and_counts(),
+        lengths_and_numbers(),
+        lengths_and_instances(),
+        counts_and_numbers(),
+        counts_and_instances(),
+        numbers_and_others(),
+        references_and_lists(),
+    ]
+    .concat()
+}
+
+fn lengths_and_counts() -> Vec<Meeting> {
+    let (short, good): (&[u8], &[u8]) = (&[1, 0], &[1, 0, 0, 1]);
+    vec![
+        within((5, 6, "tag2"), with_types(16), 2, &[2, 2], &[2, 2, 1]),
+        within((5, 6, "tag3"), with_edges(64), 3, &[1, 2], &[1, 2, 0]),
+        within((5, 6, "tag4"), with_many_bridges(256), 4, short, good),
+        within((5, 6, "tag5"), with_instances(128), 5, short, good),
+        within((5, 6, "tag6"), with_vectors(256), 6, b"0", b"00"),
+    ]
+}
+
+fn lengths_and_numbers() -> Vec<Meeting> {
+    let (long, ends): (&[u8], &[u8]) = (&[0, 1, 0, 0, 0, 0, 0], &[0, 1, 0, 0, 0, 0]);
+    vec![
+        within((5, 7, "tag1"), nothing(), 1, &[0, 0, 0], &[0, 0]),
+        within((5, 7, "tag2"), two_inputs(), 2, &[99, 2], &[99, 2, 1]),
+        within((5, 7, "tag3"), with_type(), 3, &[9, 9], &[9, 9, 9]),
+        within((5, 7, "tag4"), with_type(), 4, &[0, 9, 9], &[0, 9, 9, 9]),
+        within(
+            (5, 7, "tag5"),
+            with_type(),
+            5,
+            &[0, 128, 0],
+            &[0, 128, 0, 1],
+        ),
+        within((5, 7, "tag6"), with_instance(), 6, b"x", b"xx"),
+        within((5, 8, "short"), with_type(), 3, &[0, 1], &[0, 1, 0]),
+        within((5, 8, "long"), with_type(), 3, long, ends),
+        within((5, 8, "equal"), with_type(), 3, &[2, 2], &[2, 2, 0]),
+    ]
+}
+
+fn lengths_and_instances() -> Vec<Meeting> {
+    let odd = |number: u8, before: FileBuilder, good: &[u8; 4]| {
+        let longer = [&good[..], &[0]].concat();
+        within((5, number, "odd"), before, 5, &longer, good)
+    };
+    let (short, zero): (&[u8], &[u8]) = (&[1, 0], &[1, 0, 0, 0]);
+    let thirteen = [1, 0].repeat(14);
+    vec![
+        odd(10, with_bridges(), &[1, 0, 0, 9]),
+        odd(11, with_bridges(), &[1, 2, 0, 1]),
+        odd(12, with_bridges(), &[1, 9, 0, 1]),
+        odd(13, with_faults_2048(), &[1, 255, 0, 1]),
+        within((5, 10, "none"), with_bridges(), 5, short, zero),
+        within((5, 10, "13"), with_bridges(), 5, &thirteen, &thirteen[..26]),
+    ]
+}
+
+fn counts_and_numbers() -> Vec<Meeting> {
+    let (few, many) = (with_many_bridges(255), with_many_bridges(256));
+    let one_less = with_type().times(61, |file| file.field(3, &[1, 2, 0]));
+    let full = one_less.clone().field(3, &[1, 2, 0]);
+    let edge = |number: u8, what: &'static str, body: &[u8]| {
+        after((6, number, what), full.clone(), one_less.clone(), (3, body))
+    };
+    let instances = with_instances;
+    vec![
+        after((6, 7, "tag2"), with_types(16), with_types(15), (2, &[0; 3])),
+        edge(7, "tag3", &[9, 9, 9]),
+        after((6, 7, "tag4"), many, few, (4, &[0; 4])),
+        after((6, 7, "tag5"), instances(128), instances(127), (5, &[0; 4])),
+        after(
+            (6, 7, "tag6"),
+            with_vectors(256),
+            with_vectors(255),
+            (6, b"xx"),
+        ),
+        edge(8, "channel", &[0, 1, 0]),
+        edge(8, "equal", &[1, 1, 0]),
+    ]
+}
+
+fn counts_and_instances() -> Vec<Meeting> {
+    let (full, one_less) = (with_instances(128), with_instances(127));
+    let instance =
+        |number: u8, body: &[u8]| after((6, number, ""), full.clone(), one_less.clone(), (5, body));
+    let idle = |count: usize| with_faults_2048().times(count, |file| file.instance(1, 0, &[1]));
+    vec![
+        instance(10, &[1, 0, 0, 0]),
+        instance(11, &[1, 2, 0, 1]),
+        instance(12, &[1, 9, 0, 1]),
+        after((6, 13, ""), idle(116), idle(115), (5, &[1, 255, 0, 1])),
+    ]
+}
+
+fn numbers_and_others() -> Vec<Meeting> {
+    let type_4 = two_inputs().field(2, &[4, 3, 2]);
+    let edge = |what: &'static str, faulty: &[u8], mended: &[u8]| {
+        within((7, 8, what), type_4.clone(), 3, faulty, mended)
+    };
+    let instance = |number: u8, what: &'static str, faulty: &[u8], mended: &[u8]| {
+        let before = match number {
+            13 => with_faults_2048(),
+            _ => with_bridges(),
+        };
+        within((7, number, what), before, 5, faulty, mended)
+    };
+    vec![
+        edge("equal", &[5, 5, 0], &[4, 4, 0]),
+        edge("label", &[0, 1, 2], &[0, 1, 1]),
+        edge("last-label", &[0, 1, 0, 0, 1, 2], &[0, 1, 0, 0, 1, 1]),
+        instance(10, "type", &[2, 0, 0, 1, 0, 1], &[1, 0, 0, 1, 0, 1]),
+        instance(10, "choice", &[1, 254, 0, 0], &[1, 0, 0, 0]),
+        instance(11, "type", &[9, 2, 0, 1], &[1, 2, 0, 1]),
+        instance(12, "type", &[0, 9, 0, 1], &[1, 9, 0, 1]),
+        instance(13, "exhaustive", &[2, 255, 0, 1], &[1, 255, 0, 1]),
+        instance(13, "list", &[0, 1, 0, 1], &[1, 1, 0, 1]),
+    ]
+}
+
+/// Each way to be 10 with each fault of a list, then 11 with 13.
+fn references_and_lists() -> Vec<Meeting> {
+    let references: [(&'static str, &[u8]); 4] = [
+        ("zero", &[0, 0]),
+        ("above", &[0, 3]),
+        ("not-earlier", &[255, 200]),
+        ("two", &[0, 1, 0, 1]),
+    ];
+    let lists = [
+        (11, 2, with_bridges()),
+        (12, 9, with_bridges()),
+        (13, 255, with_faults_2048()),
+    ];
+    let mut meetings = Vec::new();
+    for (what, references) in references {
+        for (number, choice, before) in &lists {
+            let faulty = [&[1, *choice], references].concat();
+            let mended = [1, *choice, 0, 1];
+            let case = (10, *number, what);
+            meetings.push(within(case, before.clone(), 5, &faulty, &mended));
+        }
+    }
+    let (faulty, mended) = ([1, 2, 0, 1], [1, 1, 0, 1]);
+    meetings.push(within(
+        (11, 13, ""),
+        with_faults_2048(),
+        5,
+        &faulty,
+        &mended,
+    ));
+    meetings
+}

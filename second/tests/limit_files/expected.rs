@@ -1,0 +1,224 @@
+//! Files of every family by name, with the number and place that the paper gives,
+//! or none for an accepted file. The places are counted by hand: inputs take 5
+//! bytes, an inverter 18, a bridge 7, an instance of it 7.
+
+use std::collections::BTreeMap;
+
+use second::limits::limit_files;
+
+use crate::support::refusal;
+
+type Expected = (&'static str, Option<(u8, usize)>);
+
+const COUNTS: &[Expected] = &[
+    ("edges-64", None),
+    ("edges-65", Some((6, 581))),
+    ("edges-64-in-each-of-16-types", None),
+    ("edges-65-in-type-16", Some((6, 7_237))),
+    ("types-16", None),
+    ("types-17", Some((6, 293))),
+    ("bridges-256", None),
+    ("bridges-257", Some((6, 1_815))),
+    ("instances-128", None),
+    ("instances-129", Some((6, 919))),
+    ("vectors-1", None),
+    ("vectors-64", None),
+    ("vectors-65", None),
+    ("vectors-256", None),
+    ("vectors-257", Some((6, 1_054))),
+    ("faults-0", None),
+    ("faults-2048", None),
+    ("faults-2049", Some((13, 1_266))),
+    ("faults-exhaustive-last-2048", None),
+    ("faults-exhaustive-last-2049", Some((13, 1_892))),
+    ("faults-2048-then-none", None),
+    ("faults-2048-in-128-instances", None),
+    ("faults-2064-in-129-instances", Some((6, 1_031))),
+    ("faults-32768-in-lists", Some((13, 1_871))),
+    ("faults-112640-exhaustive", Some((13, 81))),
+];
+
+const BYTES_AND_CUTS: &[Expected] = &[
+    ("bytes-31973-fullest", None),
+    ("bytes-32768-inverter-then-zeros", Some((3, 42))),
+    ("bytes-32769-inverter-then-zeros", Some((1, 0))),
+    ("bytes-32768-all-255", Some((2, 0))),
+    ("bytes-32769-all-255", Some((1, 0))),
+    ("bytes-32768-fullest-then-long-vector", Some((5, 31_973))),
+    ("bytes-32768-fullest-then-cut-vector", Some((2, 31_973))),
+    ("bytes-65578-inverter-then-zeros", Some((1, 0))),
+    ("bytes-1000000-all-255", Some((1, 0))),
+    ("cut-inverter-0-of-42", Some((14, 0))),
+    ("cut-inverter-1-of-42", Some((2, 0))),
+    ("cut-inverter-5-of-42", Some((14, 5))),
+    ("cut-inverter-11-of-42", Some((9, 5))),
+    ("cut-inverter-17-of-42", Some((9, 5))),
+    ("cut-inverter-23-of-42", Some((14, 23))),
+    ("cut-inverter-30-of-42", Some((14, 30))),
+    ("cut-inverter-34-of-42", None),
+    ("cut-inverter-41-of-42", Some((2, 38))),
+    ("cut-inverter-42-of-42", None),
+    ("cut-every-kind-176-of-177", Some((2, 171))),
+    ("cut-every-kind-177-of-177", None),
+];
+
+const LENGTHS: &[Expected] = &[
+    ("length-tag1-1", Some((5, 0))),
+    ("length-tag1-2", None),
+    ("length-tag1-258", Some((5, 0))),
+    ("length-tag2-2", Some((5, 5))),
+    ("length-tag2-3", None),
+    ("length-tag3-2", Some((5, 23))),
+    ("length-tag3-3", None),
+    ("length-tag3-6", None),
+    ("length-tag3-7", Some((5, 23))),
+    ("length-tag4-4", None),
+    ("length-tag4-7", Some((5, 23))),
+    ("length-tag5-3", Some((5, 51))),
+    ("length-tag5-4", None),
+    ("length-tag5-26", Some((10, 51))),
+    ("length-tag5-28", Some((5, 51))),
+    ("length-tag5-24-for-12-labels", Some((10, 23))),
+    ("length-tag5-26-for-12-labels", None),
+    ("length-tag5-28-for-12-labels", Some((5, 23))),
+    ("length-tag6-2", None),
+    ("length-tag6-3", Some((5, 58))),
+    ("length-tag6-64-for-64-inputs", None),
+    ("length-tag6-65-for-64-inputs", Some((5, 30))),
+];
+
+const TYPES_AND_EDGES: &[Expected] = &[
+    ("inputs-0", Some((7, 0))),
+    ("inputs-1", None),
+    ("inputs-64", None),
+    ("inputs-65", Some((7, 0))),
+    ("inputs-257", Some((7, 0))),
+    ("type-h1-o2-k1", Some((7, 5))),
+    ("type-h2-o2-k1", None),
+    ("type-h31-o31-k1", None),
+    ("type-h32-o31-k1", Some((7, 5))),
+    ("type-h4-o1-k1", Some((7, 5))),
+    ("type-h4-o5-k1", Some((7, 5))),
+    ("type-h2-o2-k0", Some((7, 5))),
+    ("type-h2-o2-k12", None),
+    ("type-h2-o2-k13", Some((7, 5))),
+    ("edge-ends-1-4-in-h6-o4", None),
+    ("edge-ends-6-0-in-h6-o4", None),
+    ("edge-ends-1-5-in-h6-o4", Some((8, 23))),
+    ("edge-ends-0-0-in-h6-o4", Some((8, 23))),
+    ("edge-ends-7-1-in-h6-o4", Some((7, 23))),
+    ("edge-ends-7-7-in-h6-o4", Some((7, 23))),
+    ("edge-labels-11-of-k12", None),
+    ("edge-labels-0-0-0-12-of-k12", Some((7, 23))),
+];
+
+const BRIDGES_AND_CHOICES: &[Expected] = &[
+    ("bridge-list-0", Some((7, 23))),
+    ("bridge-list-1", None),
+    ("bridge-list-127", None),
+    ("bridge-list-128", Some((7, 23))),
+    ("bridge-kind-1", None),
+    ("bridge-kind-2", Some((7, 23))),
+    ("bridge-nodes-31-30", None),
+    ("bridge-nodes-31-31", Some((7, 23))),
+    ("bridge-nodes-0-32", Some((7, 23))),
+    ("bridge-node-31-label-11", None),
+    ("bridge-node-31-label-12", Some((7, 23))),
+    ("chosen-nodes-5-3-in-h5", None),
+    ("chosen-nodes-6-1-in-h5", Some((11, 30))),
+    ("chosen-node-5-label-3-in-h5-k3", Some((11, 30))),
+    ("misfit-in-place-4-of-4", Some((11, 76))),
+    ("misfit-in-another-list", None),
+    ("misfit-for-the-second-instance", Some((11, 85))),
+    ("choice-0-without-its-list", None),
+    ("choice-127-with-its-list", None),
+    ("choice-127-without-its-list", Some((12, 30))),
+    ("choice-128-with-its-list", Some((7, 23))),
+    ("choice-128-with-every-list", Some((7, 912))),
+    ("choice-254-without-its-list", Some((7, 30))),
+    ("choice-255-without-its-list", None),
+];
+
+const INSTANCES_AND_VECTORS: &[Expected] = &[
+    ("type-number-1-of-0", Some((7, 5))),
+    ("type-number-0-of-1", Some((7, 23))),
+    ("type-number-16-of-16", None),
+    ("type-number-17-of-16", Some((7, 293))),
+    ("reference-0-in-instance-1", Some((10, 23))),
+    ("reference-3-in-instance-1", None),
+    ("reference-4-in-instance-1", Some((10, 23))),
+    ("reference-minus-1-in-instance-1", Some((10, 23))),
+    ("reference-minus-2-in-instance-3", None),
+    ("reference-minus-3-in-instance-3", Some((10, 37))),
+    ("reference-minus-4-in-instance-3", Some((10, 37))),
+    ("reference-minus-32768-in-instance-3", Some((10, 37))),
+    ("reference-minus-127-in-instance-128", None),
+    ("reference-minus-128-in-instance-128", Some((10, 912))),
+    ("references-12-for-k12", None),
+    ("references-11-for-k12", Some((10, 23))),
+    ("vector-byte-48", None),
+    ("vector-byte-120", Some((7, 30))),
+    ("vector-byte-88-last-of-64", None),
+    ("vector-byte-0-last-of-64", Some((7, 30))),
+];
+
+const TAGS_AND_ORDERS: &[Expected] = &[
+    ("tags-none-then-2", Some((4, 0))),
+    ("tags-none-then-1", None),
+    ("tags-3-then-4", None),
+    ("tags-2-then-4", Some((9, 5))),
+    ("tags-5-then-4", Some((4, 58))),
+    ("order-2-before-9-head", Some((2, 17))),
+    ("order-9-before-5-tag4", Some((9, 5))),
+    ("order-9-before-5-tag4-mended", Some((5, 23))),
+    ("order-6-before-13", Some((6, 2_711))),
+    ("order-6-before-13-mended", Some((13, 2_704))),
+    ("order-11-before-13", Some((11, 1_899))),
+    ("order-9-before-14", Some((9, 5))),
+];
+
+fn check(table: &[Expected]) {
+    let files: BTreeMap<String, Vec<u8>> = limit_files()
+        .into_iter()
+        .map(|file| (file.name, file.bytes))
+        .collect();
+    for (name, expected) in table {
+        let bytes = &files[&format!("{name}.cir")];
+        assert_eq!(refusal(bytes), *expected, "{name}");
+    }
+}
+
+#[test]
+fn counts() {
+    check(COUNTS);
+}
+
+#[test]
+fn bytes_and_cuts() {
+    check(BYTES_AND_CUTS);
+}
+
+#[test]
+fn lengths() {
+    check(LENGTHS);
+}
+
+#[test]
+fn types_and_edges() {
+    check(TYPES_AND_EDGES);
+}
+
+#[test]
+fn bridges_and_choices() {
+    check(BRIDGES_AND_CHOICES);
+}
+
+#[test]
+fn instances_and_vectors() {
+    check(INSTANCES_AND_VECTORS);
+}
+
+#[test]
+fn tags_and_orders() {
+    check(TAGS_AND_ORDERS);
+}

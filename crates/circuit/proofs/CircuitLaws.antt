@@ -18,10 +18,10 @@ use Rattle.circuit.specs.Limits.{mostBytes, mostTypes, mostBridges, most
 use Rattle.circuit.specs.Fields.{Cut, clean, broken, field, cutIn, cutFrom, twoBytes}
 use Rattle.circuit.specs.Circuit.{Instance, Listed, noType, faultCount}
 use Rattle.circuit.specs.Known.{typeIn, edgeIn, listedIn, instanceIn, vectorIn, latest, withEdge, edgeAdded, tagOf}
-use Rattle.circuit.specs.Table.{Test, Verdict, passes, refused, firstOf, floats, isEmpty, isUnknown, inputsTests, typeTests, edgeTests, bridgeTests, instanceTests, vectorTests}
+use Rattle.circuit.specs.Table.{Test, Verdict, passes, refused, firstOf, notComplementary, isEmpty, isUnknown, inputsTests, typeTests, edgeTests, bridgeTests, instanceTests, vectorTests}
 use Rattle.circuit.specs.Reading.{Reading, accepted, refusal, unless}
 use Rattle.circuit.specs.Records.{emptyCircuit}
-use Rattle.circuit.specs.Stages.{Stage, stopped, ifPasses, section, floatingBefore, floatingVerdict, judged, typeStage, endedVerdict, pastVerdict, endingVerdict, afterStage, afterInputs, fromStart, staged}
+use Rattle.circuit.specs.Stages.{Stage, stopped, ifPasses, section, failingBefore, failingVerdict, judged, typeStage, endedVerdict, pastVerdict, endingVerdict, afterStage, afterInputs, fromStart, staged}
 use Rattle.circuit.specs.Laws.{Each, TypeSound, TypeGood, ListedGood, InstanceGood, CircuitGood, RefusalGood, AcceptedIsGood, RefusalIsGood}
 use Rattle.circuit.proofs.StageLaws.{staged-is-reading}
 use Rattle.circuit.proofs.Tested.{VerdictGood, TestsGood, first-good, inputs-refuse, types-refuse, edges-refuse, bridges-refuse, instances-refuse, vectors-refuse, inputs-pass, type-pass, edge-pass, bridge-pass, faults-snoc, instance-pass, vector-pass, holds, length-snoc, each-none, each-snoc, never-passes}
@@ -147,11 +147,11 @@ type-keeps types t g room new =
           rw (List·getD-append types (t ∷ []) none i q) (g .each i none q .complementary);
     }
 
-floating-refuses : (typeAt : ℕ) (cut : Cut) → floatingVerdict typeAt cut ≡ passes → ⊥
-unfolding floatingVerdict floatingBefore
-floating-refuses typeAt clean e = never-passes e
-floating-refuses typeAt (broken at) e = never-passes e
-floating-refuses typeAt (field f rest) e = go (isUnknown (tagOf (f .tag))) (eqb (f .tag) 1) e
+failing-refuses : (typeAt : ℕ) (cut : Cut) → failingVerdict typeAt cut ≡ passes → ⊥
+unfolding failingVerdict failingBefore
+failing-refuses typeAt clean e = never-passes e
+failing-refuses typeAt (broken at) e = never-passes e
+failing-refuses typeAt (field f rest) e = go (isUnknown (tagOf (f .tag))) (eqb (f .tag) 1) e
   where
     go : (a b : Bool) → cond a (refused 3 (f .at)) (cond b (refused 4 (f .at)) (refused 9 typeAt)) ≡ passes → ⊥
     go true b q = never-passes q
@@ -160,7 +160,7 @@ floating-refuses typeAt (field f rest) e = go (isUnknown (tagOf (f .tag))) (eqb 
 
 -- types that were judged are complementary, the latest too
 judged-types : (types : List ModuleType) (typeAt : ℕ) (cut : Cut) → TypesSound types → judged types typeAt cut ≡ passes → TypesGood types
-unfolding judged floats latest
+unfolding judged notComplementary latest
 judged-types types typeAt cut s e =
     record {
       few = s .few;
@@ -169,10 +169,10 @@ judged-types types typeAt cut s e =
     }
   where
     go : (em co : Bool) → isEmpty types ≡ em → isComplementary (latest types) ≡ co
-        → cond em passes (cond (not co) (floatingVerdict typeAt cut) passes) ≡ passes
+        → cond em passes (cond (not co) (failingVerdict typeAt cut) passes) ≡ passes
         → (i : ℕ) (none : ModuleType) → i < length types → T (isComplementary (getD types i none))
     go true co em co′ q i none h = absurd (omega (arith, no-length types em))
-    go false false em co q i none h = absurd (floating-refuses typeAt cut q)
+    go false false em co q i none h = absurd (failing-refuses typeAt cut q)
     go false true em co q i none h = at (decLt (suc i) (length types))
       where
         at : Dec (suc i < length types) → T (isComplementary (getD types i none))
@@ -183,11 +183,11 @@ judged-types types typeAt cut s e =
 
 module _ (size : ℕ) (next : List ModuleType → Cut → Reading)
     (goes-on : (types : List ModuleType) (cut : Cut) → TypesGood types → Placed size cut → ReadingGood size (next types cut)) where
-  floating-good : (typeAt : ℕ) (cut : Cut) → typeAt ≤ size → Placed size cut → VerdictGood size (floatingVerdict typeAt cut)
-  unfolding floatingVerdict floatingBefore
-  floating-good typeAt clean h p = omega arith
-  floating-good typeAt (broken at) h p = omega arith
-  floating-good typeAt (field f rest) h p = go (isUnknown (tagOf (f .tag))) (eqb (f .tag) 1)
+  failing-good : (typeAt : ℕ) (cut : Cut) → typeAt ≤ size → Placed size cut → VerdictGood size (failingVerdict typeAt cut)
+  unfolding failingVerdict failingBefore
+  failing-good typeAt clean h p = omega arith
+  failing-good typeAt (broken at) h p = omega arith
+  failing-good typeAt (field f rest) h p = go (isUnknown (tagOf (f .tag))) (eqb (f .tag) 1)
     where
       go : (a b : Bool) → VerdictGood size (cond a (refused 3 (f .at)) (cond b (refused 4 (f .at)) (refused 9 typeAt)))
       go true b = let q = p .0 in omega arith
@@ -196,11 +196,11 @@ module _ (size : ℕ) (next : List ModuleType → Cut → Reading)
 
   judged-good : (types : List ModuleType) (typeAt : ℕ) (cut : Cut) → typeAt ≤ size → Placed size cut → VerdictGood size (judged types typeAt cut)
   unfolding judged
-  judged-good types typeAt cut h p = go (isEmpty types) (floats types)
+  judged-good types typeAt cut h p = go (isEmpty types) (notComplementary types)
     where
-      go : (em fl : Bool) → VerdictGood size (cond em passes (cond fl (floatingVerdict typeAt cut) passes))
+      go : (em fl : Bool) → VerdictGood size (cond em passes (cond fl (failingVerdict typeAt cut) passes))
       go true fl = tt
-      go false true = floating-good typeAt cut h p
+      go false true = failing-good typeAt cut h p
       go false false = tt
 
   types-good : (types : List ModuleType) (typeAt : ℕ) (cut : Cut) → TypesSound types → typeAt ≤ size → Placed size cut

@@ -3,7 +3,7 @@ use Prim.Native.Nat.{ℕ}
 use mathlib.Core.Path.{_≡_, refl}
 use mathlib.Core.List.{List, [], _∷_, _++_}
 use lib.ListN.{length}
-use Rattle.switch.specs.Conduction.{at0, at1, atX, transistorOn, channelOf, pEnds, edgeOn, anyOf, between, links}
+use Rattle.switch.specs.Conduction.{at0, at1, atX, nEnd, nEnds, badEnds, transistorOn, channelOf, pEnds, edgeOn, anyOf, between, links}
 use Rattle.switch.specs.Modules.{allOf, inRange, typeInRange, edgeInRange, linksOf, settingOf, known}
 use Rattle.switch.specs.Deciding.{joins, renamings, partIn, rename, allBelow, oneRail, isComplementary}
 use Rattle.words.specs.Bits.{bit}
@@ -12,7 +12,7 @@ use Rattle.circuit.specs.Fields.{twoBytes, cutIn, cutFrom}
 use Rattle.circuit.specs.Circuit.{primary, exhaustive, numbered, exhaustiveSize, chosenSize, faultCount, userList}
 use Rattle.circuit.specs.Numbers.{signed, choiceOf, choiceInRange, referenceOf, referenceGood}
 use Rattle.circuit.specs.Known.{tagOf, typeIn, edgeIn, bridgeOf, listedIn, referencesIn, instanceIn, letterOf, vectorIn, latest, withEdge, edgeAdded, taken, typeAtAfter, knownAfter}
-use Rattle.circuit.specs.Table.{firstOf, misplaced, isEdge, unjudged, floats, lowSide, badNodes, bridgeInRange, bridgeSuits, isEmpty, listUnsuited, listEmpty, isLetter, inputsTests, typeTests, edgeTests, edgeTestsOf, bridgeTests, instanceTests, vectorTests, bodyTests, isUnknown, fieldTests, endTests}
+use Rattle.circuit.specs.Table.{firstOf, misplaced, isEdge, unjudged, notComplementary, bridgeInRange, bridgeSuits, isEmpty, listUnsuited, listEmpty, isLetter, inputsTests, typeTests, edgeTests, edgeTestsOf, bridgeTests, instanceTests, vectorTests, bodyTests, isUnknown, fieldTests, endTests}
 use Rattle.circuit.specs.Reading.{accepted, refusal, unless, readFrom, readingOf}
 
 inverter : List ℕ
@@ -29,7 +29,7 @@ read-inverter : readingOf inverter ≡ accepted (record {
   instances = record { type = 1; choice = exhaustive; references = primary 1 ∷ [] } ∷ [];
   vectors = (at0 ∷ []) ∷ (at1 ∷ []) ∷ (atX ∷ []) ∷ [];
 })
-unfolding inverter readingOf readFrom unless fieldTests endTests firstOf bodyTests inputsTests typeTests edgeTests edgeTestsOf bridgeTests instanceTests vectorTests isUnknown misplaced isEdge unjudged floats lowSide badNodes isEmpty listUnsuited listEmpty isLetter tagOf typeIn edgeIn referencesIn instanceIn letterOf vectorIn latest withEdge edgeAdded taken typeAtAfter knownAfter signed choiceOf choiceInRange referenceOf referenceGood twoBytes cutIn cutFrom numbered exhaustiveSize chosenSize faultCount userList bit table joins renamings partIn rename allBelow oneRail isComplementary allOf inRange typeInRange edgeInRange linksOf settingOf known transistorOn channelOf pEnds edgeOn anyOf between links
+unfolding inverter nEnd nEnds badEnds readingOf readFrom unless fieldTests endTests firstOf bodyTests inputsTests typeTests edgeTests edgeTestsOf bridgeTests instanceTests vectorTests isUnknown misplaced isEdge unjudged notComplementary isEmpty listUnsuited listEmpty isLetter tagOf typeIn edgeIn referencesIn instanceIn letterOf vectorIn latest withEdge edgeAdded taken typeAtAfter knownAfter signed choiceOf choiceInRange referenceOf referenceGood twoBytes cutIn cutFrom numbered exhaustiveSize chosenSize faultCount userList bit table joins renamings partIn rename allBelow oneRail isComplementary allOf inRange typeInRange edgeInRange linksOf settingOf known transistorOn channelOf pEnds edgeOn anyOf between links
 read-inverter = refl
 
 read-empty : readingOf [] ≡ refusal 14 0

@@ -13,10 +13,10 @@ use Rattle.switch.specs.Modules.{ModuleType}
 use Rattle.circuit.specs.Fields.{Field, Cut, clean, broken, field, cutFrom, twoBytes}
 use Rattle.circuit.specs.Circuit.{Circuit, Instance, Listed, faultCount}
 use Rattle.circuit.specs.Known.{Known, start, Tag, inputs-tag, type-tag, edge-tag, bridge-tag, instance-tag, vector-tag, no-tag, tagOf, typeIn, edgeIn, listedIn, instanceIn, vectorIn, latest, withEdge, edgeAdded, taken, typeAtAfter, knownAfter}
-use Rattle.circuit.specs.Table.{Test, Verdict, passes, refused, firstOf, misplaced, isEdge, unjudged, floats, isEmpty, isUnknown, inputsTests, typeTests, edgeTests, bridgeTests, instanceTests, vectorTests, bodyTests, fieldTests, endTests}
+use Rattle.circuit.specs.Table.{Test, Verdict, passes, refused, firstOf, misplaced, isEdge, unjudged, notComplementary, isEmpty, isUnknown, inputsTests, typeTests, edgeTests, bridgeTests, instanceTests, vectorTests, bodyTests, fieldTests, endTests}
 use Rattle.circuit.specs.Reading.{Reading, accepted, unless, readFrom, readingOf}
 use Rattle.circuit.specs.Records.{emptyCircuit}
-use Rattle.circuit.specs.Stages.{Stage, stopped, ifPasses, section, floatingBefore, floatingVerdict, judged, typeStage, endedVerdict, pastVerdict, endingVerdict, afterStage, afterInputs, fromStart, staged}
+use Rattle.circuit.specs.Stages.{Stage, stopped, ifPasses, section, failingBefore, failingVerdict, judged, typeStage, endedVerdict, pastVerdict, endingVerdict, afterStage, afterInputs, fromStart, staged}
 use Rattle.circuit.specs.Laws.{StagedIsReading}
 
 -- ---- tags by number
@@ -73,7 +73,7 @@ knowing previous typeAt c = record { previous = previous; typeAt = typeAt; circu
 
 -- 9 is not looked at, or finds nothing
 abbrev quiet : ℕ → Tag → List ModuleType → Type 0
-quiet previous tag types = cond (unjudged previous && not (isEdge tag)) (floats types) false ≡ false
+quiet previous tag types = cond (unjudged previous && not (isEdge tag)) (notComplementary types) false ≡ false
 
 -- a field with tag n that 3, 4 and 9 let through
 read-own : (size : ℕ) (known : Known) (f : Field) (rest : Cut) (n : ℕ) → f .tag ≡ n
@@ -90,8 +90,8 @@ unfolding unless ifPasses afterStage
 unless-stage passes r s next e = e
 unless-stage (refused n p) r s next e = refl
 
-judged-quiet : (previous : ℕ) (tag : Tag) (types : List ModuleType) → (unjudged previous ≡ true → floats types ≡ false) → quiet previous tag types
-judged-quiet previous tag types = go (unjudged previous) (isEdge tag) (floats types)
+judged-quiet : (previous : ℕ) (tag : Tag) (types : List ModuleType) → (unjudged previous ≡ true → notComplementary types ≡ false) → quiet previous tag types
+judged-quiet previous tag types = go (unjudged previous) (isEdge tag) (notComplementary types)
   where
     go : (u e fl : Bool) → (u ≡ true → fl ≡ false) → cond (u && not e) fl false ≡ false
     go true true fl h = refl
@@ -109,7 +109,7 @@ nextTag (field f rest) = tagOf (f .tag)
 record Ready (n previous : ℕ) (types : List ModuleType) (cut : Cut) : Type 0 where
   low : 1 ≤ previous
   high : previous ≤ n
-  judged : unjudged previous ≡ true → floats types ≡ false
+  judged : unjudged previous ≡ true → notComplementary types ≡ false
   behind : rank (nextTag cut) < n → misplaced previous (nextTag cut) ≡ true
 
 -- ---- a stage of one tag
@@ -142,7 +142,7 @@ module _ (size n : ℕ) {A : Type 0} (types : List ModuleType)
     (next : A → Cut → Reading)
     (goes-on : (a : A) (previous typeAt : ℕ) (cut : Cut) → Ready (suc n) previous types cut
     → readFrom size (knowing previous typeAt (circuit a)) cut ≡ next a cut) where
-  past-types : unjudged n ≡ true → floats types ≡ false
+  past-types : unjudged n ≡ true → notComplementary types ≡ false
   unfolding unjudged between
   past-types u = let z : false ≡ true = sym (and-false (leb 2 n)) ∙ (rw (lt-leb n 3 (s .low)) at u) in cc
 
@@ -268,7 +268,7 @@ ending-reads : (size previous typeAt : ℕ) (c : Circuit) (cut : Cut) → Ready 
 unfolding readFrom unless endTests firstOf endingVerdict endedVerdict pastVerdict fieldTests
 ending-reads size previous typeAt c clean r =
     let l = r .low in
-    let quiet-end : cond (unjudged previous) (floats (c .types)) false ≡ false = judged-end (unjudged previous) (floats (c .types)) (r .judged) in
+    let quiet-end : cond (unjudged previous) (notComplementary (c .types)) false ≡ false = judged-end (unjudged previous) (notComplementary (c .types)) (r .judged) in
     rw (quiet-end, ne-eqb previous 0 (omega arith), empty-count (c .instances), empty-count (c .vectors))
   where
     judged-end : (u fl : Bool) → (u ≡ true → fl ≡ false) → cond u fl false ≡ false
@@ -311,15 +311,15 @@ set-some [] i a e = e
 set-some (b ∷ as′) zero a e = refl
 set-some (b ∷ as′) (suc i) a e = refl
 
--- a type that floats, before a field that is not its edge
-floating-field : (previous typeAt : ℕ) (c : Circuit) (f : Field) → 2 ≤ previous → previous ≤ 3 → unjudged previous ≡ true → floats (c .types) ≡ true
-    → eqb (f .tag) 3 ≡ false → firstOf (fieldTests (knowing previous typeAt c) f) ≡ floatingBefore (f .tag) (f .at) typeAt
-unfolding firstOf fieldTests floatingBefore isUnknown misplaced isEdge
-floating-field previous typeAt c f low high u fl other = go (tagOf (f .tag)) (kind (f .tag)) _
+-- a type that is not complementary, before a field that is not its edge
+failing-field : (previous typeAt : ℕ) (c : Circuit) (f : Field) → 2 ≤ previous → previous ≤ 3 → unjudged previous ≡ true → notComplementary (c .types) ≡ true
+    → eqb (f .tag) 3 ≡ false → firstOf (fieldTests (knowing previous typeAt c) f) ≡ failingBefore (f .tag) (f .at) typeAt
+unfolding firstOf fieldTests failingBefore isUnknown misplaced isEdge
+failing-field previous typeAt c f low high u fl other = go (tagOf (f .tag)) (kind (f .tag)) _
   where
     go : (g : Tag) → Kind (f .tag) g → (later : Verdict)
         → cond (isUnknown g) (refused 3 (f .at)) (cond (misplaced previous g) (refused 4 (f .at))
-        (cond (cond (unjudged previous && not (isEdge g)) (floats (c .types)) false) (refused 9 typeAt) later))
+        (cond (cond (unjudged previous && not (isEdge g)) (notComplementary (c .types)) false) (refused 9 typeAt) later))
         ≡ cond (isUnknown g) (refused 3 (f .at)) (cond (eqb (f .tag) 1) (refused 4 (f .at)) (refused 9 typeAt))
     go inputs-tag (is-inputs e) later = rw (e, ne-eqb previous 0 (omega arith))
     go type-tag (is-type e) later = rw (e, in-order 3 previous (omega arith) (omega arith), u, fl)
@@ -359,29 +359,29 @@ module _ (size P : ℕ) (types : List ModuleType) (previous typeAt : ℕ) where
   read-edge f rest own u =
       read-own size (knowing previous typeAt (withTypes P types)) f rest 3 own refl (ap not u) (rw u)
 
-  read-type : (f : Field) (rest : Cut) → f .tag ≡ 2 → 1 ≤ previous → previous ≤ 3 → (unjudged previous ≡ true → floats types ≡ false)
+  read-type : (f : Field) (rest : Cut) → f .tag ≡ 2 → 1 ≤ previous → previous ≤ 3 → (unjudged previous ≡ true → notComplementary types ≡ false)
       → readFrom size (knowing previous typeAt (withTypes P types)) (field f rest)
       ≡ unless (firstOf (typeTests (length types) (f .at) (f .body))) (readFrom size (knowing 2 (f .at) (withTypes P (types ++ (typeIn (f .body) ∷ [])))) rest)
   unfolding tagOf isUnknown misplaced bodyTests taken
   read-type f rest own low high j =
       read-own size (knowing previous typeAt (withTypes P types)) f rest 2 own refl (in-order 3 previous low high) (judged-quiet previous (tagOf 2) types j)
 
-  module _ {A : Type 0} (later : Stage A) (next : A → Cut → Reading) (u : unjudged previous ≡ true) (fl : floats types ≡ true) where
-    floats-at-end : readFrom size (knowing previous typeAt (withTypes P types)) clean ≡ afterStage (ifPasses (floatingVerdict typeAt clean) later) next
-    unfolding readFrom endTests firstOf unless floatingVerdict ifPasses afterStage
-    floats-at-end = rw (u, fl)
+  module _ {A : Type 0} (later : Stage A) (next : A → Cut → Reading) (u : unjudged previous ≡ true) (fl : notComplementary types ≡ true) where
+    failing-at-end : readFrom size (knowing previous typeAt (withTypes P types)) clean ≡ afterStage (ifPasses (failingVerdict typeAt clean) later) next
+    unfolding readFrom endTests firstOf unless failingVerdict ifPasses afterStage
+    failing-at-end = rw (u, fl)
 
-    floats-at-broken : (at : ℕ)
-        → readFrom size (knowing previous typeAt (withTypes P types)) (broken at) ≡ afterStage (ifPasses (floatingVerdict typeAt (broken at)) later) next
-    unfolding readFrom floatingVerdict ifPasses afterStage
-    floats-at-broken at = refl
+    failing-at-broken : (at : ℕ)
+        → readFrom size (knowing previous typeAt (withTypes P types)) (broken at) ≡ afterStage (ifPasses (failingVerdict typeAt (broken at)) later) next
+    unfolding readFrom failingVerdict ifPasses afterStage
+    failing-at-broken at = refl
 
-    floats-at-field : (f : Field) (rest : Cut) → 2 ≤ previous → previous ≤ 3 → eqb (f .tag) 3 ≡ false
+    failing-at-field : (f : Field) (rest : Cut) → 2 ≤ previous → previous ≤ 3 → eqb (f .tag) 3 ≡ false
         → readFrom size (knowing previous typeAt (withTypes P types)) (field f rest)
-        ≡ afterStage (ifPasses (floatingVerdict typeAt (field f rest)) later) next
-    unfolding readFrom floatingVerdict floatingBefore unless ifPasses afterStage
-    floats-at-field f rest low high other =
-        rw (floating-field previous typeAt (withTypes P types) f low high u fl other)
+        ≡ afterStage (ifPasses (failingVerdict typeAt (field f rest)) later) next
+    unfolding readFrom failingVerdict failingBefore unless ifPasses afterStage
+    failing-at-field f rest low high other =
+        rw (failing-field previous typeAt (withTypes P types) f low high u fl other)
         (go (isUnknown (tagOf (f .tag))) (eqb (f .tag) 1) _)
       where
         go : (a b : Bool) (more : Reading)
@@ -395,23 +395,23 @@ module _ (size P : ℕ) where
   module _ (next : List ModuleType → Cut → Reading)
       (goes-on : (types : List ModuleType) (previous typeAt : ℕ) (cut : Cut) → Ready 4 previous types cut
       → readFrom size (knowing previous typeAt (withTypes P types)) cut ≡ next types cut) where
-    -- the latest type is judged: where it floats, so that this is what is read, and else
+    -- the latest type is judged: where it is not complementary, so that this is what is read, and else
     judge : (types : List ModuleType) (previous typeAt : ℕ) (cut : Cut) (later : Stage (List ModuleType)) → Before types previous
-        → (isEmpty types ≡ false → floats types ≡ true
-        → readFrom size (knowing previous typeAt (withTypes P types)) cut ≡ afterStage (ifPasses (floatingVerdict typeAt cut) later) next)
-        → ((unjudged previous ≡ true → floats types ≡ false) → readFrom size (knowing previous typeAt (withTypes P types)) cut ≡ afterStage later next)
+        → (isEmpty types ≡ false → notComplementary types ≡ true
+        → readFrom size (knowing previous typeAt (withTypes P types)) cut ≡ afterStage (ifPasses (failingVerdict typeAt cut) later) next)
+        → ((unjudged previous ≡ true → notComplementary types ≡ false) → readFrom size (knowing previous typeAt (withTypes P types)) cut ≡ afterStage later next)
         → readFrom size (knowing previous typeAt (withTypes P types)) cut ≡ afterStage (ifPasses (judged types typeAt cut) later) next
     unfolding judged ifPasses unjudged between
-    judge types previous typeAt cut later b floating fine = go (isEmpty types) (floats types) refl refl
+    judge types previous typeAt cut later b failing fine = go (isEmpty types) (notComplementary types) refl refl
       where
-        go : (em fl : Bool) → isEmpty types ≡ em → floats types ≡ fl
+        go : (em fl : Bool) → isEmpty types ≡ em → notComplementary types ≡ fl
             → readFrom size (knowing previous typeAt (withTypes P types)) cut
-            ≡ afterStage (ifPasses (cond em passes (cond fl (floatingVerdict typeAt cut) passes)) later) next
+            ≡ afterStage (ifPasses (cond em passes (cond fl (failingVerdict typeAt cut) passes)) later) next
         go true fl e f = fine (λ u. let z : false ≡ true = (rw (b .none e) at u) in cc)
-        go false true e f = floating e f
+        go false true e f = failing e f
         go false false e f = fine (λ u. f)
 
-    ready : (types : List ModuleType) (previous : ℕ) (cut : Cut) → Before types previous → (unjudged previous ≡ true → floats types ≡ false)
+    ready : (types : List ModuleType) (previous : ℕ) (cut : Cut) → Before types previous → (unjudged previous ≡ true → notComplementary types ≡ false)
         → (rank (nextTag cut) < 4 → misplaced previous (nextTag cut) ≡ true) → Ready 4 previous types cut
     ready types previous cut b j behind = let h = b .high in record { low = b .low; high = omega arith; judged = j; behind = behind }
 
@@ -420,11 +420,11 @@ module _ (size P : ℕ) where
     unfolding typeStage afterStage edgeAdded
     types-read types previous typeAt clean b =
         judge types previous typeAt clean (stopped types clean) b
-        (λ em fl. floats-at-end size P types previous typeAt (stopped types clean) next (b .some em) fl)
+        (λ em fl. failing-at-end size P types previous typeAt (stopped types clean) next (b .some em) fl)
         (λ j. goes-on types previous typeAt clean (ready types previous clean b j (λ h. absurd (omega arith))))
     types-read types previous typeAt (broken at) b =
         judge types previous typeAt (broken at) (stopped types (broken at)) b
-        (λ em fl. floats-at-broken size P types previous typeAt (stopped types (broken at)) next (b .some em) fl at)
+        (λ em fl. failing-at-broken size P types previous typeAt (stopped types (broken at)) next (b .some em) fl at)
         (λ j. goes-on types previous typeAt (broken at) (ready types previous (broken at) b j (λ h. absurd (omega arith))))
     types-read types previous typeAt (field f rest) b =
         go (eqb (f .tag) 3 && not (isEmpty types)) refl
@@ -451,15 +451,15 @@ module _ (size P : ℕ) where
             ∙ unless-stage (firstOf (edgeTests (latest types) (f .at) (f .body))) _ (typeStage (edgeAdded types (edgeIn (f .body))) typeAt rest) next
             (more-edge (after-type (edgeAdded types (edgeIn (f .body))) 3
             (set-some types (length types - 1) (withEdge (latest types) (edgeIn (f .body))) some) (omega arith) (omega arith)))
-        go false e more-edge more-type = judge types previous typeAt (field f rest) (cond (eqb (f .tag) 2) type (stopped types (field f rest))) b floating fine
+        go false e more-edge more-type = judge types previous typeAt (field f rest) (cond (eqb (f .tag) 2) type (stopped types (field f rest))) b failing fine
           where
-            floating : isEmpty types ≡ false → floats types ≡ true → readFrom size (knowing previous typeAt (withTypes P types)) (field f rest)
-                ≡ afterStage (ifPasses (floatingVerdict typeAt (field f rest)) (cond (eqb (f .tag) 2) type (stopped types (field f rest)))) next
-            floating em fl =
-                floats-at-field size P types previous typeAt (cond (eqb (f .tag) 2) type (stopped types (field f rest))) next (b .some em) fl f rest
+            failing : isEmpty types ≡ false → notComplementary types ≡ true → readFrom size (knowing previous typeAt (withTypes P types)) (field f rest)
+                ≡ afterStage (ifPasses (failingVerdict typeAt (field f rest)) (cond (eqb (f .tag) 2) type (stopped types (field f rest)))) next
+            failing em fl =
+                failing-at-field size P types previous typeAt (cond (eqb (f .tag) 2) type (stopped types (field f rest))) next (b .some em) fl f rest
                 (unjudged-low previous (b .some em)) (b .high) (sym (and-true (eqb (f .tag) 3)) ∙ (rw em at e))
 
-            as-type : (two : Bool) → eqb (f .tag) 2 ≡ two → (unjudged previous ≡ true → floats types ≡ false)
+            as-type : (two : Bool) → eqb (f .tag) 2 ≡ two → (unjudged previous ≡ true → notComplementary types ≡ false)
                 → readFrom size (knowing previous typeAt (withTypes P types)) (field f rest) ≡ afterStage (cond two type (stopped types (field f rest))) next
             as-type true q j =
                 read-type size P types previous typeAt f rest (eqb-true (f .tag) 2 q) (b .low) (b .high) j
@@ -468,7 +468,7 @@ module _ (size P : ℕ) where
             as-type false q j =
                 goes-on types previous typeAt (field f rest) (ready types previous (field f rest) b j (types-past types previous (f .tag) b e q))
 
-            fine : (unjudged previous ≡ true → floats types ≡ false)
+            fine : (unjudged previous ≡ true → notComplementary types ≡ false)
                 → readFrom size (knowing previous typeAt (withTypes P types)) (field f rest)
                 ≡ afterStage (cond (eqb (f .tag) 2) type (stopped types (field f rest))) next
             fine = as-type (eqb (f .tag) 2) refl

@@ -23,10 +23,10 @@ use Rattle.circuit.specs.Limits.{mostEdges}
 use Rattle.circuit.specs.Fields.{Field, Cut, clean, broken, field, cutFrom}
 use Rattle.circuit.specs.Circuit.{noType}
 use Rattle.circuit.specs.Known.{tagOf, typeIn, edgeIn, latest, withEdge, edgeAdded}
-use Rattle.circuit.specs.Table.{Verdict, passes, refused, firstOf, floats, isEmpty, isUnknown, typeTests, edgeTests, edgeTestsOf}
+use Rattle.circuit.specs.Table.{Verdict, passes, refused, firstOf, notComplementary, isEmpty, isUnknown, typeTests, edgeTests, edgeTestsOf}
 use Rattle.circuit.specs.Records.{padded, unusedEdge, edgeRecord, typeRecord}
 use Rattle.circuit.specs.Answers.{isRefused}
-use Rattle.circuit.specs.Stages.{bodyOf, fieldIn, FieldAt, NextIs, Stage, stopped, failed, ifPasses, section, edgeStage, floatingBefore, floatingVerdict, judged, typeStage}
+use Rattle.circuit.specs.Stages.{bodyOf, fieldIn, FieldAt, NextIs, Stage, stopped, failed, ifPasses, section, edgeStage, failingBefore, failingVerdict, judged, typeStage}
 use Rattle.circuit.specs.declared.fields.Field.{Field as FieldRecord}
 use Rattle.circuit.specs.declared.fields.Next.the-variants.{Other}
 use Rattle.circuit.proofs.Padding.{getD-padded, padded-snoc}
@@ -225,41 +225,41 @@ unfolding ifPasses isRefused
 refused-leaves passes e s u = cc
 refused-leaves (refused number place) e s u = refl
 
-pub floating-refuses : (typeAt : ℕ) (cut : Cut) → isRefused (floatingVerdict typeAt cut) ≡ true
-unfolding floatingVerdict floatingBefore isRefused
-floating-refuses typeAt clean = refl
-floating-refuses typeAt (broken at) = refl
-floating-refuses typeAt (field f rest) = go (isUnknown (tagOf (f .tag))) (eqb (f .tag) 1)
+pub failing-refuses : (typeAt : ℕ) (cut : Cut) → isRefused (failingVerdict typeAt cut) ≡ true
+unfolding failingVerdict failingBefore isRefused
+failing-refuses typeAt clean = refl
+failing-refuses typeAt (broken at) = refl
+failing-refuses typeAt (field f rest) = go (isUnknown (tagOf (f .tag))) (eqb (f .tag) 1)
   where
     go : (a b : Bool) → isRefused (cond a (refused 3 (f .at)) (cond b (refused 4 (f .at)) (refused 9 typeAt))) ≡ true
     go true b = refl
     go false true = refl
     go false false = refl
 
-floating-leaves : {A : Type 0} (typeAt : ℕ) (cut : Cut) (s u : Stage A) → ifPasses (floatingVerdict typeAt cut) s ≡ ifPasses (floatingVerdict typeAt cut) u
-floating-leaves typeAt cut s u = refused-leaves (floatingVerdict typeAt cut) (floating-refuses typeAt cut) s u
+failing-leaves : {A : Type 0} (typeAt : ℕ) (cut : Cut) (s u : Stage A) → ifPasses (failingVerdict typeAt cut) s ≡ ifPasses (failingVerdict typeAt cut) u
+failing-leaves typeAt cut s u = refused-leaves (failingVerdict typeAt cut) (failing-refuses typeAt cut) s u
 
 -- where no edge stands the latest type is judged before anything else
 abbrev pub NoEdge : Cut → Type 0
 NoEdge cut = (f : Field) (rest : Cut) → cut ≡ field f rest → f .tag ≡ 3 → ⊥
 
 module _ (types : List ModuleType) (t : ModuleType) (typeAt : ℕ) where
-  judged-latest : (cut : Cut) → judged (types ++ (t ∷ [])) typeAt cut ≡ cond (not (isComplementary t)) (floatingVerdict typeAt cut) passes
-  unfolding judged floats
+  judged-latest : (cut : Cut) → judged (types ++ (t ∷ [])) typeAt cut ≡ cond (not (isComplementary t)) (failingVerdict typeAt cut) passes
+  unfolding judged notComplementary
   judged-latest cut = rw (not-empty types t, latest-snoc types t)
 
-  -- a type that floats is refused where its edges end
-  pub floating-stage : (cut : Cut) → NoEdge cut → isComplementary t ≡ false → (s : Stage (List ModuleType))
-      → typeStage (types ++ (t ∷ [])) typeAt cut ≡ ifPasses (floatingVerdict typeAt cut) s
+  -- a type that is not complementary is refused where its edges end
+  pub failing-stage : (cut : Cut) → NoEdge cut → isComplementary t ≡ false → (s : Stage (List ModuleType))
+      → typeStage (types ++ (t ∷ [])) typeAt cut ≡ ifPasses (failingVerdict typeAt cut) s
   unfolding typeStage
-  floating-stage clean none e s = rw (judged-latest clean, e) (floating-leaves typeAt clean _ s)
-  floating-stage (broken at) none e s = rw (judged-latest (broken at), e) (floating-leaves typeAt (broken at) _ s)
-  floating-stage (field f rest) none e s =
-      rw (ne-eqb (f .tag) 3 (none f rest refl), judged-latest (field f rest), e) (floating-leaves typeAt (field f rest) _ s)
+  failing-stage clean none e s = rw (judged-latest clean, e) (failing-leaves typeAt clean _ s)
+  failing-stage (broken at) none e s = rw (judged-latest (broken at), e) (failing-leaves typeAt (broken at) _ s)
+  failing-stage (field f rest) none e s =
+      rw (ne-eqb (f .tag) 3 (none f rest refl), judged-latest (field f rest), e) (failing-leaves typeAt (field f rest) _ s)
 
 -- ---- types that are judged, before what stands next
 
--- no type floats, and what stands next is no edge of the latest type
+-- every type is complementary, and what stands next is no edge of the latest type
 pub record Settled (types : List ModuleType) (cut : Cut) : Type 0 where
   pub sound : (typeAt : ℕ) → judged types typeAt cut ≡ passes
   pub no-edge : (f : Field) (rest : Cut) → cut ≡ field f rest → (eqb (f .tag) 3 && not (isEmpty types)) ≡ false

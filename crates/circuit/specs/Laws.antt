@@ -5,14 +5,14 @@ use mathlib.Core.Bool.{Bool, true, false, not, _&&_}
 use mathlib.Core.List.{List, map}
 use lib.Dec.{T, eqb, leb}
 use lib.ListN.{length, getD}
-use Rattle.switch.specs.Conduction.{Value, Edge, between}
+use Rattle.switch.specs.Conduction.{Value, Edge, between, badEnds}
 use Rattle.switch.specs.Modules.{ModuleType, allOf, inRange}
 use Rattle.switch.specs.Bridges.{Bridge, nodes, input}
 use Rattle.switch.specs.Deciding.{isComplementary}
 use Rattle.circuit.specs.Limits.{mostTypes, mostEdges, mostBridges, mostInstances, mostVectors, mostFaults}
 use Rattle.circuit.specs.Circuit.{Circuit, Instance, Listed, Choice, exhaustive, no-faults, list, typeOfInstance, joinLists, chosenSize, faultsOf, faultCount}
 use Rattle.circuit.specs.Numbers.{referenceGood}
-use Rattle.circuit.specs.Table.{badNodes, listUnsuited, listEmpty}
+use Rattle.circuit.specs.Table.{listUnsuited, listEmpty}
 use Rattle.circuit.specs.Reading.{Reading, accepted, refusal, readingOf}
 use Rattle.circuit.specs.Answers.{Answers}
 use Rattle.circuit.specs.Stages.{staged}
@@ -26,7 +26,7 @@ Each {A} Holds as′ = (i : ℕ) (none : A) → i < length as′ → Holds i (ge
 
 -- the ends of an edge keep the channel rule, in a type with h and o
 unfoldable pub endsGood : ℕ → ℕ → Edge → Bool
-endsGood h o e = not (badNodes h o (e .first) (e .second))
+endsGood h o e = not (badEnds h o e)
 
 -- a type: its numbers and its edges' are in range, its edges are few and keep the channel rule
 pub record TypeSound (t : ModuleType) : Type 0 where

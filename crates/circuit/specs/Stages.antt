@@ -13,7 +13,7 @@ use Rattle.circuit.specs.Limits.{mostBytes, mostTypes, mostEdges, mostBr
 use Rattle.circuit.specs.Fields.{Field, Cut, clean, broken, field, cutFrom, twoBytes}
 use Rattle.circuit.specs.Circuit.{Instance, Listed, faultCount}
 use Rattle.circuit.specs.Known.{typeIn, edgeIn, listedIn, instanceIn, vectorIn, latest, withEdge, edgeAdded, tagOf}
-use Rattle.circuit.specs.Table.{Test, Verdict, passes, refused, firstOf, floats, isEmpty, isUnknown, inputsTests, typeTests, edgeTests, bridgeTests, instanceTests, vectorTests}
+use Rattle.circuit.specs.Table.{Test, Verdict, passes, refused, firstOf, notComplementary, isEmpty, isUnknown, inputsTests, typeTests, edgeTests, bridgeTests, instanceTests, vectorTests}
 use Rattle.circuit.specs.Reading.{Reading, accepted, refusal, unless}
 use Rattle.circuit.specs.Records.{emptyCircuit}
 use Rattle.circuit.specs.Answers.{verdictOf}
@@ -85,19 +85,19 @@ vectorStage P =
 
 -- ---- types, each judged when its edges are read
 
--- the refusal of a type that floats: 9, unless what stands next is refused before 9 is looked at
-unfoldable pub floatingBefore : ℕ → ℕ → ℕ → Verdict
-floatingBefore tag at typeAt =
+-- the refusal of a type that is not complementary: 9, unless what stands next is refused before 9 is looked at
+unfoldable pub failingBefore : ℕ → ℕ → ℕ → Verdict
+failingBefore tag at typeAt =
     cond (isUnknown (tagOf tag)) (refused 3 at) (cond (eqb tag 1) (refused 4 at) (refused 9 typeAt))
 
-unfoldable pub floatingVerdict : ℕ → Cut → Verdict
-floatingVerdict typeAt clean = refused 9 typeAt
-floatingVerdict typeAt (broken at) = refused 2 at
-floatingVerdict typeAt (field f rest) = floatingBefore (f .tag) (f .at) typeAt
+unfoldable pub failingVerdict : ℕ → Cut → Verdict
+failingVerdict typeAt clean = refused 9 typeAt
+failingVerdict typeAt (broken at) = refused 2 at
+failingVerdict typeAt (field f rest) = failingBefore (f .tag) (f .at) typeAt
 
 -- the latest of some types is judged
 unfoldable pub judged : List ModuleType → ℕ → Cut → Verdict
-judged types typeAt cut = cond (isEmpty types) passes (cond (floats types) (floatingVerdict typeAt cut) passes)
+judged types typeAt cut = cond (isEmpty types) passes (cond (notComplementary types) (failingVerdict typeAt cut) passes)
 
 unfoldable pub typeStage : List ModuleType → ℕ → Cut → Stage (List ModuleType)
 typeStage types typeAt clean = ifPasses (judged types typeAt clean) (stopped types clean)

@@ -5,7 +5,7 @@ use mathlib.Core.Bool.{Bool, true, false, cond, not, _&&_, _||_}
 use mathlib.Core.List.{List, [], _∷_, _++_}
 use lib.Dec.{eqb, leb, ltb}
 use lib.ListN.{length, getD}
-use Rattle.switch.specs.Conduction.{Edge, between, anyOf}
+use Rattle.switch.specs.Conduction.{between, badEnds}
 use Rattle.switch.specs.Modules.{ModuleType, allOf, typeInRange, edgeInRange}
 use Rattle.switch.specs.Bridges.{Bridge, nodes, input}
 use Rattle.switch.specs.Deciding.{isComplementary}
@@ -60,18 +60,10 @@ isEdge no-tag = false
 unfoldable pub unjudged : ℕ → Bool
 unjudged previous = between 2 3 previous
 
-unfoldable pub floats : List ModuleType → Bool
-floats types = not (isComplementary (latest types))
+unfoldable pub notComplementary : List ModuleType → Bool
+notComplementary types = not (isComplementary (latest types))
 
 -- ---- ranges and rules of one field
-
--- number 8: edge ends equal, or breaking the channel rule: both ends in 1 to o, or both in o to h or 0
-unfoldable pub lowSide : ℕ → ℕ → ℕ → Bool
-lowSide h o m = eqb m 0 || between o h m
-
-unfoldable pub badNodes : ℕ → ℕ → ℕ → ℕ → Bool
-badNodes h o a b =
-    eqb a b || not (between 1 o a && between 1 o b || lowSide h o a && lowSide h o b)
 
 -- list number 1 to 127; kind 0 joins two different nodes 0 to 31, kind 1 a node 0 to 31 and a label 0 to 11
 unfoldable pub bridgeInRange : ℕ → ℕ → ℕ → ℕ → Bool
@@ -122,7 +114,7 @@ edgeTestsOf h o k count at body =
     test 5 (not (between 3 6 (length body))) at
     ∷ test 6 (leb mostEdges count) at
     ∷ test 7 (not (edgeInRange h k (edgeIn body))) at
-    ∷ test 8 (badNodes h o (getD body 0 0) (getD body 1 0)) at
+    ∷ test 8 (badEnds h o (edgeIn body)) at
     ∷ []
 
 unfoldable pub edgeTests : ModuleType → ℕ → List ℕ → List Test
@@ -182,17 +174,17 @@ isUnknown no-tag = true
 unfoldable pub fieldTests : Known → Field → List Test
 fieldTests known f =
     let tag = tagOf (f .tag) in
-    let floating = floats (known .circuit .types) in
+    let failing = notComplementary (known .circuit .types) in
     test 3 (isUnknown tag) (f .at)
     ∷ test 4 (misplaced (known .previous) tag) (f .at)
-    ∷ test 9 (cond (unjudged (known .previous) && not (isEdge tag)) floating false) (known .typeAt)
+    ∷ test 9 (cond (unjudged (known .previous) && not (isEdge tag)) failing false) (known .typeAt)
     ∷ bodyTests tag (known .circuit) (f .at) (f .body)
 
 -- file ended with no tag 1, no instance or no vector
 unfoldable pub endTests : Known → ℕ → List Test
 endTests known size =
-    let floating = floats (known .circuit .types) in
-    test 9 (cond (unjudged (known .previous)) floating false) (known .typeAt)
+    let failing = notComplementary (known .circuit .types) in
+    test 9 (cond (unjudged (known .previous)) failing false) (known .typeAt)
     ∷ test 14 (eqb (known .previous) 0) size
     ∷ test 14 (isEmpty (known .circuit .instances)) size
     ∷ test 14 (isEmpty (known .circuit .vectors)) size

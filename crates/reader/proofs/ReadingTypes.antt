@@ -19,7 +19,7 @@ use Rattle.circuit.specs.Known.{typeIn, edgeIn, withEdge}
 use Rattle.circuit.specs.Table.{Verdict, passes, refused, firstOf, typeTests, edgeTests, edgeTestsOf}
 use Rattle.circuit.specs.Records.{padded, unusedType, edgeRecord, typeRecord}
 use Rattle.circuit.specs.Answers.{numberOf, placeOf, numberedVerdict, verdictOf, isRefused}
-use Rattle.circuit.specs.Stages.{bodyOf, NextIs, Stage, ifPasses, edgeStage, floatingVerdict, typeStage}
+use Rattle.circuit.specs.Stages.{bodyOf, NextIs, Stage, ifPasses, edgeStage, failingVerdict, typeStage}
 use Rattle.reader.specs.Sections.{goodType, stageOf, bareOf, BareType, EdgesRead, TypeRead, TypesRead}
 use Rattle.circuit.specs.declared.fields.Field.{Field as FieldRecord}
 use Rattle.circuit.specs.declared.fields.Next.the-variants.{Found, Other}
@@ -29,7 +29,7 @@ use Rattle.reader.specs.declared.edges.OneType.{OneType}
 use Rattle.circuit.proofs.Padding.{padded-nil, padded-snoc}
 use Rattle.circuit.proofs.Verdicts.{first-passes, passes-is}
 use Rattle.circuit.proofs.Cuts.{section-step, section-stop}
-use Rattle.circuit.proofs.TypeLaws.{accepts, all-snoc, type-back, type-given, edge-passes, with-edge-ranges, with-edge-record, afterEdges, edges-first, floating-stage, floating-refuses, Settled, settled-none, settled-more, type-step, type-stop}
+use Rattle.circuit.proofs.TypeLaws.{accepts, all-snoc, type-back, type-given, edge-passes, with-edge-ranges, with-edge-record, afterEdges, edges-first, failing-stage, failing-refuses, Settled, settled-none, settled-more, type-step, type-stop}
 
 -- ---- a stage that fails
 
@@ -200,11 +200,11 @@ module _ (file : List ℕ) (f : FieldRecord) (bare : TypeRecord) (told : bare �
     pub type-complementary : test ≡ true → TypeRead file f one
     type-complementary e = read-with (λ p. subst T (sym (sym test-is ∙ e)) tt)
 
-    pub type-floating : test ≡ false → isRefused (verdictOf (one .refusal)) ≡ false → (v : Refusal)
-        → verdictOf v ≡ floatingVerdict (f .at) (cutFrom file (one .at))
+    pub type-failing : test ≡ false → isRefused (verdictOf (one .refusal)) ≡ false → (v : Refusal)
+        → verdictOf v ≡ failingVerdict (f .at) (cutFrom file (one .at))
         → TypeRead file f (record { refusal = v; at = one .at; «module_type» = one .«module_type» })
-    type-floating e accepted v q =
-        let refuses : isRefused (verdictOf v) ≡ true = rw q (floating-refuses (f .at) (cutFrom file (one .at))) in
+    type-failing e accepted v q =
+        let refuses : isRefused (verdictOf v) ≡ true = rw q (failing-refuses (f .at) (cutFrom file (one .at))) in
         let cut : Cut = cutFrom file (one .at) in
         let passed = passes-is (verdictOf (one .refusal)) accepted in
         record {
@@ -217,7 +217,7 @@ module _ (file : List ℕ) (f : FieldRecord) (bare : TypeRecord) (told : bare �
               let here = typeStage (types ++ (read .type ∷ [])) (f .at) cut in
               all-edges types
               ∙ if-passes (verdictOf (one .refusal)) (verdictOf (one .refusal)) refl accepted here
-              ∙ rw q (floating-stage types (read .type) (f .at) cut (λ g rest. read .next g rest passed) (sym test-is ∙ e) here);
+              ∙ rw q (failing-stage types (read .type) (f .at) cut (λ g rest. read .next g rest passed) (sym test-is ∙ e) here);
           complementary = λ p. never-passes (verdictOf v) refuses p;
           next = λ g rest p. never-passes (verdictOf v) refuses p;
         }

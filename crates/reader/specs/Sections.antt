@@ -6,7 +6,7 @@ use mathlib.Core.List.{List, [], _∷_, _++_, map}
 use lib.Dec.{T, leb, ltb, eqb}
 use lib.ListN.{length, getD}
 use Rattle.words.specs.Tables.{table}
-use Rattle.switch.specs.Conduction.{Value, between}
+use Rattle.switch.specs.Conduction.{Value, Edge, between}
 use Rattle.switch.specs.Bridges.{Bridge, nodes, input}
 use Rattle.switch.specs.Modules.{ModuleType, allOf, typeInRange, inRange}
 use Rattle.switch.specs.Deciding.{isComplementary}
@@ -38,6 +38,10 @@ goodType t = inRange t && leb (length (t .edges)) mostEdges && isComplementary t
 unfoldable pub stageOf : {A : Type 0} → Verdict → A → Cut → Stage A
 stageOf passes a cut = stopped a cut
 stageOf (refused number place) a cut = failed number place
+
+-- an edge with these nodes, for its ends alone
+abbrev pub edgeBetween : ℕ → ℕ → Edge
+edgeBetween a b = record { first = a; second = b; labels = [] }
 
 -- the type that a record with no edge tells
 abbrev pub bareOf : TypeRecord → ModuleType

@@ -15,13 +15,14 @@ ghost use mathlib.Core.Bool.{not};
 ghost use Prim.Native.Nat.{_+_, _≤_};
 ghost use lib.Dec.{ltb};
 ghost use lib.ListN.{length, drop};
+ghost use Rattle.switch.specs.Conduction.{nEnd, badEnds};
 ghost use Rattle.switch.specs.Modules.{allOf};
 ghost use Rattle.circuit.specs.Known.{edgeIn};
-ghost use Rattle.circuit.specs.Table.{firstOf, lowSide, badNodes, edgeTestsOf};
+ghost use Rattle.circuit.specs.Table.{firstOf, edgeTestsOf};
 ghost use Rattle.circuit.specs.Records.{edgeRecord, unusedEdge};
 ghost use Rattle.circuit.specs.Answers.{verdictOf};
 ghost use Rattle.circuit.specs.Stages.{bodyOf};
-ghost use Rattle.reader.specs.Sections.{BareType, EdgesRead};
+ghost use Rattle.reader.specs.Sections.{edgeBetween, BareType, EdgesRead};
 
 // A type with its edges, and where reading goes on.
 pub struct OneType {
@@ -58,8 +59,8 @@ fn labels_below(file: &[u8], f: Field, k: u8) -> bool
 }
 
 // Whether a node is on the n side of a type: ground, or the output or a node above it.
-fn low_side(h: u8, o: u8, m: u8) -> bool
-    ensures { λ r. ⌜ r ≡ lowSide h o m ⌝ }
+fn n_end(h: u8, o: u8, m: u8) -> bool
+    ensures { λ r. ⌜ r ≡ nEnd h o m ⌝ }
 {
     if m == 0 {
         return true;
@@ -68,7 +69,7 @@ fn low_side(h: u8, o: u8, m: u8) -> bool
 }
 
 fn bad_nodes(h: u8, o: u8, a: u8, b: u8) -> bool
-    ensures { λ r. ⌜ r ≡ badNodes h o a b ⌝ }
+    ensures { λ r. ⌜ r ≡ badEnds h o (edgeBetween a b) ⌝ }
 {
     if a == b {
         return true;
@@ -76,7 +77,7 @@ fn bad_nodes(h: u8, o: u8, a: u8, b: u8) -> bool
     if is_between(1, o, a) && is_between(1, o, b) {
         return false;
     }
-    !(low_side(h, o, a) && low_side(h, o, b))
+    !(n_end(h, o, a) && n_end(h, o, b))
 }
 
 // The first test of an edge field that refuses, in a type with h, o, k and `count` edges so far.

@@ -26,7 +26,7 @@ ghost use Rattle.circuit.specs.Known.{typeIn};
 ghost use Rattle.circuit.specs.Table.{firstOf, typeTests};
 ghost use Rattle.circuit.specs.Records.{unusedType, typeRecord};
 ghost use Rattle.circuit.specs.Answers.{verdictOf};
-ghost use Rattle.circuit.specs.Stages.{bodyOf, FieldAt, floatingBefore, floatingVerdict};
+ghost use Rattle.circuit.specs.Stages.{bodyOf, FieldAt, failingBefore, failingVerdict};
 ghost use Rattle.reader.specs.Sections.{TypeRead, TypesRead};
 
 pub struct Types {
@@ -78,8 +78,8 @@ fn type_in(file: &[u8], f: Field) -> ModuleType
 }
 
 // The refusal of a type that is not complementary, before a field with this tag.
-fn floating_before(tag: u8, at: usize, type_at: usize) -> Refusal
-    ensures { λ r. ⌜ verdictOf r ≡ floatingBefore tag at «type_at» ⌝ }
+fn failing_before(tag: u8, at: usize, type_at: usize) -> Refusal
+    ensures { λ r. ⌜ verdictOf r ≡ failingBefore tag at «type_at» ⌝ }
 {
     if tag < 1 || 6 < tag {
         return Refusal::UnknownTag(at);
@@ -91,14 +91,14 @@ fn floating_before(tag: u8, at: usize, type_at: usize) -> Refusal
 }
 
 // The refusal of a type that is not complementary: 9 once the next tag has passed 3 and 4, or at the end of the file.
-fn floating(file: &[u8], at: usize, type_at: usize) -> Refusal
+fn failing(file: &[u8], at: usize, type_at: usize) -> Refusal
     requires { ⌜ at ≤ length (now file) ⌝ }
-    ensures { λ r. ⌜ verdictOf r ≡ floatingVerdict «type_at» (cutFrom (now (file .entry)) at) ⌝ }
+    ensures { λ r. ⌜ verdictOf r ≡ failingVerdict «type_at» (cutFrom (now (file .entry)) at) ⌝ }
 {
     match step_at(file, at) {
         Step::End => Refusal::NotComplementary(type_at),
         Step::Broken => Refusal::Broken(at),
-        Step::Whole(f) => floating_before(f.tag, at, type_at),
+        Step::Whole(f) => failing_before(f.tag, at, type_at),
     }
 }
 
@@ -119,7 +119,7 @@ fn read_type(file: &[u8], f: Field) -> OneType
         return one;
     }
     OneType {
-        refusal: floating(file, one.at, f.at),
+        refusal: failing(file, one.at, f.at),
         at: one.at,
         module_type,
     }

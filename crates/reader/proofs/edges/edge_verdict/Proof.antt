@@ -10,17 +10,18 @@ use borrow.Author.Needs.{needs}
 use borrow.Author.Tests.{le-leb, lt-leb, lt-ltb, ltb-true, ltb-false}
 use lib.Dec.{leb, ltb}
 use lib.ListN.{length, getD, drop, length-drop}
-use Rattle.switch.specs.Conduction.{between}
+use Rattle.switch.specs.Conduction.{between, pEnds, nEnds, badEnds}
 use Rattle.switch.specs.Modules.{allOf, edgeInRange}
 use Rattle.circuit.specs.Limits.{mostEdges}
 use Rattle.circuit.specs.Known.{edgeIn}
-use Rattle.circuit.specs.Table.{passes, refused, firstOf, badNodes, edgeTestsOf}
+use Rattle.circuit.specs.Table.{passes, refused, firstOf, edgeTestsOf}
 use Rattle.circuit.specs.Answers.{numberOf, placeOf, numberedVerdict, verdictOf, orIf}
 use Rattle.circuit.specs.Stages.{bodyOf}
 use Rattle.circuit.proofs.Bodies.{length-body}
 use Rattle.circuit.proofs.Verdicts.{chain, firstAfter}
 use Rattle.circuit.proofs.RangeLaws.{between-in, between-below, between-above, in-between}
 use Rattle.circuit.proofs.TypeLaws.{and-came}
+use Rattle.reader.specs.Sections.{edgeBetween}
 use Rattle.reader.proofs.edges.edge_verdict.Statement.{statement}
 use Rattle.reader.proofs.edges.edge_verdict.Tie as tie
 
@@ -41,10 +42,15 @@ counted-range : (h k : ℕ) (body : List ℕ) → between 3 6 (length body) ≡ 
 unfolding edgeInRange edgeIn
 counted-range h k body e = rw (counted body e, and-true (leb (getD body 0 0) h && leb (getD body 1 0) h))
 
+-- the ends are judged by the two nodes alone
+ends-same : (h o : ℕ) (body : List ℕ) → badEnds h o (edgeBetween (getD body 0 0) (getD body 1 0)) ≡ badEnds h o (edgeIn body)
+unfolding badEnds pEnds nEnds edgeIn
+ends-same h o body = refl
+
 -- the tests one after the other, from their flags
 in-turn : (h o k count at : ℕ) (body : List ℕ) (length-bad range ends-bad : Bool) → length-bad ≡ not (between 3 6 (length body))
     → range ≡ (leb (getD body 0 0) h && leb (getD body 1 0) h && allOf (λ (l : ℕ). ltb l k) (drop 2 body))
-    → ends-bad ≡ badNodes h o (getD body 0 0) (getD body 1 0)
+    → ends-bad ≡ badEnds h o (edgeBetween (getD body 0 0) (getD body 1 0))
     → orIf (orIf (orIf (orIf passes length-bad (refused 5 at)) (leb mostEdges count) (refused 6 at)) (not range) (refused 7 at)) ends-bad (refused 8 at)
     ≡ firstOf (edgeTestsOf h o k count at body)
 unfolding edgeTestsOf firstAfter firstOf orIf
@@ -53,7 +59,7 @@ in-turn h o k count at body length-bad range ends-bad p q r = go (between 3 6 (l
     go : (b : Bool) → between 3 6 (length body) ≡ b
         → orIf (orIf (orIf (orIf passes length-bad (refused 5 at)) (leb mostEdges count) (refused 6 at)) (not range) (refused 7 at)) ends-bad (refused 8 at)
         ≡ firstOf (edgeTestsOf h o k count at body)
-    go true e = rw (p, q, r, ← counted-range h k body e) (sym (chain (edgeTestsOf h o k count at body)))
+    go true e = rw (p, q, r ∙ ends-same h o body, ← counted-range h k body e) (sym (chain (edgeTestsOf h o k count at body)))
     go false e = rw (p, e)
 
 -- the flag of a length below 3, or at least 3 and above 6

@@ -1,8 +1,8 @@
--- `reader::types::read_type` meets its contract: its edges failed, or it is complementary, or it floats. Assumes nothing.
+-- `reader::types::read_type` meets its contract: its edges failed, or it is complementary, or it notComplementary. Assumes nothing.
 use mathlib.Core.Path.{sym, _∙_}
 use borrow.Author.Needs.{needs}
 use Rattle.circuit.specs.Stages.{bodyOf}
-use Rattle.reader.proofs.ReadingTypes.{bare-type, type-refused, type-read-given, type-complementary, type-floating}
+use Rattle.reader.proofs.ReadingTypes.{bare-type, type-refused, type-read-given, type-complementary, type-failing}
 use Rattle.reader.proofs.types.read_type.Statement.{statement}
 use Rattle.reader.proofs.types.read_type.Tie as tie
 
@@ -53,8 +53,8 @@ returns-2 c =
     (test .ensures)
     (c .if2 .taken)
 
-floating-requires : tie.Need-floating-requires
-floating-requires c κs = search needs
+failing-requires : tie.Need-failing-requires
+failing-requires c κs = search needs
 
 returns-3 : tie.Need-returns-3
 returns-3 c =
@@ -63,7 +63,7 @@ returns-3 c =
     let bare = edges .before .before .type-in in
     let a = edges .before .before .before .before .args in
     let test = c .before .before .complementary in
-    type-floating
+    type-failing
     (a .file .now)
     (a .f)
     (bare .result)
@@ -74,8 +74,8 @@ returns-3 c =
     (test .ensures)
     (c .before .if2 .left)
     (sym (out .before .refuses .ensures) ∙ out .if1 .left)
-    (c .floating .result)
-    (c .floating .ensures)
+    (c .failing .result)
+    (c .failing .ensures)
 
 pub read-type-spec : {M : Type 1} → statement M
 read-type-spec =
@@ -88,5 +88,5 @@ read-type-spec =
     returns
     complementary-requires
     returns-2
-    floating-requires
+    failing-requires
     returns-3)

@@ -1,0 +1,72 @@
+-- `show::listing::vector_lines` is safe and ends. The loop's invariant: the text so far is within the buffer, whose length stays. Assumes nothing.
+use Prim.Native.Nat.{_≤_, _-_}
+use mathlib.Core.Path.{_≡_}
+use lib.ListN.{length}
+use borrow.Author.Needs.{needs}
+use Rattle.show.proofs.listing.vector_lines.Statement.{statement}
+use Rattle.show.proofs.listing.vector_lines.Tie as tie
+
+abbrev Inv-loop : tie.InvT-loop
+Inv-loop out₀ count inputs vectors used output₀ i₀ out output i = (i ≤ used) × (output .at ≤ length out) × (length out ≡ length out₀)
+
+abbrev μ-loop : tie.MeasureT-loop
+μ-loop out₀ count inputs vectors used output₀ i₀ out output i = used - i
+
+at-most-requires : tie.Need-at-most-requires Inv-loop μ-loop
+at-most-requires c κs = search needs
+
+loop-holds : tie.Need-loop-holds Inv-loop μ-loop
+loop-holds c = search needs
+
+room-requires : tie.Need-room-requires Inv-loop μ-loop
+room-requires c κs = search needs
+
+add-vector-line : tie.Need-add-vector-line Inv-loop μ-loop
+add-vector-line c = search needs
+
+mul-vector-line : tie.Need-mul-vector-line Inv-loop μ-loop
+mul-vector-line c = search needs
+
+array-copy-out-vector-line : tie.Need-array-copy-out-vector-line Inv-loop μ-loop
+array-copy-out-vector-line c = search needs
+
+vector-line-requires : tie.Need-vector-line-requires Inv-loop μ-loop
+vector-line-requires c κs = search needs
+
+up-to-requires : tie.Need-up-to-requires Inv-loop μ-loop
+up-to-requires c κs = search needs
+
+add-i : tie.Need-add-i Inv-loop μ-loop
+add-i c = search needs
+
+loop-less : tie.Need-loop-less Inv-loop μ-loop
+loop-less c = search needs
+
+loop-again : tie.Need-loop-again Inv-loop μ-loop
+loop-again c = search needs
+
+same-length : tie.Need-same-length Inv-loop μ-loop
+same-length c = search needs
+
+returns : tie.Need-returns Inv-loop μ-loop
+returns c = search needs
+
+pub vector-lines-spec : {M : Type 1} → statement M
+vector-lines-spec =
+    tie.close
+    (tie.spec
+    Inv-loop
+    μ-loop
+    at-most-requires
+    loop-holds
+    room-requires
+    add-vector-line
+    mul-vector-line
+    array-copy-out-vector-line
+    vector-line-requires
+    up-to-requires
+    add-i
+    loop-less
+    loop-again
+    same-length
+    returns)

@@ -1,0 +1,417 @@
+-- Grading a circuit instance by instance: what stands in signals, matrix, classes and counts after the first instances, that one turn of the loop
+-- goes from one instance to the next, given what each call answers, and that after the last the circuit is graded. Assumes nothing.
+use Prim.Native.Nat.{ℕ, zero, suc, _+_, _-_, _*_, _/_, _<_, _≤_}
+use mathlib.Core.Path.{_≡_, refl, sym, ap, _∙_}
+use mathlib.Core.List.{List, [], _∷_, _++_, map, append-assoc}
+use native.Mathlib.Nat.{zero-add}
+use native.Mathlib.Numerals.{add-one}
+use native.Mathlib.Omega.{arith}
+use lib.Dec.{T}
+use lib.ListN.{length, getD, length-append, length-map}
+use Rattle.words.specs.Bits.{ofBool, sumTo}
+use Rattle.words.specs.Rows as marks
+use Rattle.words.specs.Tables.{table}
+use Rattle.words.specs.Written.{written}
+use Rattle.words.proofs.Laws.{ofBool-le-one}
+use Rattle.words.proofs.Tables.{length-table}
+use Rattle.words.proofs.WrittenLaws.{written-nothing, length-written, written-written}
+use Rattle.switch.specs.Modules.{ModuleType}
+use Rattle.switch.specs.Bridges.{Bridge, nodes}
+use Rattle.switch.specs.Promises.{isAt0, isAt1}
+use Rattle.switch.specs.Records.{Given, typeOf}
+use Rattle.switch.specs.declared.ModuleType.{ModuleType as TypeRecord}
+use Rattle.switch.proofs.Deciding.{all-of}
+use Rattle.circuit.specs.Circuit.{Circuit, Instance, Reference, primary, outputOf, typeOfInstance, joinLists, faultsOf}
+use Rattle.circuit.specs.Numbers.{referenceGood}
+use Rattle.circuit.specs.Records.{padded, typeRecord, instanceRecord, referenceRecord, unusedReference, circuitRecord}
+use Rattle.circuit.specs.Laws.{TypeSound, CircuitGood}
+use Rattle.circuit.specs.declared.Circuit.{Circuit as CircuitRecord}
+use Rattle.circuit.specs.declared.Instance.{Instance as InstanceRecord}
+use Rattle.circuit.proofs.Padding.{getD-padded}
+use Rattle.circuit.proofs.RangeLaws.{in-between}
+use Rattle.circuit.proofs.TypeLaws.{type-back, type-given}
+use Rattle.grader.specs.Rows.{Row, rowsOfInstance, rowsFrom, rowsOf, rowWords, matrixOf}
+use Rattle.grader.specs.Classes.{largest, classesAfter, classesOf, classFound, foundAmong, classCount, foundCount}
+use Rattle.grader.specs.Grading.{over, countsOf}
+use Rattle.grader.specs.Model.{codeOf, codes, signalWords, columnsOf, inputWords, ReferencesFit, instanceWords, outputOnes, outputZeros}
+use Rattle.grader.specs.Model.{CodesFit, rowsWords, firstLabels, keyOf, keysOf, numbers, countAfter, foundFrom, RowsAre, Graded}
+use Rattle.grader.specs.declared.rows.Rows.{Rows}
+use Rattle.grader.specs.declared.signals.Columns.{Columns}
+use Rattle.grader.specs.declared.instances.InstanceWords.{InstanceWords}
+use Rattle.grader.proofs.Filling.{part, part-written}
+use Rattle.grader.proofs.ValueLaws.{InstanceAt, good-at, type-at, type-ranges}
+use Rattle.grader.proofs.SignalMeaning.{referencesOf, wordsOf, signals-start, signals-more}
+use Rattle.grader.proofs.RowMeaning.{rows-words}
+use Rattle.grader.proofs.ClassMeaning.{rowsBefore, length-classes, largest-most, faultKeys, rows-more, class-next, count-next, keys-are, rows-all}
+use Rattle.grader.proofs.FoundMeaning.{foundBefore, found-step, words-are, numbers-are}
+use Rattle.grader.proofs.RowLaws.{getD-map, noInstance, length-rows, length-of-instance, rows-grow, rows-within, end-is, few-rows, codes-at, codes-fit, ends-at}
+use Rattle.grader.proofs.RecordReads.{instance-is, type-read}
+
+-- ---- the matrix, row after row
+
+module _ (c : Circuit) where
+  row-long : (r : Row) → length (rowWords c r) ≡ 4
+  unfolding rowWords marks.rowOf
+  row-long r = refl
+
+  length-matrix : (rows : List Row) → length (joinLists (map (rowWords c) rows)) ≡ 4 * length rows
+  unfolding joinLists
+  length-matrix [] = refl
+  length-matrix (r ∷ rs) = omega (arith, row-long r, length-append (rowWords c r) (joinLists (map (rowWords c) rs)), length-matrix rs)
+
+  matrix-append : (a b : List Row)
+      → joinLists (map (rowWords c) (a ++ b)) ≡ joinLists (map (rowWords c) a) ++ joinLists (map (rowWords c) b)
+  unfolding joinLists
+  matrix-append [] b = refl
+  matrix-append (r ∷ a) b =
+      rw (matrix-append a b) (sym (append-assoc (rowWords c r) (joinLists (map (rowWords c) a)) (joinLists (map (rowWords c) b))))
+
+  abbrev matrixTo : ℕ → List ℕ
+  matrixTo i = joinLists (map (rowWords c) (rowsBefore c i))
+
+-- ---- after the first i instances
+
+pub record Turned (c : Circuit) (matrix₀ classes₀ ones zeros matrix classes : List ℕ) (count found from i : ℕ) : Type 0 where
+  pub inside : i ≤ length (c .instances)
+  pub ones-are : ones ≡ signalWords isAt1 c i
+  pub zeros-are : zeros ≡ signalWords isAt0 c i
+  pub from-is : from ≡ length (rowsBefore c i)
+  pub matrix-is : matrix ≡ written matrix₀ 0 (joinLists (map (rowWords c) (rowsBefore c i)))
+  pub classes-are : classes ≡ written classes₀ 0 (classesOf (rowsBefore c i))
+  pub count-is : count ≡ largest (classesOf (rowsBefore c i))
+  pub found-is : found ≡ foundBefore c i
+
+-- no more classes are found than there are
+sum-few : (n : ℕ) (f : ℕ → ℕ) → ((v : ℕ) → f v ≤ 1) → sumTo n f ≤ n
+unfolding sumTo
+sum-few zero f h = omega arith
+sum-few (suc n) f h = omega (arith, h 0, sum-few n (λ (v : ℕ). f (suc v)) (λ v. h (suc v)))
+
+pub found-few : (c : Circuit) → CircuitGood c → (i : ℕ) → foundBefore c i ≤ 2048
+unfolding foundAmong
+found-few c good i =
+    let rows : List Row = rowsBefore c i in
+    omega (
+      arith,
+      sum-few
+          (largest (classesOf rows))
+          (λ (n : ℕ). ofBool (classFound c (suc n) rows (classesOf rows)))
+          (λ n. ofBool-le-one (classFound c (suc n) rows (classesOf rows))),
+      largest-most rows,
+      rows-within c i,
+      few-rows c good,
+    )
+
+-- the rows from one place to another have their places, in the codes and in all that is written
+pub record TurnFits (codes ones zeros matrix classes : List ℕ) (count from to : ℕ) : Type 0 where
+  pub order : (from ≤ to) × (to ≤ 2048)
+  pub signals : (length ones ≡ 768) × (length zeros ≡ 768)
+  pub words : 4 * to ≤ length matrix
+  pub entries : to ≤ length classes
+  pub codes-fit : CodesFit codes from to
+  pub count-few : count ≤ from
+
+-- the buffers are long enough
+pub record Room (m : CircuitRecord) (matrix classes : List ℕ) : Type 0 where
+  pub words : 4 * m .faults ≤ length matrix
+  pub entries : m .faults ≤ length classes
+
+-- a list over the start of a buffer
+over-is : (text buffer : List ℕ) → written buffer 0 text ≡ over text buffer
+unfolding written over
+over-is text buffer = rw (zero-add (length text))
+
+module _ (c : Circuit) (m : CircuitRecord) (is : m ≡ circuitRecord c) where
+  pub vectors-are : m .«vector_count» ≡ length (c .vectors)
+  unfolding circuitRecord
+  vectors-are = ap (λ (x : CircuitRecord). x .«vector_count») is
+
+  pub instances-are : m .«instance_count» ≡ length (c .instances)
+  unfolding circuitRecord
+  instances-are = ap (λ (x : CircuitRecord). x .«instance_count») is
+
+  -- the faults are the rows
+  pub faults-are : m .faults ≡ length (rowsOf c)
+  unfolding circuitRecord rowsOf
+  faults-are = ap (λ (x : CircuitRecord). x .faults) is ∙ sym (length-rows (c .types) (c .bridges) 1 (c .instances))
+
+  pub turned-none : (matrix classes : List ℕ) (columns : Columns) (ones zeros : List ℕ) → columns ≡ columnsOf (m .vectors)
+      → ones ≡ inputWords (columns .ones) → zeros ≡ inputWords (columns .zeros)
+      → Turned c matrix classes ones zeros matrix classes 0 0 0 0
+  unfolding circuitRecord joinLists rowsFrom classesOf classesAfter largest foundAmong sumTo
+  turned-none matrix classes columns ones zeros e p q =
+      let all : columns ≡ columnsOf (circuitRecord c .vectors) = e ∙ ap (λ (x : CircuitRecord). columnsOf (x .vectors)) is in
+      record {
+        inside = omega arith;
+        ones-are = p ∙ ap (λ (x : Columns). inputWords (x .ones)) all ∙ signals-start c .0;
+        zeros-are = q ∙ ap (λ (x : Columns). inputWords (x .zeros)) all ∙ signals-start c .1;
+        from-is = refl;
+        matrix-is = sym (written-nothing matrix 0);
+        classes-are = sym (written-nothing classes 0);
+        count-is = refl;
+        found-is = refl;
+      }
+
+  pub classes-few : CircuitGood c → {matrix₀ classes₀ ones zeros matrix classes : List ℕ} {count found from i : ℕ}
+      → Turned c matrix₀ classes₀ ones zeros matrix classes count found from i → count ≤ 2048
+  classes-few good {i = i} so-far = omega (arith, so-far .count-is, largest-most (rowsBefore c i), rows-within c i, few-rows c good)
+
+  -- the buffers keep their lengths
+  module _ {matrix₀ classes₀ ones zeros matrix classes : List ℕ} {count found from i : ℕ}
+      (room : Room m matrix₀ classes₀) (so-far : Turned c matrix₀ classes₀ ones zeros matrix classes count found from i) where
+    pub turned-long : (length matrix ≡ length matrix₀) × (length classes ≡ length classes₀)
+    turned-long =
+        let rows : List Row = rowsBefore c i in (
+          ap length (so-far .matrix-is)
+              ∙ length-written matrix₀ 0 (matrixTo c i) (omega (arith, length-matrix c rows, rows-within c i, room .words, faults-are)),
+          ap length (so-far .classes-are)
+              ∙ length-written classes₀ 0 (classesOf rows) (omega (arith, length-classes rows, rows-within c i, room .entries, faults-are)),
+        )
+
+  pub turned-end : (matrix₀ classes₀ ones zeros matrix classes : List ℕ) (count found from i : ℕ)
+      → Turned c matrix₀ classes₀ ones zeros matrix classes count found from i → m .«instance_count» ≤ i
+      → Graded c record { vectors = m .«vector_count»; faults = m .faults; classes = count; found = found } matrix₀ classes₀ matrix classes
+  unfolding countsOf classCount foundCount matrixOf
+  turned-end matrix₀ classes₀ ones zeros matrix classes count found from i all past =
+      let last : i ≡ length (c .instances) = omega (arith, all .inside, instances-are) in
+      let rows : rowsBefore c i ≡ rowsOf c = ap (rowsBefore c) last ∙ rows-all c in
+      record {
+        counts-are = rw (vectors-are, faults-are, all .count-is, all .found-is, rows);
+        matrix-is = all .matrix-is ∙ over-is (joinLists (map (rowWords c) (rowsBefore c i))) matrix₀ ∙ rw rows;
+        classes-are = all .classes-are ∙ over-is (classesOf (rowsBefore c i)) classes₀ ∙ rw rows;
+      }
+
+found-same : (matrix classes : List ℕ) {a b n k x y : ℕ} → a ≡ b → n ≡ k → x ≡ y → foundFrom matrix classes a n x ≡ foundFrom matrix classes b k y
+found-same matrix classes p q r = rw (p, q, r)
+
+-- ---- one instance
+
+number-range : (P i : ℕ) (r : Reference) → P ≤ 64 → i < 128 → T (referenceGood P i r)
+    → (1 ≤ referenceRecord r .number) × (referenceRecord r .number ≤ 64 + 64)
+unfolding referenceGood referenceRecord
+number-range P i (primary n) h q t = (in-between 1 P n t .0, omega (arith, in-between 1 P n t))
+number-range P i (outputOf j) h q t = (in-between 1 i j t .0, omega (arith, in-between 1 i j t))
+
+module _ (c : Circuit) (good : CircuitGood c) (m : CircuitRecord) (is : m ≡ circuitRecord c) (i : ℕ) (h : i < length (c .instances)) where
+  abbrev inst : Instance
+  inst = getD (c .instances) i noInstance
+
+  abbrev type : ModuleType
+  type = typeOfInstance (c .types) inst
+
+  at : InstanceAt c i inst
+  at = record { good = good; within = h; none = noInstance; is = refl }
+
+  sound : TypeSound type
+  sound = type-at c i inst at .sound
+
+  pub place-few : i < 128
+  place-few = omega (arith, good .few-instances)
+
+  pub words-few : (m .«vector_count» + 63) / 64 ≤ 4
+  words-few = omega (arith, vectors-are c m is, good .few-vectors)
+
+  -- e and u are what stands past the places for instances and types
+  module _ (e : InstanceRecord) where
+    references-are : getD (m .instances) i e .references ≡ referencesOf inst
+    unfolding instanceRecord
+    references-are = ap (λ (x : InstanceRecord). x .references) (instance-is c good m is i noInstance h e)
+
+    module _ (u : TypeRecord) where
+      abbrev one : InstanceRecord
+      one = getD (m .instances) i e
+
+      abbrev t : TypeRecord
+      t = getD (m .types) (one .«type_number» - 1) u
+
+      t-is : t ≡ typeRecord type
+      t-is = type-read c good m is i noInstance h e u
+
+      pub type-there : Given t
+      type-there = rw t-is (type-given type (sound .ranges) (sound .few))
+
+      type-meant : typeOf t ≡ type
+      type-meant = ap typeOf t-is ∙ type-back type (sound .ranges) (sound .few)
+
+      labels-are : t .labels ≡ type .labels
+      unfolding typeRecord
+      labels-are = ap (λ (x : TypeRecord). x .labels) t-is
+
+      output-is : t .output ≡ type .output
+      unfolding typeRecord
+      output-is = ap (λ (x : TypeRecord). x .output) t-is
+
+      pub output-few : t .output < 32
+      output-few =
+          let ranges = type-ranges type sound in omega (arith, output-is, ranges .output-high, ranges .highest)
+
+      pub references-fit : ReferencesFit (one .references) (t .labels)
+      references-fit =
+          rw (references-are, labels-are)
+          record { few = few; some = λ l q. range l q .0; most = λ l q. range l q .1 }
+        where
+          few : type .labels ≤ 12
+          few = type-ranges type sound .labels-high
+
+          range : (l : ℕ) → l < type .labels
+              → (1 ≤ getD (referencesOf inst) l unusedReference .number) × (getD (referencesOf inst) l unusedReference .number ≤ 64 + 64)
+          range l q =
+              let g = good-at c i inst at in
+              let here : l < length (inst .references) = omega (arith, g .count) in
+              let tied = all-of (referenceGood (c .inputs) i) (primary 0) (inst .references) .0 (g .references) l here in
+              let is-at : getD (referencesOf inst) l unusedReference ≡ referenceRecord (getD (inst .references) l (primary 0))
+              = getD-padded unusedReference 12 (map referenceRecord (inst .references)) unusedReference l (omega (arith, few))
+              ∙ getD-map referenceRecord (inst .references) l (primary 0) unusedReference here in
+              rw is-at (number-range (c .inputs) i (getD (inst .references) l (primary 0)) (good .inputs .1) place-few tied)
+
+      -- ---- one turn
+
+      module _ (rows : Rows) (are : RowsAre c rows) (matrix₀ classes₀ ones zeros matrix classes : List ℕ) (count found from : ℕ)
+          (room : Room m matrix₀ classes₀) (so-far : Turned c matrix₀ classes₀ ones zeros matrix classes count found from i) where
+        abbrev to : ℕ
+        to = getD (rows .ends) i 0
+
+        abbrev faults : List Bridge
+        faults = faultsOf (c .types) (c .bridges) inst
+
+        abbrev new : List Row
+        new = rowsOfInstance (c .types) (c .bridges) (suc i) inst
+
+        to-is : to ≡ length (rowsBefore c (suc i))
+        to-is = ends-at c good rows are i h ∙ end-is c i
+
+        long : to ≡ from + length faults
+        long = omega (arith, to-is, so-far .from-is, rows-grow c i noInstance h)
+
+        within : to ≤ length (rowsOf c)
+        within = omega (arith, to-is, rows-within c (suc i))
+
+        order : (from ≤ to) × (to ≤ 2048)
+        order = (omega (arith, long), omega (arith, within, few-rows c good))
+
+        signals-long : (length ones ≡ 768) × (length zeros ≡ 768)
+        unfolding signalWords
+        signals-long = (ap length (so-far .ones-are) ∙ length-table 768 _, ap length (so-far .zeros-are) ∙ length-table 768 _)
+
+        -- what the calls of a turn ask
+        pub turn-fits : TurnFits (rows .codes) ones zeros matrix classes count from to
+        turn-fits = record {
+          order = order;
+          signals = signals-long;
+          words = omega (arith, turned-long c m is room so-far .0, within, room .words, faults-are c m is);
+          entries = omega (arith, turned-long c m is room so-far .1, within, room .entries, faults-are c m is);
+          codes-fit = rw (are .codes-are) (codes-fit c good from to within);
+          count-few = omega (arith, so-far .count-is, so-far .from-is, largest-most (rowsBefore c i));
+        }
+
+        pub keys-kept : (keys keys′ : List ℕ) → length keys ≡ 2048
+            → keys′ ≡ written keys from (keysOf (rows .codes) (firstLabels (one .references)) from to) → length keys′ ≡ 2048
+        unfolding keysOf
+        keys-kept keys keys′ e put =
+            let key : ℕ → ℕ = λ (j : ℕ). keyOf (firstLabels (one .references)) (getD (rows .codes) (from + j) 0) in
+            ap length put ∙ length-written keys from (table (to - from) key) (omega (arith, length-table (to - from) key, order)) ∙ e
+
+        -- what the calls of a turn answer
+        module _ (read : InstanceWords)
+            (reads : read ≡ instanceWords (typeOf t) (one .references) ones zeros ((m .«vector_count» + 63) / 64))
+            (ones′ zeros′ : List ℕ)
+            (ones-put : ones′ ≡ written ones (4 * (64 + i)) (outputOnes (read .supply) (read .ground) (t .output)))
+            (zeros-put : zeros′ ≡ written zeros (4 * (64 + i)) (outputZeros (read .supply) (read .ground) (t .output)))
+            (matrix′ : List ℕ)
+            (rows-put : matrix′
+            ≡ written matrix (4 * from) (rowsWords (rows .codes) (read .supply) (read .ground) (read .ones) (read .zeros) (m .«vector_count») from to))
+            (keys keys′ : List ℕ) (keys-long : length keys ≡ 2048)
+            (keys-put : keys′ ≡ written keys from (keysOf (rows .codes) (firstLabels (one .references)) from to))
+            (after : ℕ) (after-is : after ≡ countAfter count (numbers count (part keys′ from to)))
+            (classes′ : List ℕ) (classes-put : classes′ ≡ written classes from (numbers count (part keys′ from to)))
+            (more : ℕ) (more-is : more ≡ foundFrom matrix′ classes′ from (to - from) count) where
+          stand : Bridge
+          stand = nodes 0 0
+
+          words-here : read ≡ wordsOf c i inst
+          words-here = reads ∙ rw (type-meant, references-are, so-far .ones-are, so-far .zeros-are, vectors-are c m is)
+
+          codes-here : (j : ℕ) → j < to - from → getD (rows .codes) (from + j) 0 ≡ codeOf (suc i) (getD faults j stand)
+          codes-here j q =
+              ap (λ (l : List ℕ). getD l (from + j) 0) (are .codes-are)
+              ∙ ap (λ (n : ℕ). getD (padded 2048 0 (codes (rowsOf c))) (n + j) 0) (so-far .from-is)
+              ∙ codes-at c good i noInstance h j (omega (arith, long)) stand
+
+          grown : rowsBefore c (suc i) ≡ rowsBefore c i ++ new
+          grown = rows-more c good i h noInstance inst refl
+
+          -- the matrix
+          texts : rowsWords (rows .codes) (read .supply) (read .ground) (read .ones) (read .zeros) (m .«vector_count») from to
+              ≡ joinLists (map (rowWords c) new)
+          texts = rw (words-here, vectors-are c m is) (rows-words c i inst at (rows .codes) from to stand (omega (arith, long)) codes-here)
+
+          matrix-next : matrix′ ≡ written matrix₀ 0 (matrixTo c (suc i))
+          matrix-next =
+              let added : List ℕ = joinLists (map (rowWords c) new) in
+              let whole : matrixTo c (suc i) ≡ matrixTo c i ++ added
+              = ap (λ (l : List Row). joinLists (map (rowWords c) l)) grown ∙ matrix-append c (rowsBefore c i) new in
+              let place : 4 * from ≡ 0 + length (matrixTo c i) = omega (arith, so-far .from-is, length-matrix c (rowsBefore c i)) in
+              let fits : 0 + length (matrixTo c i ++ added) ≤ length matrix₀
+              = rw (← whole) (omega (arith, length-matrix c (rowsBefore c (suc i)), rows-within c (suc i), room .words, faults-are c m is)) in
+              rows-put
+              ∙ rw (texts, so-far .matrix-is, place)
+              (written-written matrix₀ 0 (matrixTo c i) added fits ∙ ap (written matrix₀ 0) (sym whole))
+
+          -- the keys
+          keys-here : keysOf (rows .codes) (firstLabels (one .references)) from to ≡ faultKeys c (suc i) inst
+          keys-here = rw references-are (keys-are c (suc i) inst (rows .codes) from to stand (omega (arith, long)) codes-here)
+
+          part-is : part keys′ from to ≡ faultKeys c (suc i) inst
+          part-is =
+              let own : List ℕ = faultKeys c (suc i) inst in
+              let size : length own ≡ length faults = length-map faults _ in
+              rw (keys-put, keys-here) (part-written keys from own to (omega (arith, long, size)) (omega (arith, order, keys-long)))
+
+          -- the classes
+          numbers-here : numbers count (part keys′ from to) ≡ numbers (largest (classesOf (rowsBefore c i))) (faultKeys c (suc i) inst)
+          numbers-here = rw (part-is, so-far .count-is)
+
+          stepped : classesOf (rowsBefore c (suc i))
+              ≡ classesOf (rowsBefore c i) ++ numbers (largest (classesOf (rowsBefore c i))) (faultKeys c (suc i) inst)
+          stepped = class-next c good i h noInstance inst refl
+
+          classes-next : classes′ ≡ written classes₀ 0 (classesOf (rowsBefore c (suc i)))
+          classes-next =
+              let old : List ℕ = classesOf (rowsBefore c i) in
+              let added : List ℕ = numbers (largest old) (faultKeys c (suc i) inst) in
+              let place : from ≡ 0 + length old = omega (arith, so-far .from-is, length-classes (rowsBefore c i)) in
+              let fits : 0 + length (old ++ added) ≤ length classes₀
+              = rw (← stepped) (omega (arith, length-classes (rowsBefore c (suc i)), rows-within c (suc i), room .entries, faults-are c m is)) in
+              classes-put
+              ∙ rw (numbers-here, so-far .classes-are, place) (written-written classes₀ 0 old added fits ∙ ap (written classes₀ 0) (sym stepped))
+
+          count-here : after ≡ largest (classesOf (rowsBefore c (suc i)))
+          count-here = after-is ∙ rw (numbers-here, so-far .count-is) (count-next c good i h noInstance inst refl)
+
+          -- the found classes
+          found-next : found + more ≡ foundBefore c (suc i)
+          unfolding written
+          found-next =
+              let size : to - from ≡ length new = omega (arith, long, length-of-instance (c .types) (c .bridges) (suc i) inst) in
+              let step = found-step c good i h noInstance inst refl matrix′ classes′
+              (rw matrix-next (words-are c (rowsBefore c (suc i)) _)) (rw classes-next (numbers-are (rowsBefore c (suc i)) _)) in
+              let added : more ≡ foundFrom matrix′ classes′ (length (rowsBefore c i)) (length new) (largest (classesOf (rowsBefore c i)))
+              = more-is ∙ found-same matrix′ classes′ (so-far .from-is) size (so-far .count-is) in
+              omega (arith, so-far .found-is, step, added)
+
+          turned : Turned c matrix₀ classes₀ ones′ zeros′ matrix′ classes′ after (found + more) to (suc i)
+          turned =
+              let signals = signals-more c i inst at in
+              record {
+                inside = h;
+                ones-are = ones-put ∙ rw (words-here, so-far .ones-are, output-is) (signals .0);
+                zeros-are = zeros-put ∙ rw (words-here, so-far .zeros-are, output-is) (signals .1);
+                from-is = to-is;
+                matrix-is = matrix-next;
+                classes-are = classes-next;
+                count-is = count-here;
+                found-is = found-next;
+              }
+
+          pub turn : Turned c matrix₀ classes₀ ones′ zeros′ matrix′ classes′ after (found + more) to (i + 1)
+          turn = rw (add-one i) turned

@@ -1,0 +1,125 @@
+// The lines of a report, each into the front of a lent buffer: the answer is the number of bytes, or 0 with nothing written where there is no room.
+use text::put_byte;
+use text::put_bytes;
+use text::put_number;
+use words::first_mark;
+use words::marks;
+ghost use mathlib.Core.Path.{_≡_};
+ghost use Prim.Native.Nat.{_+_, _≤_, min};
+ghost use lib.ListN.{length};
+ghost use Rattle.words.specs.Written.{written};
+ghost use Rattle.report.specs.Lines.{firstLine, kindLetter, digitsOfMarks, rowLine, refusalLine};
+ghost use Rattle.report.specs.Given.{Given};
+
+// A row of the report but for its marks.
+pub struct RowHead {
+    pub instance: u8,
+    pub kind: u8,
+    pub first: u8,
+    pub second: u8,
+    pub class: u16,
+}
+
+// A line into the front of a buffer, if there is room.
+fn give(line: &[u8], out: &mut [u8]) -> usize
+    ensures { λ r. ⌜ Given (now (line .entry)) (now (out .entry)) r (now (out .exit)) ⌝ }
+{
+    if out.len() < line.len() {
+        return 0;
+    }
+    put_bytes(out, 0, line)
+}
+
+pub fn first_line(
+    vectors: usize,
+    faults: usize,
+    classes: usize,
+    found: usize,
+    out: &mut [u8],
+) -> usize
+    ensures { λ r. ⌜ Given (firstLine vectors faults classes found) (now (out .entry)) r (now (out .exit)) ⌝ }
+{
+    let mut line = [0u8; 128];
+    let mut at = put_bytes(&mut line, 0, b"vectors ");
+    at = put_number(&mut line, at, vectors as u64);
+    at = put_bytes(&mut line, at, b" faults ");
+    at = put_number(&mut line, at, faults as u64);
+    at = put_bytes(&mut line, at, b" classes ");
+    at = put_number(&mut line, at, classes as u64);
+    at = put_bytes(&mut line, at, b" found ");
+    at = put_number(&mut line, at, found as u64);
+    at = put_byte(&mut line, at, 10);
+    give(&line[..at], out)
+}
+
+pub fn refusal_line(number: u32, place: usize, out: &mut [u8]) -> usize
+    ensures { λ r. ⌜ Given (refusalLine number place) (now (out .entry)) r (now (out .exit)) ⌝ }
+{
+    let mut line = [0u8; 64];
+    let mut at = put_bytes(&mut line, 0, b"refused ");
+    at = put_number(&mut line, at, number as u64);
+    at = put_bytes(&mut line, at, b" at ");
+    at = put_number(&mut line, at, place as u64);
+    at = put_byte(&mut line, at, 10);
+    give(&line[..at], out)
+}
+
+// One digit for each vector, 1 for a mark.
+fn put_marks(line: &mut [u8], at: usize, row: [u64; 4], vectors: usize) -> usize
+    requires { ⌜ vectors ≤ 256 ⌝ }
+    requires { ⌜ at + vectors ≤ length (now line) ⌝ }
+    ensures { λ r. ⌜ (r ≡ at + vectors) × (now (line .exit) ≡ written (now (line .entry)) at (digitsOfMarks vectors row)) ⌝ }
+{
+    let mut v: usize = 0;
+    while v < vectors {
+        line[at + v] = 48 + ((row[v / 64] >> (v % 64)) % 2) as u8;
+        v += 1;
+    }
+    at + v
+}
+
+// n for kind 0, i for kind 1.
+fn kind_letter(kind: u8) -> u8
+    ensures { λ r. ⌜ r ≡ kindLetter kind ⌝ }
+{
+    if kind == 0 {
+        return b'n';
+    }
+    b'i'
+}
+
+// How many vectors a row shows: it has places for 256.
+fn shown(vectors: usize) -> usize
+    ensures { λ r. ⌜ r ≡ min vectors 256 ⌝ }
+{
+    if 256 < vectors {
+        return 256;
+    }
+    vectors
+}
+
+// A row's line.
+pub fn row_line(head: RowHead, vectors: usize, row: [u64; 4], out: &mut [u8]) -> usize
+    ensures { λ r. ⌜ Given (rowLine (head .instance) (head .kind) (head .first) (head .second) (head .class) (min vectors 256) row) (now (out .entry)) r (now (out .exit)) ⌝ }
+{
+    let mut line = [0u8; 512];
+    let mut at = put_number(&mut line, 0, head.instance as u64);
+    at = put_byte(&mut line, at, b' ');
+    at = put_byte(&mut line, at, kind_letter(head.kind));
+    at = put_byte(&mut line, at, b' ');
+    at = put_number(&mut line, at, head.first as u64);
+    at = put_byte(&mut line, at, b' ');
+    at = put_number(&mut line, at, head.second as u64);
+    at = put_byte(&mut line, at, b' ');
+    at = put_number(&mut line, at, head.class as u64);
+    at = put_byte(&mut line, at, b' ');
+    at = put_marks(&mut line, at, row, shown(vectors));
+    at = put_byte(&mut line, at, b' ');
+    let count = marks(row) as u64;
+    let first = first_mark(row) as u64;
+    at = put_number(&mut line, at, count);
+    at = put_byte(&mut line, at, b' ');
+    at = put_number(&mut line, at, first);
+    at = put_byte(&mut line, at, 10);
+    give(&line[..at], out)
+}

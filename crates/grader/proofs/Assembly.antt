@@ -44,7 +44,8 @@ use Rattle.grader.proofs.SignalMeaning.{referencesOf, wordsOf, signals-
 use Rattle.grader.proofs.RowMeaning.{rows-words}
 use Rattle.grader.proofs.ClassMeaning.{rowsBefore, length-classes, largest-most, faultKeys, rows-more, class-next, count-next, keys-are, rows-all}
 use Rattle.grader.proofs.FoundMeaning.{foundBefore, found-step, words-are, numbers-are}
-use Rattle.grader.proofs.RowLaws.{getD-map, noInstance, length-rows, length-of-instance, rows-grow, rows-within, end-is, few-rows, codes-at, codes-fit, ends-at}
+use Rattle.grader.proofs.RowLaws.{getD-map, noInstance, length-rows, length-of-instance, rows-grow, rows-within, end-is}
+use Rattle.grader.proofs.RowLaws.{few-rows, codes-at, codes-fit, ends-at}
 use Rattle.grader.proofs.RecordReads.{instance-is, type-read}
 
 -- ---- the matrix, row after row

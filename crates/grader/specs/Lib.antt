@@ -3,7 +3,7 @@
 --   Rows      the faults of all instances, and when a row is marked under a vector
 --   Classes   which rows are one class, class numbers, found classes
 --   Grading   the answer for given bytes and given buffer lengths, and what it leaves in the buffers
---   Statements  the theorems on classes
+--   Statements   the theorems on classes
 pub mod Values
 pub mod Rows
 pub mod Classes

@@ -22,14 +22,14 @@ use Rattle.grader.proofs.grade.grade_circuit.Statement.{statement}
 use Rattle.grader.proofs.grade.grade_circuit.Tie as tie
 
 abbrev Inv-loop : tie.InvT-loop
-Inv-loop matrix₀ classes₀ c codes ends ones₀ zeros₀ vector-count instance-count words keys₀ count₀ found₀ from₀ i₀ matrix classes ones zeros keys count found from i =
+Inv-loop matrix₀ classes₀ c codes ends ones₀ zeros₀ vectors instances words keys₀ count₀ found₀ from₀ i₀ matrix classes ones zeros keys count found from i =
     (length keys ≡ 2048)
     × ((meant : Circuit) → c ≡ circuitRecord meant → CircuitGood meant
     → Turned meant matrix₀ classes₀ ones zeros matrix classes count found from i)
 
 abbrev μ-loop : tie.MeasureT-loop
-μ-loop matrix₀ classes₀ c codes ends ones₀ zeros₀ vector-count instance-count words keys₀ count₀ found₀ from₀ i₀ matrix classes ones zeros keys count found from i =
-    instance-count - i
+μ-loop matrix₀ classes₀ c codes ends ones₀ zeros₀ vectors instances words keys₀ count₀ found₀ from₀ i₀ matrix classes ones zeros keys count found from i =
+    instances - i
 
 -- what an array read past its end gives
 abbrev noOne : InstanceRecord
@@ -112,10 +112,11 @@ module _ (c : tie.In-loop Inv-loop μ-loop) where
   type-placed : (1 ≤ getD (whole c .instances) place noOne .«type_number») × (getD (whole c .instances) place noOne .«type_number» ≤ 16)
   type-placed = type-place known good (whole c) is place noInstance (here known is) noOne
 
-  -- ---- for any good circuit that it tells
+  -- for any good circuit that it tells
   module _ (meant : Circuit) (e : whole c ≡ circuitRecord meant) (g : CircuitGood meant) where
     so-far : let l = c .before .loop in
-        Turned meant (begin c .args .matrix .now) (begin c .args .classes .now) (l .ones) (l .zeros) (l .matrix) (l .classes) (l .count) (l .found) (l .from) (l .i)
+        Turned meant (begin c .args .matrix .now) (begin c .args .classes .now) (l .ones) (l .zeros) (l .matrix) (l .classes)
+        (l .count) (l .found) (l .from) (l .i)
     so-far = c .before .loop .inv .1 meant e g
 
     are : RowsAre meant (all-rows c)
@@ -261,10 +262,10 @@ found-in-requires : tie.Need-found-in-requires Inv-loop μ-loop
 found-in-requires c κs =
     let numbered = c .before .before .before .before in
     let wrote = keyed-wrote (numbered-keyed numbered) in
-    let turn = wrote-turn wrote in (
-      fits turn .order,
-      (omega (arith, fits turn .words, wrote .write-rows .kept .1 .1 .1 .1 .1 .1 .1 .1 .0), omega (arith, fits turn .entries, numbered .number-rows .kept .1 .1 .1 .0)),
-    )
+    let turn = wrote-turn wrote in
+    let matrix-kept = wrote .write-rows .kept .1 .1 .1 .1 .1 .1 .1 .1 .0 in
+    let classes-kept = numbered .number-rows .kept .1 .1 .1 .0 in
+    (fits turn .order, (omega (arith, fits turn .words, matrix-kept), omega (arith, fits turn .entries, classes-kept)))
 
 add-found : tie.Need-add-found Inv-loop μ-loop
 add-found c =

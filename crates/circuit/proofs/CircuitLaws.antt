@@ -104,7 +104,7 @@ record TypesSound (types : List ModuleType) : Type 0 where
 no-types : TypesSound []
 no-types = record { few = omega arith; each = each-none _; judged = λ i none h. absurd (not-suc-le-zero h) }
 
-getD-any : {A : Type 0} (as′ : List A) (i : ℕ) (d e : A) → i < length as′ → getD as′ i d ≡ getD as′ i e
+pub getD-any : {A : Type 0} (as′ : List A) (i : ℕ) (d e : A) → i < length as′ → getD as′ i d ≡ getD as′ i e
 getD-any [] i d e h = absurd (not-suc-le-zero h)
 getD-any (a ∷ as′) zero d e h = refl
 getD-any (a ∷ as′) (suc i) d e h = getD-any as′ i d e (le-of-suc-le-suc h)

@@ -1,4 +1,4 @@
--- 01's examples of reading, computed on the definitions: the inverter's 42 bytes, the empty file, a broken field.
+-- 01's examples of reading, computed on the definitions: the inverter's 42 bytes, the empty file, a broken field, references to instances.
 use Prim.Native.Nat.{ℕ}
 use mathlib.Core.Path.{_≡_, refl}
 use mathlib.Core.List.{List, [], _∷_, _++_}
@@ -9,10 +9,10 @@ use Rattle.switch.specs.Deciding.{joins, renamings, partIn, rename, allBelow, o
 use Rattle.words.specs.Bits.{bit}
 use Rattle.words.specs.Tables.{table}
 use Rattle.circuit.specs.Fields.{twoBytes, cutIn, cutFrom}
-use Rattle.circuit.specs.Circuit.{primary, exhaustive, numbered, exhaustiveSize, chosenSize, faultCount, userList}
+use Rattle.circuit.specs.Circuit.{primary, outputOf, exhaustive, no-faults, numbered, exhaustiveSize, chosenSize, faultCount, userList}
 use Rattle.circuit.specs.Numbers.{signed, choiceOf, choiceInRange, referenceOf, referenceGood}
-use Rattle.circuit.specs.Known.{tagOf, typeIn, edgeIn, bridgeOf, listedIn, referencesIn, instanceIn, letterOf, vectorIn, latest, withEdge, edgeAdded, taken, typeAtAfter, knownAfter}
-use Rattle.circuit.specs.Table.{firstOf, misplaced, isEdge, unjudged, notComplementary, bridgeInRange, bridgeSuits, isEmpty, listUnsuited, listEmpty, isLetter, inputsTests, typeTests, edgeTests, edgeTestsOf, bridgeTests, instanceTests, vectorTests, bodyTests, isUnknown, fieldTests, endTests}
+use Rattle.circuit.specs.Known.{tagOf, typeIn, edgeIn, referencesIn, instanceIn, letterOf, vectorIn, latest, withEdge, edgeAdded, taken, typeAtAfter, knownAfter}
+use Rattle.circuit.specs.Table.{firstOf, misplaced, isEdge, unjudged, notComplementary, isEmpty, listUnsuited, listEmpty, isLetter, inputsTests, typeTests, edgeTests, edgeTestsOf, bridgeTests, instanceTests, vectorTests, bodyTests, isUnknown, fieldTests, endTests}
 use Rattle.circuit.specs.Reading.{accepted, refusal, unless, readFrom, readingOf}
 
 inverter : List ℕ
@@ -39,3 +39,34 @@ read-empty = refl
 read-one-byte : readingOf (1 ∷ []) ≡ refusal 2 0
 unfolding readingOf readFrom unless cutIn cutFrom twoBytes
 read-one-byte = refl
+
+-- ---- references to instances
+
+-- one input, and the inverter's type; its fields end at byte 23
+begin : List ℕ
+begin = 1 ∷ 0 ∷ 2 ∷ 0 ∷ 1 ∷ 2 ∷ 0 ∷ 3 ∷ 2 ∷ 2 ∷ 1 ∷ 3 ∷ 0 ∷ 3 ∷ 1 ∷ 2 ∷ 0 ∷ 3 ∷ 0 ∷ 3 ∷ 0 ∷ 2 ∷ 0 ∷ []
+
+-- an instance of that type without faults, and the two bytes of its reference
+instanceWith : ℕ → ℕ → List ℕ
+instanceWith high low = 5 ∷ 0 ∷ 4 ∷ 1 ∷ 0 ∷ high ∷ low ∷ []
+
+vector : List ℕ
+vector = 6 ∷ 0 ∷ 1 ∷ 48 ∷ []
+
+-- a file whose second instance has this reference; its field stands at byte 30
+withSecond : ℕ → ℕ → List ℕ
+withSecond high low = begin ++ instanceWith 0 1 ++ instanceWith high low ++ vector
+
+-- in instance 2 a reference of -1 is good, -2 or 0 is 10; in instance 1 a reference of -1 is 10
+read-references : (readingOf (withSecond 255 255) ≡ accepted (record {
+  inputs = 1;
+  types = record { highest = 2; output = 2; labels = 1; edges = record { first = 1; second = 2; labels = 0 ∷ [] } ∷ record { first = 0; second = 2; labels = 0 ∷ [] } ∷ [] } ∷ [];
+  bridges = [];
+  instances = record { type = 1; choice = no-faults; references = primary 1 ∷ [] } ∷ record { type = 1; choice = no-faults; references = outputOf 1 ∷ [] } ∷ [];
+  vectors = (at0 ∷ []) ∷ [];
+}))
+    × ((readingOf (withSecond 255 254) ≡ refusal 10 30)
+    × ((readingOf (withSecond 0 0) ≡ refusal 10 30)
+    × (readingOf (begin ++ instanceWith 255 255 ++ vector) ≡ refusal 10 23)))
+unfolding begin instanceWith vector withSecond nEnd nEnds badEnds readingOf readFrom unless fieldTests endTests firstOf bodyTests inputsTests typeTests edgeTests edgeTestsOf bridgeTests instanceTests vectorTests isUnknown misplaced isEdge unjudged notComplementary isEmpty listUnsuited listEmpty isLetter tagOf typeIn edgeIn referencesIn instanceIn letterOf vectorIn latest withEdge edgeAdded taken typeAtAfter knownAfter signed choiceOf choiceInRange referenceOf referenceGood twoBytes cutIn cutFrom numbered exhaustiveSize chosenSize faultCount userList bit table joins renamings partIn rename allBelow oneRail isComplementary allOf inRange typeInRange edgeInRange linksOf settingOf known transistorOn channelOf pEnds edgeOn anyOf between links
+read-references = (refl, (refl, (refl, refl)))

@@ -1,13 +1,14 @@
 -- The laws of reading.
 --   StageLaws, CircuitLaws, FaultLaws, AnswerLaws   the theorems of specs/Laws
 --   Examples                                        01's examples, computed
---   the others                                      what the crate `reader` cites
+--   the others                                      what the crates that read cite
 pub mod AnswerLaws
 pub mod Bodies
 pub mod CircuitLaws
 pub mod Cuts
 mod Examples
 pub mod FaultLaws
+pub mod Gathering
 pub mod Padding
 pub mod RangeLaws
 pub mod ReferenceLaws

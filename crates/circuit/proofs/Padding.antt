@@ -1,13 +1,13 @@
 -- The laws of a list in n places: one element more, one element changed, and none at all.
-use Prim.Native.Nat.{ℕ, zero, suc, _<_}
-use mathlib.Core.Path.{_≡_, refl, sym, ap, _∙_}
+use Prim.Native.Nat.{ℕ, _<_}
+use mathlib.Core.Path.{_≡_, sym, ap, _∙_}
 use mathlib.Core.List.{List, [], _∷_, _++_}
 use native.Mathlib.Decide.{decLt}
 use native.Mathlib.Omega.{arith}
 use lib.ListN.{length, getD, set, replicate, length-append, length-replicate, getD-replicate, List·getD-append, List·getD-eq-default}
 use lib.Seq.{getD-append-seam, getD-set-same, getD-set-other}
 use Rattle.words.specs.Tables.{table}
-use Rattle.words.proofs.Tables.{getD-table, set-table, is-table, table-cong}
+use Rattle.words.proofs.Tables.{getD-table, set-table, is-table}
 use Rattle.circuit.specs.Records.{padded}
 
 module _ {A : Type 0} (none : A) where

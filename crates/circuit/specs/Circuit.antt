@@ -1,9 +1,9 @@
 -- 01, "The circuit file": the circuit that a file tells. Types, instances and vectors are numbered from 1.
 -- 01, "Faults, marks and classes": the faults of an instance, in the order of their rows.
 use Prim.Native.Nat.{ℕ, zero, suc, _+_, _-_, _*_, _/_}
-use mathlib.Core.Bool.{Bool, true, false, cond}
+use mathlib.Core.Bool.{cond}
 use mathlib.Core.List.{List, [], _∷_, _++_}
-use lib.Dec.{eqb, leb, ltb}
+use lib.Dec.{eqb}
 use lib.ListN.{length, getD}
 use Rattle.words.specs.Tables.{table}
 use Rattle.switch.specs.Conduction.{Value}

@@ -1,6 +1,6 @@
 -- 01, "The circuit file": each field is one tag byte, a two-byte length (high byte first), then that many body bytes. Fields fill the file to its last byte.
 use Prim.Native.Nat.{ℕ, zero, suc, _+_, _-_, _*_}
-use mathlib.Core.Bool.{Bool, cond}
+use mathlib.Core.Bool.{cond}
 use mathlib.Core.List.{List}
 use lib.Dec.{eqb, ltb}
 use lib.ListN.{length, getD, take, drop}

@@ -5,7 +5,7 @@ use mathlib.Core.List.{List}
 use lib.Dec.{ltb}
 use lib.ListN.{length}
 use Rattle.circuit.specs.Limits.{mostBytes}
-use Rattle.circuit.specs.Fields.{Field, Cut, clean, broken, field, cutFrom}
+use Rattle.circuit.specs.Fields.{Cut, clean, broken, field, cutFrom}
 use Rattle.circuit.specs.Circuit.{Circuit}
 use Rattle.circuit.specs.Known.{Known, start, knownAfter}
 use Rattle.circuit.specs.Table.{Verdict, passes, refused, firstOf, fieldTests, endTests}

@@ -1,7 +1,7 @@
 -- The code's records of a circuit: arrays whose first places are used and whose other places hold a stated default.
-use Prim.Native.Nat.{ℕ, zero, suc}
-use mathlib.Core.Bool.{Bool, true, false}
-use mathlib.Core.List.{List, [], _∷_, map}
+use Prim.Native.Nat.{ℕ}
+use mathlib.Core.Bool.{true, false}
+use mathlib.Core.List.{List, [], map}
 use lib.ListN.{length, getD, replicate}
 use Rattle.words.specs.Bits.{pack}
 use Rattle.words.specs.Tables.{table}

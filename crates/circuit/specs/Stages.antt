@@ -1,22 +1,20 @@
 -- How the code reads: types with their edges, then bridges, instances and vectors, a stage each, and then the ending.
 -- That this order of work gives what Reading says is proved in proofs/StageLaws.
-use Prim.Native.Nat.{ℕ, zero, suc, _+_, _<_, _≤_}
+use Prim.Native.Nat.{ℕ, _+_, _<_, _≤_}
 use mathlib.Core.Path.{_≡_}
-use mathlib.Core.Bool.{Bool, true, false, cond, not, _&&_}
-use mathlib.Core.List.{List, [], _∷_, _++_, map}
+use mathlib.Core.Bool.{cond, not, _&&_}
+use mathlib.Core.List.{List, [], _∷_, _++_}
 use lib.Dec.{eqb, ltb}
-use lib.ListN.{length, getD, take, drop}
-use Rattle.switch.specs.Conduction.{Value, Edge}
+use lib.ListN.{length, take, drop}
+use Rattle.switch.specs.Conduction.{Value}
 use Rattle.switch.specs.Modules.{ModuleType}
-use Rattle.switch.specs.Bridges.{Bridge, nodes, input}
-use Rattle.circuit.specs.Limits.{mostBytes, mostTypes, mostEdges, mostBridges, mostInstances, mostVectors}
+use Rattle.circuit.specs.Limits.{mostBytes}
 use Rattle.circuit.specs.Fields.{Field, Cut, clean, broken, field, cutFrom, twoBytes}
 use Rattle.circuit.specs.Circuit.{Instance, Listed, faultCount}
 use Rattle.circuit.specs.Known.{typeIn, edgeIn, listedIn, instanceIn, vectorIn, latest, withEdge, edgeAdded, tagOf}
 use Rattle.circuit.specs.Table.{Test, Verdict, passes, refused, firstOf, notComplementary, isEmpty, isUnknown, inputsTests, typeTests, edgeTests, bridgeTests, instanceTests, vectorTests}
 use Rattle.circuit.specs.Reading.{Reading, accepted, refusal, unless}
 use Rattle.circuit.specs.Records.{emptyCircuit}
-use Rattle.circuit.specs.Answers.{verdictOf}
 use Rattle.circuit.specs.declared.fields.Field.{Field as FieldRecord}
 use Rattle.circuit.specs.declared.fields.Step.{Step}
 use Rattle.circuit.specs.declared.fields.Step.the-variants.{Whole, Broken, End}
@@ -57,6 +55,11 @@ pub data Stage (A : Type 0) : Type 0 where
 unfoldable pub ifPasses : {A : Type 0} → Verdict → Stage A → Stage A
 ifPasses passes stage = stage
 ifPasses (refused number place) stage = failed number place
+
+-- what a stage gives that has stopped with a verdict and what it has gathered
+unfoldable pub stageOf : {A : Type 0} → Verdict → A → Cut → Stage A
+stageOf passes a cut = stopped a cut
+stageOf (refused number place) a cut = failed number place
 
 -- the fields with one tag, each tested against what was gathered from those before it
 unfoldable pub section : {A : Type 0} → ℕ → (A → ℕ → List ℕ → List Test) → (A → List ℕ → A) → A → Cut → Stage A

@@ -1,8 +1,8 @@
 -- 01, "Refusal numbers": the table. For each field a list of numbered tests in the order in which they are looked at, and one list for the end of the file.
 -- In one field by number, except that 9 comes right after 4. A place is the offset of the field's tag byte.
-use Prim.Native.Nat.{ℕ, zero, suc, _+_, _-_, _*_, _/_, _%_}
+use Prim.Native.Nat.{ℕ, _+_, _%_}
 use mathlib.Core.Bool.{Bool, true, false, cond, not, _&&_, _||_}
-use mathlib.Core.List.{List, [], _∷_, _++_}
+use mathlib.Core.List.{List, [], _∷_}
 use lib.Dec.{eqb, leb, ltb}
 use lib.ListN.{length, getD}
 use Rattle.switch.specs.Conduction.{between, badEnds}
@@ -11,9 +11,9 @@ use Rattle.switch.specs.Bridges.{Bridge, nodes, input}
 use Rattle.switch.specs.Deciding.{isComplementary}
 use Rattle.circuit.specs.Limits.{mostTypes, mostEdges, mostBridges, mostInstances, mostVectors, mostFaults}
 use Rattle.circuit.specs.Fields.{Field, twoBytes}
-use Rattle.circuit.specs.Circuit.{Circuit, Instance, Listed, Choice, exhaustive, no-faults, list, typeOfInstance, userList, chosenSize, faultCount}
+use Rattle.circuit.specs.Circuit.{Circuit, Listed, Choice, exhaustive, no-faults, list, typeOfInstance, userList, chosenSize, faultCount}
 use Rattle.circuit.specs.Numbers.{signed, choiceInRange, referenceGood}
-use Rattle.circuit.specs.Known.{Known, Tag, inputs-tag, type-tag, edge-tag, bridge-tag, instance-tag, vector-tag, no-tag, tagOf, typeIn, edgeIn, instanceIn, latest}
+use Rattle.circuit.specs.Known.{Known, Tag, inputs-tag, type-tag, edge-tag, bridge-tag, instance-tag, vector-tag, no-tag, tagOf, edgeIn, instanceIn, latest}
 
 -- a test of the table: its number, whether it refuses, and the place that it gives
 pub record Test : Type 0 where

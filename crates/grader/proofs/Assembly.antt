@@ -1,20 +1,19 @@
 -- Grading a circuit instance by instance: what stands in signals, matrix, classes and counts after the first instances, that one turn of the loop
 -- goes from one instance to the next, given what each call answers, and that after the last the circuit is graded. Assumes nothing.
-use Prim.Native.Nat.{ℕ, zero, suc, _+_, _-_, _*_, _/_, _<_, _≤_}
+use Prim.Native.Nat.{ℕ, suc, _+_, _-_, _*_, _<_, _≤_}
 use mathlib.Core.Path.{_≡_, refl, sym, ap, _∙_}
-use mathlib.Core.List.{List, [], _∷_, _++_, map, append-assoc}
+use mathlib.Core.List.{List, _++_, map}
 use native.Mathlib.Nat.{zero-add}
 use native.Mathlib.Numerals.{add-one}
 use native.Mathlib.Omega.{arith}
 use lib.Dec.{T}
-use lib.ListN.{length, getD, length-append, length-map}
+use lib.ListN.{length, getD}
 use Rattle.words.specs.Bits.{ofBool, sumTo}
-use Rattle.words.specs.Rows as marks
-use Rattle.words.specs.Tables.{table}
 use Rattle.words.specs.Written.{written}
 use Rattle.words.proofs.Laws.{ofBool-le-one}
 use Rattle.words.proofs.Tables.{length-table}
 use Rattle.words.proofs.WrittenLaws.{written-nothing, length-written, written-written}
+use Rattle.words.proofs.Counting.{sum-few}
 use Rattle.switch.specs.Modules.{ModuleType}
 use Rattle.switch.specs.Bridges.{Bridge, nodes}
 use Rattle.switch.specs.Promises.{isAt0, isAt1}
@@ -30,43 +29,34 @@ use Rattle.circuit.specs.declared.Instance.{Instance as InstanceRecord}
 use Rattle.circuit.proofs.Padding.{getD-padded}
 use Rattle.circuit.proofs.RangeLaws.{in-between}
 use Rattle.circuit.proofs.TypeLaws.{type-back, type-given}
-use Rattle.grader.specs.Rows.{Row, rowsOfInstance, rowsFrom, rowsOf, rowWords, matrixOf}
-use Rattle.grader.specs.Classes.{largest, classesAfter, classesOf, classFound, foundAmong, classCount, foundCount}
-use Rattle.grader.specs.Grading.{over, countsOf}
-use Rattle.grader.specs.Model.{codeOf, codes, signalWords, columnsOf, inputWords, ReferencesFit, instanceWords, outputOnes, outputZeros}
-use Rattle.grader.specs.Model.{CodesFit, rowsWords, firstLabels, keyOf, keysOf, numbers, countAfter, foundFrom, RowsAre, Graded}
-use Rattle.grader.specs.declared.rows.Rows.{Rows}
-use Rattle.grader.specs.declared.signals.Columns.{Columns}
-use Rattle.grader.specs.declared.instances.InstanceWords.{InstanceWords}
-use Rattle.grader.proofs.Filling.{part, part-written}
-use Rattle.grader.proofs.ValueLaws.{InstanceAt, good-at, type-at, type-ranges}
-use Rattle.grader.proofs.SignalMeaning.{referencesOf, wordsOf, signals-start, signals-more}
-use Rattle.grader.proofs.RowMeaning.{rows-words}
-use Rattle.grader.proofs.ClassMeaning.{rowsBefore, length-classes, largest-most, faultKeys, rows-more, class-next, count-next, keys-are, rows-all}
-use Rattle.grader.proofs.FoundMeaning.{foundBefore, found-step, words-are, numbers-are}
-use Rattle.grader.proofs.RowLaws.{getD-map, noInstance, length-rows, length-of-instance, rows-grow, rows-within, end-is}
-use Rattle.grader.proofs.RowLaws.{few-rows, codes-at, codes-fit, ends-at}
-use Rattle.grader.proofs.RecordReads.{instance-is, type-read}
+use Rattle.grading.specs.Rows.{Row, rowsOfInstance, rowsFrom, rowsOf, rowWords, matrixOf}
+use Rattle.grading.specs.Classes.{largest, classesAfter, classesOf, classFound, foundAmong, classCount, foundCount}
+use Rattle.grading.specs.Grading.{over, countsOf}
+use Rattle.grading.specs.Codes.{codeOf, CodesFit}
+use Rattle.grading.proofs.ValueLaws.{InstanceAt, good-at, type-at, type-ranges}
+use Rattle.grading.proofs.RecordReads.{referencesOf, instance-is, type-read}
+use Rattle.grading.proofs.RowLaws.{rowsBefore, grown as rows-grown, rows-all, noInstance, length-rows, length-of-instance, rows-grow, rows-within, few-rows}
+use Rattle.grading.proofs.ClassLists.{length-classes, largest-most}
+use Rattle.grading.proofs.Lists.{getD-map}
+use Rattle.grading.proofs.MatrixLaws.{length-matrix, matrix-append}
+use Rattle.rows.specs.Model.{codes, RowsAre}
+use Rattle.rows.specs.declared.Rows.{Rows}
+use Rattle.rows.proofs.CodeLaws.{end-is, codes-at, codes-fit, ends-at}
+use Rattle.marks.specs.Model.{signalWords, ReferencesFit, rowsWords, signalsOf, InstanceRead}
+use Rattle.marks.specs.declared.signals.Signals.{Signals}
+use Rattle.marks.specs.declared.instances.InstanceWords.{InstanceWords}
+use Rattle.marks.proofs.SignalMeaning.{wordsOf, signals-start, signals-more}
+use Rattle.marks.proofs.RowMeaning.{rows-words}
+use Rattle.classes.specs.Model.{numbersOf, InstanceClassed, firstLabels, keysOf, numbers, foundFrom}
+use Rattle.classes.specs.declared.Classed.{Classed}
+use Rattle.classes.proofs.ClassLaws.{keys-long}
+use Rattle.classes.proofs.ClassMeaning.{faultKeys, class-next, count-next, keys-are}
+use Rattle.classes.proofs.FoundMeaning.{foundBefore, found-step, words-are, numbers-are}
+use Rattle.grader.specs.Model.{Graded}
 
 -- ---- the matrix, row after row
 
 module _ (c : Circuit) where
-  row-long : (r : Row) → length (rowWords c r) ≡ 4
-  unfolding rowWords marks.rowOf
-  row-long r = refl
-
-  length-matrix : (rows : List Row) → length (joinLists (map (rowWords c) rows)) ≡ 4 * length rows
-  unfolding joinLists
-  length-matrix [] = refl
-  length-matrix (r ∷ rs) = omega (arith, row-long r, length-append (rowWords c r) (joinLists (map (rowWords c) rs)), length-matrix rs)
-
-  matrix-append : (a b : List Row)
-      → joinLists (map (rowWords c) (a ++ b)) ≡ joinLists (map (rowWords c) a) ++ joinLists (map (rowWords c) b)
-  unfolding joinLists
-  matrix-append [] b = refl
-  matrix-append (r ∷ a) b =
-      rw (matrix-append a b) (sym (append-assoc (rowWords c r) (joinLists (map (rowWords c) a)) (joinLists (map (rowWords c) b))))
-
   abbrev matrixTo : ℕ → List ℕ
   matrixTo i = joinLists (map (rowWords c) (rowsBefore c i))
 
@@ -83,11 +73,6 @@ pub record Turned (c : Circuit) (matrix₀ classes₀ ones zeros matrix classes 
   pub found-is : found ≡ foundBefore c i
 
 -- no more classes are found than there are
-sum-few : (n : ℕ) (f : ℕ → ℕ) → ((v : ℕ) → f v ≤ 1) → sumTo n f ≤ n
-unfolding sumTo
-sum-few zero f h = omega arith
-sum-few (suc n) f h = omega (arith, h 0, sum-few n (λ (v : ℕ). f (suc v)) (λ v. h (suc v)))
-
 pub found-few : (c : Circuit) → CircuitGood c → (i : ℕ) → foundBefore c i ≤ 2048
 unfolding foundAmong
 found-few c good i =
@@ -136,16 +121,15 @@ module _ (c : Circuit) (m : CircuitRecord) (is : m ≡ circuitRecord c) where
   unfolding circuitRecord rowsOf
   faults-are = ap (λ (x : CircuitRecord). x .faults) is ∙ sym (length-rows (c .types) (c .bridges) 1 (c .instances))
 
-  pub turned-none : (matrix classes : List ℕ) (columns : Columns) (ones zeros : List ℕ) → columns ≡ columnsOf (m .vectors)
-      → ones ≡ inputWords (columns .ones) → zeros ≡ inputWords (columns .zeros)
-      → Turned c matrix classes ones zeros matrix classes 0 0 0 0
+  pub turned-none : (matrix classes : List ℕ) (signals : Signals) → signals ≡ signalsOf (m .vectors)
+      → Turned c matrix classes (signals .ones) (signals .zeros) matrix classes 0 0 0 0
   unfolding circuitRecord joinLists rowsFrom classesOf classesAfter largest foundAmong sumTo
-  turned-none matrix classes columns ones zeros e p q =
-      let all : columns ≡ columnsOf (circuitRecord c .vectors) = e ∙ ap (λ (x : CircuitRecord). columnsOf (x .vectors)) is in
+  turned-none matrix classes signals e =
+      let all : signals ≡ signalsOf (circuitRecord c .vectors) = e ∙ ap (λ (x : CircuitRecord). signalsOf (x .vectors)) is in
       record {
         inside = omega arith;
-        ones-are = p ∙ ap (λ (x : Columns). inputWords (x .ones)) all ∙ signals-start c .0;
-        zeros-are = q ∙ ap (λ (x : Columns). inputWords (x .zeros)) all ∙ signals-start c .1;
+        ones-are = ap (λ (x : Signals). x .ones) all ∙ signals-start c .0;
+        zeros-are = ap (λ (x : Signals). x .zeros) all ∙ signals-start c .1;
         from-is = refl;
         matrix-is = sym (written-nothing matrix 0);
         classes-are = sym (written-nothing classes 0);
@@ -175,7 +159,7 @@ module _ (c : Circuit) (m : CircuitRecord) (is : m ≡ circuitRecord c) where
   unfolding countsOf classCount foundCount matrixOf
   turned-end matrix₀ classes₀ ones zeros matrix classes count found from i all past =
       let last : i ≡ length (c .instances) = omega (arith, all .inside, instances-are) in
-      let rows : rowsBefore c i ≡ rowsOf c = ap (rowsBefore c) last ∙ rows-all c in
+      let rows : rowsBefore c i ≡ rowsOf c = rows-all c i (omega arith) in
       record {
         counts-are = rw (vectors-are, faults-are, all .count-is, all .found-is, rows);
         matrix-is = all .matrix-is ∙ over-is (joinLists (map (rowWords c) (rowsBefore c i))) matrix₀ ∙ rw rows;
@@ -209,8 +193,8 @@ module _ (c : Circuit) (good : CircuitGood c) (m : CircuitRecord) (is : m ≡ ci
   pub place-few : i < 128
   place-few = omega (arith, good .few-instances)
 
-  pub words-few : (m .«vector_count» + 63) / 64 ≤ 4
-  words-few = omega (arith, vectors-are c m is, good .few-vectors)
+  pub vectors-few : m .«vector_count» ≤ 256
+  vectors-few = omega (arith, vectors-are c m is, good .few-vectors)
 
   -- e and u are what stands past the places for instances and types
   module _ (e : InstanceRecord) where
@@ -241,10 +225,6 @@ module _ (c : Circuit) (good : CircuitGood c) (m : CircuitRecord) (is : m ≡ ci
       output-is : t .output ≡ type .output
       unfolding typeRecord
       output-is = ap (λ (x : TypeRecord). x .output) t-is
-
-      pub output-few : t .output < 32
-      output-few =
-          let ranges = type-ranges type sound in omega (arith, output-is, ranges .output-high, ranges .highest)
 
       pub references-fit : ReferencesFit (one .references) (t .labels)
       references-fit =
@@ -305,32 +285,22 @@ module _ (c : Circuit) (good : CircuitGood c) (m : CircuitRecord) (is : m ≡ ci
           count-few = omega (arith, so-far .count-is, so-far .from-is, largest-most (rowsBefore c i));
         }
 
-        pub keys-kept : (keys keys′ : List ℕ) → length keys ≡ 2048
-            → keys′ ≡ written keys from (keysOf (rows .codes) (firstLabels (one .references)) from to) → length keys′ ≡ 2048
-        unfolding keysOf
-        keys-kept keys keys′ e put =
-            let key : ℕ → ℕ = λ (j : ℕ). keyOf (firstLabels (one .references)) (getD (rows .codes) (from + j) 0) in
-            ap length put ∙ length-written keys from (table (to - from) key) (omega (arith, length-table (to - from) key, order)) ∙ e
+        pub keys-kept : {matrix′ keys keys′ classes′ : List ℕ} {r : Classed} → length keys ≡ 2048
+            → InstanceClassed (rows .codes) (one .references) from to count matrix′ keys classes r keys′ classes′ → length keys′ ≡ 2048
+        keys-kept {keys = keys} {keys′ = keys′} long classed =
+            keys-long (rows .codes) (one .references) from to count order keys keys′ long (classed .keys-are)
 
         -- what the calls of a turn answer
-        module _ (read : InstanceWords)
-            (reads : read ≡ instanceWords (typeOf t) (one .references) ones zeros ((m .«vector_count» + 63) / 64))
-            (ones′ zeros′ : List ℕ)
-            (ones-put : ones′ ≡ written ones (4 * (64 + i)) (outputOnes (read .supply) (read .ground) (t .output)))
-            (zeros-put : zeros′ ≡ written zeros (4 * (64 + i)) (outputZeros (read .supply) (read .ground) (t .output)))
-            (matrix′ : List ℕ)
-            (rows-put : matrix′
-            ≡ written matrix (4 * from) (rowsWords (rows .codes) (read .supply) (read .ground) (read .ones) (read .zeros) (m .«vector_count») from to))
-            (keys keys′ : List ℕ) (keys-long : length keys ≡ 2048)
-            (keys-put : keys′ ≡ written keys from (keysOf (rows .codes) (firstLabels (one .references)) from to))
-            (after : ℕ) (after-is : after ≡ countAfter count (numbers count (part keys′ from to)))
-            (classes′ : List ℕ) (classes-put : classes′ ≡ written classes from (numbers count (part keys′ from to)))
-            (more : ℕ) (more-is : more ≡ foundFrom matrix′ classes′ from (to - from) count) where
+        module _ (read : InstanceWords) (ones′ zeros′ : List ℕ)
+            (reads : InstanceRead t (one .references) i (m .«vector_count») ones zeros read ones′ zeros′)
+            (matrix′ : List ℕ) (rows-put : matrix′ ≡ written matrix (4 * from) (rowsWords (rows .codes) read (m .«vector_count») from to))
+            (keys keys′ classes′ : List ℕ) (r : Classed)
+            (classed : InstanceClassed (rows .codes) (one .references) from to count matrix′ keys classes r keys′ classes′) where
           stand : Bridge
           stand = nodes 0 0
 
           words-here : read ≡ wordsOf c i inst
-          words-here = reads ∙ rw (type-meant, references-are, so-far .ones-are, so-far .zeros-are, vectors-are c m is)
+          words-here = reads .words-are ∙ rw (type-meant, references-are, so-far .ones-are, so-far .zeros-are, vectors-are c m is)
 
           codes-here : (j : ℕ) → j < to - from → getD (rows .codes) (from + j) 0 ≡ codeOf (suc i) (getD faults j stand)
           codes-here j q =
@@ -339,10 +309,10 @@ module _ (c : Circuit) (good : CircuitGood c) (m : CircuitRecord) (is : m ≡ ci
               ∙ codes-at c good i noInstance h j (omega (arith, long)) stand
 
           grown : rowsBefore c (suc i) ≡ rowsBefore c i ++ new
-          grown = rows-more c good i h noInstance inst refl
+          grown = rows-grown c i h noInstance inst refl
 
           -- the matrix
-          texts : rowsWords (rows .codes) (read .supply) (read .ground) (read .ones) (read .zeros) (m .«vector_count») from to
+          texts : rowsWords (rows .codes) read (m .«vector_count») from to
               ≡ joinLists (map (rowWords c) new)
           texts = rw (words-here, vectors-are c m is) (rows-words c i inst at (rows .codes) from to stand (omega (arith, long)) codes-here)
 
@@ -362,15 +332,10 @@ module _ (c : Circuit) (good : CircuitGood c) (m : CircuitRecord) (is : m ≡ ci
           keys-here : keysOf (rows .codes) (firstLabels (one .references)) from to ≡ faultKeys c (suc i) inst
           keys-here = rw references-are (keys-are c (suc i) inst (rows .codes) from to stand (omega (arith, long)) codes-here)
 
-          part-is : part keys′ from to ≡ faultKeys c (suc i) inst
-          part-is =
-              let own : List ℕ = faultKeys c (suc i) inst in
-              let size : length own ≡ length faults = length-map faults _ in
-              rw (keys-put, keys-here) (part-written keys from own to (omega (arith, long, size)) (omega (arith, order, keys-long)))
-
           -- the classes
-          numbers-here : numbers count (part keys′ from to) ≡ numbers (largest (classesOf (rowsBefore c i))) (faultKeys c (suc i) inst)
-          numbers-here = rw (part-is, so-far .count-is)
+          numbers-here : numbersOf (rows .codes) (one .references) from to count
+              ≡ numbers (largest (classesOf (rowsBefore c i))) (faultKeys c (suc i) inst)
+          numbers-here = rw (keys-here, so-far .count-is)
 
           stepped : classesOf (rowsBefore c (suc i))
               ≡ classesOf (rowsBefore c i) ++ numbers (largest (classesOf (rowsBefore c i))) (faultKeys c (suc i) inst)
@@ -383,30 +348,30 @@ module _ (c : Circuit) (good : CircuitGood c) (m : CircuitRecord) (is : m ≡ ci
               let place : from ≡ 0 + length old = omega (arith, so-far .from-is, length-classes (rowsBefore c i)) in
               let fits : 0 + length (old ++ added) ≤ length classes₀
               = rw (← stepped) (omega (arith, length-classes (rowsBefore c (suc i)), rows-within c (suc i), room .entries, faults-are c m is)) in
-              classes-put
+              classed .classes-are
               ∙ rw (numbers-here, so-far .classes-are, place) (written-written classes₀ 0 old added fits ∙ ap (written classes₀ 0) (sym stepped))
 
-          count-here : after ≡ largest (classesOf (rowsBefore c (suc i)))
-          count-here = after-is ∙ rw (numbers-here, so-far .count-is) (count-next c good i h noInstance inst refl)
+          count-here : r .count ≡ largest (classesOf (rowsBefore c (suc i)))
+          count-here = classed .count-is ∙ rw (numbers-here, so-far .count-is) (count-next c good i h noInstance inst refl)
 
           -- the found classes
-          found-next : found + more ≡ foundBefore c (suc i)
+          found-next : found + r .found ≡ foundBefore c (suc i)
           unfolding written
           found-next =
               let size : to - from ≡ length new = omega (arith, long, length-of-instance (c .types) (c .bridges) (suc i) inst) in
               let step = found-step c good i h noInstance inst refl matrix′ classes′
               (rw matrix-next (words-are c (rowsBefore c (suc i)) _)) (rw classes-next (numbers-are (rowsBefore c (suc i)) _)) in
-              let added : more ≡ foundFrom matrix′ classes′ (length (rowsBefore c i)) (length new) (largest (classesOf (rowsBefore c i)))
-              = more-is ∙ found-same matrix′ classes′ (so-far .from-is) size (so-far .count-is) in
+              let added : r .found ≡ foundFrom matrix′ classes′ (length (rowsBefore c i)) (length new) (largest (classesOf (rowsBefore c i)))
+              = classed .found-is ∙ found-same matrix′ classes′ (so-far .from-is) size (so-far .count-is) in
               omega (arith, so-far .found-is, step, added)
 
-          turned : Turned c matrix₀ classes₀ ones′ zeros′ matrix′ classes′ after (found + more) to (suc i)
+          turned : Turned c matrix₀ classes₀ ones′ zeros′ matrix′ classes′ (r .count) (found + r .found) to (suc i)
           turned =
               let signals = signals-more c i inst at in
               record {
                 inside = h;
-                ones-are = ones-put ∙ rw (words-here, so-far .ones-are, output-is) (signals .0);
-                zeros-are = zeros-put ∙ rw (words-here, so-far .zeros-are, output-is) (signals .1);
+                ones-are = reads .ones-are ∙ rw (words-here, so-far .ones-are, output-is) (signals .0);
+                zeros-are = reads .zeros-are ∙ rw (words-here, so-far .zeros-are, output-is) (signals .1);
                 from-is = to-is;
                 matrix-is = matrix-next;
                 classes-are = classes-next;
@@ -414,5 +379,5 @@ module _ (c : Circuit) (good : CircuitGood c) (m : CircuitRecord) (is : m ≡ ci
                 found-is = found-next;
               }
 
-          pub turn : Turned c matrix₀ classes₀ ones′ zeros′ matrix′ classes′ after (found + more) to (i + 1)
+          pub turn : Turned c matrix₀ classes₀ ones′ zeros′ matrix′ classes′ (r .count) (found + r .found) to (i + 1)
           turn = rw (add-one i) turned

@@ -17,13 +17,13 @@ use Rattle.circuit.specs.declared.Reading.{Reading as ReadingRecord}
 use Rattle.circuit.specs.declared.Circuit.{Circuit as CircuitRecord}
 use Rattle.circuit.proofs.Verdicts.{passes-is}
 use Rattle.circuit.proofs.CircuitLaws.{accepted-is-good}
-use Rattle.grader.specs.Rows.{rowsOf}
-use Rattle.grader.specs.Grading.{gradingOf, gradingOfCircuit, afterReading, countsIn, numberIn, placeIn, matrixAfter, classesAfterGrading}
-use Rattle.grader.specs.Promise.{numberOf, placeOf, countsOf, Meets, Promise}
-use Rattle.grader.specs.Model.{CircuitGiven}
+use Rattle.grading.specs.Rows.{rowsOf}
+use Rattle.grading.specs.Grading.{gradingOf, gradingOfCircuit, afterReading, countsIn, numberIn, placeIn, matrixAfter, classesAfterGrading}
+use Rattle.grading.specs.Promise.{numberOf, placeOf, countsOf, Meets, Promise}
+use Rattle.grading.specs.Given.{CircuitGiven}
+use Rattle.grading.specs.declared.Counts.{Counts}
+use Rattle.grading.specs.declared.Answer.the-variants.{Graded, Refused, ShortMatrix, ShortClasses}
 use Rattle.grader.specs.Model as model
-use Rattle.grader.specs.declared.Counts.{Counts}
-use Rattle.grader.specs.declared.Answer.the-variants.{Graded, Refused, ShortMatrix, ShortClasses}
 use Rattle.grader.proofs.Assembly.{faults-are}
 
 -- ---- what reading answers

@@ -1,20 +1,3 @@
--- The laws of rows, signals, marks and classes, and the grading put together from them.
-pub mod Everywhere
-pub mod Filling
-pub mod FaultRanges
-pub mod RecordReads
-pub mod RowLaws
-pub mod RowWriting
-pub mod RowSteps
-pub mod SignalLaws
-pub mod ValueLaws
-pub mod SignalMeaning
-pub mod RowMeaning
-pub mod KeyMeaning
-pub mod SameClass
-pub mod ClassLaws
-pub mod ClassMeaning
-pub mod ClassNumbering
-pub mod FoundMeaning
+-- The grading put together from rows, marks and classes.
 pub mod Assembly
 pub mod GradingLaws

@@ -1,30 +1,25 @@
 // Grading a file: reading, the refusals of the buffers, and then the rows, instance by instance.
-use crate::Answer;
-use crate::Counts;
-use crate::classes::found_in;
-use crate::classes::number_rows;
-use crate::classes::write_keys;
-use crate::instances::instance_words;
-use crate::marks::write_rows;
-use crate::rows::rows_of;
-use crate::signals::columns_of;
-use crate::signals::input_planes;
-use crate::signals::put_output;
 use circuit::Circuit;
+use circuit::Reading;
 use circuit::limits::MOST_FAULTS;
 use circuit::refusal::refuses;
+use classes::class_instance;
+use grading::Answer;
+use grading::Counts;
+use marks::instances::read_instance;
+use marks::marks::write_rows;
+use marks::signals::signals_of;
 use reader::read::read;
-ghost use mathlib.Core.Path.{_≡_};
+use rows::rows_of;
 ghost use Prim.Native.Nat.{_*_, _≤_};
+ghost use mathlib.Core.Path.{_≡_};
 ghost use lib.ListN.{length};
 ghost use Rattle.circuit.specs.Circuit.{Circuit as CircuitMeant};
 ghost use Rattle.circuit.specs.Records.{circuitRecord};
 ghost use Rattle.circuit.specs.Laws.{CircuitGood};
-ghost use Rattle.grader.specs.Grading.{over, countsOf};
-ghost use Rattle.grader.specs.Rows.{rowsOf, matrixOf};
-ghost use Rattle.grader.specs.Classes.{classesOf};
-ghost use Rattle.grader.specs.Promise.{countsMeant, Promise};
-ghost use Rattle.grader.specs.Model.{CircuitGiven, Graded};
+ghost use Rattle.grading.specs.Given.{CircuitGiven, Read};
+ghost use Rattle.grading.specs.Promise.{Promise, PromiseOfRead};
+ghost use Rattle.grader.specs.Model.{Graded};
 
 // The counts of a circuit whose buffers are long enough, with its rows and classes written.
 fn grade_circuit(c: Circuit, matrix: &mut [u64], classes: &mut [u16]) -> Counts
@@ -34,69 +29,40 @@ fn grade_circuit(c: Circuit, matrix: &mut [u64], classes: &mut [u16]) -> Counts
 {
     let rows = rows_of(c);
     let codes = rows.codes;
-    let ends = rows.ends;
-    let vectors = c.vectors;
-    let columns = columns_of(vectors);
-    let column_ones = columns.ones;
-    let column_zeros = columns.zeros;
-    let mut ones = input_planes(&column_ones);
-    let mut zeros = input_planes(&column_zeros);
-    let vector_count = c.vector_count;
-    let instance_count = c.instance_count;
-    let words = (vector_count + 63) / 64;
+    let signals = signals_of(c.vectors);
+    let mut ones = signals.ones;
+    let mut zeros = signals.zeros;
+    let vectors = c.vector_count;
     let mut keys = [0u16; MOST_FAULTS];
     let mut count: u16 = 0;
     let mut found: usize = 0;
     let mut from: usize = 0;
     let mut i: usize = 0;
-    while i < instance_count {
+    while i < c.instance_count {
         let one = c.instances[i];
         let t = c.types[(one.type_number as usize) - 1];
-        let to = ends[i] as usize;
-        let read = instance_words(t, one, &ones, &zeros, words);
-        let supply = read.supply;
-        let ground = read.ground;
-        let label_ones = read.ones;
-        let label_zeros = read.zeros;
-        put_output(
-            &supply,
-            &ground,
-            t.output as usize,
-            i,
-            &mut ones,
-            &mut zeros,
-        );
-        write_rows(
-            &codes,
-            from,
-            to,
-            vector_count,
-            &supply,
-            &ground,
-            &label_ones,
-            &label_zeros,
-            matrix,
-        );
-        write_keys(&codes, from, to, one, &mut keys);
-        let after = number_rows(&keys, from, to, classes, count);
-        found += found_in(matrix, classes, from, to, count);
-        count = after;
+        let to = rows.ends[i] as usize;
+        let read = read_instance(t, one, i, vectors, &mut ones, &mut zeros);
+        write_rows(&codes, from, to, vectors, read, matrix);
+        let new = class_instance(&codes, from, to, one, matrix, &mut keys, classes, count);
+        count = new.count;
+        found += new.found;
         from = to;
         i += 1;
     }
     Counts {
-        vectors: vector_count,
+        vectors,
         faults: c.faults,
         classes: count as usize,
         found,
     }
 }
 
-// Any bytes and any buffers: the counts, with the matrix and the classes written, or a refusal, with both as they were.
-pub fn grade(file: &[u8], matrix: &mut [u64], classes: &mut [u16]) -> Answer
-    ensures { λ r. ⌜ Promise (now (file .entry)) (now (matrix .entry)) (now (classes .entry)) r (now (matrix .exit)) (now (classes .exit)) ⌝ }
+// A file as it was read, for a caller that keeps its circuit: the counts, with the matrix and the classes written, or a refusal, with both as they were.
+pub fn grade_read(reading: Reading, matrix: &mut [u64], classes: &mut [u16]) -> Answer
+    requires { ⌜ Read reading ⌝ }
+    ensures { λ r. ⌜ PromiseOfRead reading (now (matrix .entry)) (now (classes .entry)) r (now (matrix .exit)) (now (classes .exit)) ⌝ }
 {
-    let reading = read(file);
     let refusal = reading.refusal;
     if refuses(refusal) {
         return Answer::Refused(refusal);
@@ -111,4 +77,11 @@ pub fn grade(file: &[u8], matrix: &mut [u64], classes: &mut [u16]) -> Answer
         return Answer::ShortClasses(faults);
     }
     Answer::Graded(grade_circuit(c, matrix, classes))
+}
+
+// Any bytes and any buffers.
+pub fn grade(file: &[u8], matrix: &mut [u64], classes: &mut [u16]) -> Answer
+    ensures { λ r. ⌜ Promise (now (file .entry)) (now (matrix .entry)) (now (classes .entry)) r (now (matrix .exit)) (now (classes .exit)) ⌝ }
+{
+    grade_read(read(file), matrix, classes)
 }

@@ -1,25 +1,2 @@
 // Grading: for each fault of a circuit the vectors that mark it, its class, and the counts.
-mod classes;
 pub mod grade;
-mod instances;
-mod marks;
-mod rows;
-mod signals;
-
-use circuit::refusal::Refusal;
-
-// The four counts of a grading.
-pub struct Counts {
-    pub vectors: usize,
-    pub faults: usize,
-    pub classes: usize,
-    pub found: usize,
-}
-
-// A grading's counts, or why there is none: the file is refused, the matrix needs this many words, or the class buffer this many entries.
-pub enum Answer {
-    Graded(Counts),
-    Refused(Refusal),
-    ShortMatrix(usize),
-    ShortClasses(usize),
-}

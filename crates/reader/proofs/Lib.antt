@@ -1,9 +1,3 @@
--- What the functions of each stage rest on.
-pub mod BridgeLaws
-pub mod Gathering
-pub mod InstanceLaws
-pub mod InstanceSteps
-pub mod ListLaws
+-- What reading as a whole, and the reading of vectors, rest on.
 pub mod ReadLaws
-pub mod ReadingTypes
 pub mod VectorLaws

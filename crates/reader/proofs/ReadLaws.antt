@@ -19,8 +19,13 @@ use Rattle.circuit.specs.Table.{Verdict, passes, refused, firstOf, test, isUnkn
 use Rattle.circuit.specs.Reading.{Reading, accepted, refusal, unless}
 use Rattle.circuit.specs.Records.{unusedType, unusedBridge, unusedInstance, unusedVector, circuitRecord, emptyCircuit}
 use Rattle.circuit.specs.Answers.{verdictOf, numberOf, placeOf, numberedVerdict, isRefused, Answers}
-use Rattle.circuit.specs.Stages.{bodyOf, fieldIn, FieldAt, NextIs, Stage, bridgeStage, instanceStage, vectorStage, endedVerdict, pastVerdict, endingVerdict, afterStage, afterInputs, fromStart, staged}
-use Rattle.reader.specs.Sections.{stageOf, TypesRead, BridgesRead, SummedTo, TypesAndLists, InstancesRead, VectorsRead}
+use Rattle.circuit.specs.Stages.{bodyOf, fieldIn, FieldAt, NextIs, Stage, bridgeStage, instanceStage, vectorStage, endedVerdict, pastVerdict, endingVerdict, afterStage, afterInputs, fromStart, staged, stageOf}
+use Rattle.types.specs.ReadTypes.{TypesRead}
+use Rattle.instances.specs.ReadBridges.{BridgesRead}
+use Rattle.instances.specs.ListSums.{SummedTo}
+use Rattle.instances.specs.ReadInstances.{TypesAndLists, InstancesRead}
+use Rattle.reader.specs.ReadVectors.{VectorsRead}
+use Rattle.reader.specs.Whole.{wholeOf}
 use Rattle.switch.specs.declared.ModuleType.{ModuleType as TypeRecord}
 use Rattle.circuit.specs.declared.Bridge.{Bridge as BridgeRecord}
 use Rattle.circuit.specs.declared.Instance.{Instance as InstanceRecord}
@@ -30,11 +35,10 @@ use Rattle.circuit.specs.declared.Reading.{Reading as ReadingRecord}
 use Rattle.circuit.specs.declared.fields.Field.{Field as FieldRecord}
 use Rattle.circuit.specs.declared.fields.Next.the-variants.{Other}
 use Rattle.circuit.specs.declared.refusal.Refusal.{Refusal}
-use Rattle.circuit.specs.declared.refusal.Refusal.the-variants.{Nothing}
-use Rattle.reader.specs.declared.types.Types.{Types}
-use Rattle.reader.specs.declared.bridges.Bridges.{Bridges}
-use Rattle.reader.specs.declared.lists.Lists.{Lists}
-use Rattle.reader.specs.declared.instances.Instances.{Instances}
+use Rattle.types.specs.declared.types.Types.{Types}
+use Rattle.instances.specs.declared.bridges.Bridges.{Bridges}
+use Rattle.instances.specs.declared.lists.Lists.{Lists}
+use Rattle.instances.specs.declared.instances.Instances.{Instances}
 use Rattle.reader.specs.declared.vectors.Vectors.{Vectors}
 use Rattle.circuit.proofs.Padding.{padded-nil}
 use Rattle.circuit.proofs.Verdicts.{passes-is, first-passes}
@@ -203,21 +207,7 @@ module _ {file : List ℕ} {from : ℕ} (P : ℕ) {t : Types} (types : TypesRead
           pub ending-fails : isRefused (verdictOf r) ≡ true → whole ≡ unless (verdictOf r) (accepted emptyCircuit)
           ending-fails e = at-ending ∙ unless-refused (verdictOf r) (accepted circuit) (accepted emptyCircuit) e
 
-          pub all-pass : isRefused (verdictOf r) ≡ false → Answers whole (record {
-            refusal = Nothing;
-            circuit = record {
-              inputs = P;
-              «type_count» = t .count;
-              types = t .all;
-              «bridge_count» = b .count;
-              bridges = b .all;
-              «instance_count» = i .count;
-              instances = i .all;
-              faults = i .faults;
-              «vector_count» = v .count;
-              vectors = v .all;
-            };
-          })
+          pub all-pass : isRefused (verdictOf r) ≡ false → Answers whole (wholeOf P t b i v)
           unfolding unless Answers verdictOf numberOf placeOf numberedVerdict circuitRecord
           all-pass e =
               rw (at-ending, passes-is (verdictOf r) e) (

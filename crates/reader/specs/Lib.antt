@@ -1,2 +1,4 @@
--- What the functions of the crate `reader` promise of each stage. What reading means is in the crate `circuit`.
-pub mod Sections
+-- What the functions of the crate `reader` promise of vectors, and the answer put together from the stages.
+-- What reading means, and the promise of `read`, is in the crate `circuit`.
+pub mod ReadVectors
+pub mod Whole

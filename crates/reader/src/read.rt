@@ -1,12 +1,6 @@
 // Reading a file: the stages in file order, and then the ending.
-use crate::bridges::no_bridge;
-use crate::bridges::read_bridges;
 use crate::ending::ending;
-use crate::instances::no_instance;
-use crate::instances::read_instances;
-use crate::lists::lists_of;
-use crate::types::no_type;
-use crate::types::read_types;
+use crate::vectors::Vectors;
 use crate::vectors::no_vector;
 use crate::vectors::read_vectors;
 use circuit::Circuit;
@@ -23,6 +17,16 @@ use circuit::limits::MOST_VECTORS;
 use circuit::refusal::Refusal;
 use circuit::refusal::or_if;
 use circuit::refusal::refuses;
+use instances::bridges::Bridges;
+use instances::bridges::no_bridge;
+use instances::bridges::read_bridges;
+use instances::instances::Instances;
+use instances::instances::no_instance;
+use instances::instances::read_instances;
+use instances::lists::lists_of;
+use types::types::Types;
+use types::types::no_type;
+use types::types::read_types;
 ghost use mathlib.Core.Path.{_≡_};
 ghost use Prim.Native.Nat.{_+_, _≤_};
 ghost use lib.ListN.{length};
@@ -32,6 +36,7 @@ ghost use Rattle.circuit.specs.Reading.{readingOf};
 ghost use Rattle.circuit.specs.Records.{circuitRecord, emptyCircuit};
 ghost use Rattle.circuit.specs.Answers.{verdictOf, Answers};
 ghost use Rattle.circuit.specs.Stages.{bodyOf, afterInputs};
+ghost use Rattle.reader.specs.Whole.{wholeOf};
 
 // The circuit with nothing in it.
 fn empty_circuit() -> Circuit
@@ -71,6 +76,38 @@ fn inputs_verdict(file: &[u8], f: Field) -> Refusal
     or_if(v, inputs < 1 || 64 < inputs, Refusal::OutOfRange(f.at))
 }
 
+// The circuit of the four stages, none of which refused.
+fn whole(
+    inputs: usize,
+    types: Types,
+    bridges: Bridges,
+    instances: Instances,
+    vectors: Vectors,
+) -> Reading
+    ensures { λ r. ⌜ r ≡ wholeOf inputs types bridges instances vectors ⌝ }
+{
+    let all_types = types.all;
+    let all_bridges = bridges.all;
+    let all_instances = instances.all;
+    let all_vectors = vectors.all;
+    let circuit = Circuit {
+        inputs,
+        type_count: types.count,
+        types: all_types,
+        bridge_count: bridges.count,
+        bridges: all_bridges,
+        instance_count: instances.count,
+        instances: all_instances,
+        faults: instances.faults,
+        vector_count: vectors.count,
+        vectors: all_vectors,
+    };
+    Reading {
+        refusal: Refusal::Nothing,
+        circuit,
+    }
+}
+
 // The file from its second field on, with this many inputs.
 fn read_after(file: &[u8], from: usize, inputs: usize) -> Reading
     requires { ⌜ from ≤ length (now file) ⌝ }
@@ -104,24 +141,7 @@ fn read_after(file: &[u8], from: usize, inputs: usize) -> Reading
     if refuses(refusal) {
         return refused(refusal);
     }
-    let all_instances = instances.all;
-    let all_vectors = vectors.all;
-    let circuit = Circuit {
-        inputs,
-        type_count: types.count,
-        types: all_types,
-        bridge_count: bridges.count,
-        bridges: all_bridges,
-        instance_count: instances.count,
-        instances: all_instances,
-        faults: instances.faults,
-        vector_count: vectors.count,
-        vectors: all_vectors,
-    };
-    Reading {
-        refusal: Refusal::Nothing,
-        circuit,
-    }
+    whole(inputs, types, bridges, instances, vectors)
 }
 
 // Any bytes at all: the circuit that they tell, or the refusal.

@@ -10,7 +10,6 @@ use circuit::refusal::or_if;
 use circuit::refusal::refuses;
 ghost use mathlib.Core.Path.{_≡_};
 ghost use Prim.Native.Nat.{_+_, _≤_};
-ghost use lib.Dec.{T};
 ghost use lib.ListN.{length};
 ghost use Rattle.switch.specs.Modules.{allOf};
 ghost use Rattle.circuit.specs.Known.{vectorIn};
@@ -18,7 +17,7 @@ ghost use Rattle.circuit.specs.Table.{firstOf, isLetter, vectorTests};
 ghost use Rattle.circuit.specs.Records.{unusedVector, vectorRecord};
 ghost use Rattle.circuit.specs.Answers.{verdictOf};
 ghost use Rattle.circuit.specs.Stages.{bodyOf};
-ghost use Rattle.reader.specs.Sections.{VectorsRead};
+ghost use Rattle.reader.specs.ReadVectors.{VectorsRead};
 
 pub struct Vectors {
     pub refusal: Refusal,

@@ -5,7 +5,7 @@ use mathlib.Core.Bool.{Bool, true, false, cond}
 use mathlib.Core.List.{List, [], _∷_}
 use lib.Bits.{bitAnd, bitOr}
 use mathlib.Core.Path.{_≡_}
-use lib.Dec.{T, ltb}
+use lib.Dec.{T}
 use lib.ListN.{getD, set}
 use Rattle.words.specs.Bits.{bit, ofBool, word}
 use Rattle.words.specs.Tables.{table, upTo}

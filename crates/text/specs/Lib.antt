@@ -1,2 +1,3 @@
--- What the crate `text` means: decimal numbers.
+-- What the crate `text` means: decimal numbers, and texts as bytes.
 pub mod Decimal
+pub mod Ascii

@@ -32,6 +32,16 @@ sum-none (suc n) f z = omega (arith, z 0 (omega arith), sum-none n (λ (u : ℕ)
 pub sum-past : (m n : ℕ) (f : ℕ → ℕ) → ((v : ℕ) → v < n → f (m + v) ≡ 0) → sumTo (m + n) f ≡ sumTo m f
 sum-past m n f z = omega (arith, sum-add m n f, sum-none n (λ (v : ℕ). f (m + v)) z)
 
+pub sum-snoc : (n : ℕ) (f : ℕ → ℕ) → sumTo (suc n) f ≡ sumTo n f + f n
+unfolding sumTo
+sum-snoc zero f = omega arith
+sum-snoc (suc n) f = omega (arith, sum-snoc n (λ (v : ℕ). f (suc v)))
+
+pub sum-few : (n : ℕ) (f : ℕ → ℕ) → ((v : ℕ) → f v ≤ 1) → sumTo n f ≤ n
+unfolding sumTo
+sum-few zero f h = omega arith
+sum-few (suc n) f h = omega (arith, h 0, sum-few n (λ (v : ℕ). f (suc v)) (λ v. h (suc v)))
+
 -- the number of set bits is the sum of the bits
 pub ones-sum : (n w : ℕ) → w < 2 ^ n → ones w ≡ sumTo n (bit w)
 unfolding sumTo ones

@@ -6,7 +6,7 @@ use native.Mathlib.Omega.{arith}
 use lib.Dec.{ltb}
 use lib.Pow.{pow-mono, pow-pos}
 use borrow.Author.Tests.{lt-ltb, ltb-true, ltb-false}
-use Rattle.words.specs.Bits.{bit, ofBool, word, firstOnes}
+use Rattle.words.specs.Bits.{bit, ofBool, firstOnes}
 use Rattle.words.proofs.Laws.{bit-past, ofBool-le-one, bit-ones, word-of-bits, bit-word, word-lt}
 
 pub firstOnes-lt : (n : ℕ) → firstOnes n < 2 ^ 64

@@ -3,10 +3,11 @@
 use mathlib.Core.Path.{_≡_, refl, sym, ap, _∙_}
 use mathlib.Core.Bool.{Bool, true, false}
 use Prim.Native.Nat.{ℕ, zero, suc, _+_, _-_, _*_, _/_, _%_, _^_, _≤_, _<_, min, max}
-use native.Mathlib.Nat.{div-one, zero-div, div-div-eq-div-mul, div-eq-of-lt, lt-of-lt-of-le, pow-suc, pow-succ', mul-comm, sub-zero, not-suc-le-zero}
+use native.Mathlib.Nat.{div-one, zero-div, div-div-eq-div-mul, div-eq-of-lt, lt-of-lt-of-le, pow-suc, pow-succ', mul-comm, mul-assoc, sub-zero, not-suc-le-zero}
 use native.Mathlib.Omega.{arith}
 use lib.Arith.{lt-one}
 use lib.Bits.{bitAnd, bitOr, and-shr, or-shr, and-step, or-step}
+use lib.Dec.{T}
 use lib.Pow.{pow-pos, pow-mono, shr-shr, high}
 use Rattle.words.specs.Bits.{bit, ofBool, pack, word}
 use Rattle.words.specs.Statements.{BitPack, PackBits}
@@ -38,6 +39,12 @@ bit-past n w v h l = ap (λ (x : ℕ). x % 2) (div-eq-of-lt (lt-of-lt-of-le h (p
 pub ofBool-le-one : (b : Bool) → ofBool b ≤ 1
 ofBool-le-one true = omega arith
 ofBool-le-one false = omega arith
+
+-- a test that holds wherever another does has no smaller number
+pub ofBool-le : (a b : Bool) → (T a → T b) → ofBool a ≤ ofBool b
+ofBool-le true true f = omega arith
+ofBool-le true false f = absurd (f tt)
+ofBool-le false b f = omega arith
 
 -- ---- the operations on words
 
@@ -102,6 +109,14 @@ unfolding pack
 pack-cong zero f g e = refl
 pack-cong (suc n) f g e =
     omega (arith, e 0 (omega arith), pack-cong n (λ (u : ℕ). f (suc u)) (λ (u : ℕ). g (suc u)) (λ u k. e (suc u) (omega arith)))
+
+-- one bit more
+pub pack-more : (n : ℕ) (f : ℕ → ℕ) → pack (suc n) f ≡ f n * 2 ^ n + pack n f
+unfolding pack
+pack-more zero f = omega arith
+pack-more (suc n) f =
+    let twice : f (suc n) * 2 ^ suc n ≡ f (suc n) * 2 ^ n * 2 = rw (pow-suc, mul-assoc) in
+    omega (arith, pack-more n (λ (v : ℕ). f (suc v)))
 
 -- a number of n bits is packed from its bits
 pub pack-bits : PackBits

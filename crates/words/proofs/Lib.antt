@@ -2,6 +2,8 @@
 pub mod Laws
 pub mod FirstOnes
 pub mod Counting
+pub mod Sums
 pub mod Rows
+pub mod AnyMark
 pub mod Tables
 pub mod WrittenLaws

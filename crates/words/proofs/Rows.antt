@@ -26,7 +26,7 @@ unfolding upTo
 upTo-le-one vectors f d v = cond-le-one (ltb v vectors) (f v) (d v)
 
 -- each word of a row
-row-word : (vectors : ℕ) (f : ℕ → ℕ) (w : ℕ) → w < 4 → getD (rowOf vectors f) w 0 ≡ word (λ (v : ℕ). upTo vectors f (64 * w + v))
+pub row-word : (vectors : ℕ) (f : ℕ → ℕ) (w : ℕ) → w < 4 → getD (rowOf vectors f) w 0 ≡ word (λ (v : ℕ). upTo vectors f (64 * w + v))
 unfolding rowOf
 row-word vectors f zero h = refl
 row-word vectors f (suc zero) h = refl

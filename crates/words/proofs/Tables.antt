@@ -1,9 +1,9 @@
--- The laws of a list made from a function: its length, its elements, and that a list with these elements is it. And those of a list that is filled
--- from the front: the first n elements are the function's, the others 0.
+-- The laws of a list made from a function: its length, its elements, that a list with these elements is it, and one element more. And those of a list
+-- that is filled from the front: the first n elements are the function's, the others 0.
 use Prim.Native.Nat.{ℕ, zero, suc, _≤_, _<_, zero-le, suc-le-suc}
 use mathlib.Core.Path.{_≡_, refl, ap, sym, _∙_}
 use mathlib.Core.Bool.{Bool, true, false}
-use mathlib.Core.List.{List, _∷_}
+use mathlib.Core.List.{List, [], _∷_, _++_, map}
 use native.Mathlib.Nat.{le-of-suc-le-suc, not-suc-le-zero}
 use native.Mathlib.Decide.{ℕ-discrete}
 use native.Mathlib.Omega.{arith}
@@ -35,6 +35,17 @@ unfolding table
 table-cong zero f g h = refl
 table-cong {A} (suc n) f g h =
     rw (h zero (suc-le-suc zero-le)) (ap (λ (l : List A). g zero ∷ l) (table-cong n (λ (i : ℕ). f (suc i)) (λ (i : ℕ). g (suc i)) (λ i q. h (suc i) (suc-le-suc q))))
+
+-- one element more
+pub table-more : {A : Type 0} (n : ℕ) (f : ℕ → A) → table (suc n) f ≡ table n f ++ (f n ∷ [])
+unfolding table
+table-more zero f = refl
+table-more {A} (suc n) f = ap (λ (l : List A). f zero ∷ l) (table-more n (λ (i : ℕ). f (suc i)))
+
+pub map-table : {A B : Type 0} (g : A → B) (n : ℕ) (f : ℕ → A) → map g (table n f) ≡ table n (λ (i : ℕ). g (f i))
+unfolding table
+map-table g zero f = refl
+map-table {A} {B} g (suc n) f = ap (λ (l : List B). g (f zero) ∷ l) (map-table g n (λ (i : ℕ). f (suc i)))
 
 -- one element set, the others as they were
 pub set-table : {A : Type 0} (d : A) (n : ℕ) (f g : ℕ → A) (i : ℕ) → i < n → ((j : ℕ) → j < n → (j ≡ i → ⊥) → f j ≡ g j) → set (table n f) i (g i) ≡ table n g

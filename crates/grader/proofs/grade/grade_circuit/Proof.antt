@@ -12,24 +12,24 @@ use Rattle.circuit.specs.Records.{circuitRecord}
 use Rattle.circuit.specs.Laws.{CircuitGood}
 use Rattle.circuit.specs.declared.Circuit.{Circuit as CircuitRecord}
 use Rattle.circuit.specs.declared.Instance.{Instance as InstanceRecord}
-use Rattle.grader.specs.Model.{RowsAre}
-use Rattle.grader.specs.declared.rows.Rows.{Rows}
-use Rattle.grader.proofs.RowLaws.{noInstance}
-use Rattle.grader.proofs.RecordReads.{type-place}
+use Rattle.grading.proofs.RowLaws.{noInstance}
+use Rattle.grading.proofs.RecordReads.{type-place}
+use Rattle.rows.specs.Model.{RowsAre}
+use Rattle.rows.specs.declared.Rows.{Rows}
 use Rattle.grader.proofs.Assembly as assembly
 use Rattle.grader.proofs.Assembly.{Turned, TurnFits, Room}
 use Rattle.grader.proofs.grade.grade_circuit.Statement.{statement}
 use Rattle.grader.proofs.grade.grade_circuit.Tie as tie
 
 abbrev Inv-loop : tie.InvT-loop
-Inv-loop matrix₀ classes₀ c codes ends ones₀ zeros₀ vectors instances words keys₀ count₀ found₀ from₀ i₀ matrix classes ones zeros keys count found from i =
+Inv-loop matrix₀ classes₀ c rows codes ones₀ zeros₀ vectors keys₀ count₀ found₀ from₀ i₀ matrix classes ones zeros keys count found from i =
     (length keys ≡ 2048)
     × ((meant : Circuit) → c ≡ circuitRecord meant → CircuitGood meant
     → Turned meant matrix₀ classes₀ ones zeros matrix classes count found from i)
 
 abbrev μ-loop : tie.MeasureT-loop
-μ-loop matrix₀ classes₀ c codes ends ones₀ zeros₀ vectors instances words keys₀ count₀ found₀ from₀ i₀ matrix classes ones zeros keys count found from i =
-    instances - i
+μ-loop matrix₀ classes₀ c rows codes ones₀ zeros₀ vectors keys₀ count₀ found₀ from₀ i₀ matrix classes ones zeros keys count found from i =
+    c .«instance_count» - i
 
 -- what an array read past its end gives
 abbrev noOne : InstanceRecord
@@ -40,10 +40,10 @@ noType = record { highest = 0; output = 0; labels = 0; count = 0; edges = [] }
 
 -- ---- paths
 
-abbrev rows-at : tie.After-input-planes2 Inv-loop μ-loop → tie.After-rows-of Inv-loop μ-loop
-rows-at c = c .before .before .before .before .before .before .before .before .before .before
+abbrev rows-at : tie.After-zeros Inv-loop μ-loop → tie.After-rows-of Inv-loop μ-loop
+rows-at c = c .before .before .before .before .before
 
-abbrev start-at : tie.After-input-planes2 Inv-loop μ-loop → tie.Start Inv-loop μ-loop
+abbrev start-at : tie.After-zeros Inv-loop μ-loop → tie.Start Inv-loop μ-loop
 start-at c = rows-at c .before .before .before
 
 abbrev begin : tie.In-loop Inv-loop μ-loop → tie.Start Inv-loop μ-loop
@@ -58,32 +58,17 @@ all-rows c = rows-at (c .before .before) .rows-of .result
 abbrev t-turn : tie.After-t Inv-loop μ-loop → tie.In-loop Inv-loop μ-loop
 t-turn c = c .before .before .before
 
-abbrev words-turn : tie.After-instance-words Inv-loop μ-loop → tie.In-loop Inv-loop μ-loop
-words-turn c = t-turn (c .before .before .before)
+abbrev read-turn : tie.After-read-instance Inv-loop μ-loop → tie.In-loop Inv-loop μ-loop
+read-turn c = t-turn (c .before .before .before .before)
 
-abbrev put-words : tie.After-put-output Inv-loop μ-loop → tie.After-instance-words Inv-loop μ-loop
-put-words c = c .before .before .before .before .before .before .before .before .before .before
+abbrev wrote-read : tie.After-write-rows Inv-loop μ-loop → tie.After-read-instance Inv-loop μ-loop
+wrote-read c = c .before .before .before
 
-abbrev wrote-put : tie.After-write-rows Inv-loop μ-loop → tie.After-put-output Inv-loop μ-loop
-wrote-put c = c .before .before .before .before .before .before .before
+abbrev classed-wrote : tie.After-class-instance Inv-loop μ-loop → tie.After-write-rows Inv-loop μ-loop
+classed-wrote c = c .before .before .before .before .before .before .before
 
-abbrev keyed-wrote : tie.After-write-keys Inv-loop μ-loop → tie.After-write-rows Inv-loop μ-loop
-keyed-wrote c = c .before .before .before .before .before
-
-abbrev numbered-keyed : tie.After-number-rows Inv-loop μ-loop → tie.After-write-keys Inv-loop μ-loop
-numbered-keyed c = c .before .before .before
-
-abbrev found-numbered : tie.After-found-in Inv-loop μ-loop → tie.After-number-rows Inv-loop μ-loop
-found-numbered c = c .before .before .before .before .before
-
-abbrev wrote-turn : tie.After-write-rows Inv-loop μ-loop → tie.In-loop Inv-loop μ-loop
-wrote-turn c = words-turn (put-words (wrote-put c))
-
-abbrev keyed-turn : tie.After-write-keys Inv-loop μ-loop → tie.In-loop Inv-loop μ-loop
-keyed-turn c = wrote-turn (keyed-wrote c)
-
-abbrev found-turn : tie.After-found-in Inv-loop μ-loop → tie.In-loop Inv-loop μ-loop
-found-turn c = keyed-turn (numbered-keyed (found-numbered c))
+abbrev classed-turn : tie.After-class-instance Inv-loop μ-loop → tie.In-loop Inv-loop μ-loop
+classed-turn c = read-turn (wrote-read (classed-wrote c))
 
 -- ---- a turn, for the circuit that the record is known to tell
 
@@ -134,67 +119,47 @@ module _ (c : tie.In-loop Inv-loop μ-loop) where
       assembly.turn-fits known good (whole c) is place (here known is) noOne noType (all-rows c) rows-known _ _ _ _ _ _ _ _ _ room
       (so-far known is good)
 
-  output-few : getD (whole c .types) (getD (whole c .instances) place noOne .«type_number» - 1) noType .output < 32
-  output-few = assembly.output-few known good (whole c) is place (here known is) noOne noType
-
 -- the keys are as long as they were
-keys-long : (c : tie.After-write-keys Inv-loop μ-loop) → length (c .write-keys .last .1 .1 .1 .1 .0) ≡ 2048
+keys-long : (c : tie.After-class-instance Inv-loop μ-loop) → length (c .class-instance .last .1 .1 .1 .1 .1 .0) ≡ 2048
 keys-long c =
-    let turn = keyed-turn c in
+    let turn = classed-turn c in
     assembly.keys-kept (known turn) (good turn) (whole turn) (is turn) (place turn) (here turn (known turn) (is turn)) noOne noType
-    (all-rows turn) (rows-known turn) _ _ _ _ _ _ _ _ _ (room turn) (so-far turn (known turn) (is turn) (good turn)) _ _
-    (turn .before .loop .inv .0) (c .write-keys .ensures)
+    (all-rows turn) (rows-known turn) _ _ _ _ _ _ _ _ _ (room turn) (so-far turn (known turn) (is turn) (good turn))
+    (turn .before .loop .inv .0) (c .class-instance .ensures)
 
 -- the turn
-turned : (c : tie.After-found-in Inv-loop μ-loop) (meant : Circuit) → whole (found-turn c) ≡ circuitRecord meant → CircuitGood meant
+turned : (c : tie.After-class-instance Inv-loop μ-loop) (meant : Circuit) → whole (classed-turn c) ≡ circuitRecord meant → CircuitGood meant
     → Turned
     meant
-    (begin (found-turn c) .args .matrix .now)
-    (begin (found-turn c) .args .classes .now)
-    (wrote-put (keyed-wrote (numbered-keyed (found-numbered c))) .put-output .last .1 .1 .1 .1 .0)
-    (wrote-put (keyed-wrote (numbered-keyed (found-numbered c))) .put-output .last .1 .1 .1 .1 .1 .0)
-    (keyed-wrote (numbered-keyed (found-numbered c)) .write-rows .last .1 .1 .1 .1 .1 .1 .1 .1 .0)
-    (found-numbered c .number-rows .last .1 .1 .1 .0)
-    (found-numbered c .number-rows .result)
-    (found-turn c .before .loop .found + c .found-in .result)
-    (to (found-turn c))
-    (place (found-turn c) + 1)
+    (begin (classed-turn c) .args .matrix .now)
+    (begin (classed-turn c) .args .classes .now)
+    (wrote-read (classed-wrote c) .read-instance .last .1 .1 .1 .1 .0)
+    (wrote-read (classed-wrote c) .read-instance .last .1 .1 .1 .1 .1 .0)
+    (classed-wrote c .write-rows .last .1 .1 .1 .1 .1 .0)
+    (c .class-instance .last .1 .1 .1 .1 .1 .1 .0)
+    (c .class-instance .result .count)
+    (classed-turn c .before .loop .found + c .class-instance .result .found)
+    (to (classed-turn c))
+    (place (classed-turn c) + 1)
 turned c meant e g =
-    let turn = found-turn c in
-    let numbered = found-numbered c in
-    let keyed = numbered-keyed numbered in
-    let wrote = keyed-wrote keyed in
-    let output = wrote-put wrote in
-    let read = put-words output in
+    let turn = classed-turn c in
+    let wrote = classed-wrote c in
+    let read = wrote-read wrote in
     assembly.turn meant g (whole turn) e (place turn) (here turn meant e) noOne noType (all-rows turn) (are turn meant e g) _ _ _ _ _ _ _ _ _
     (room turn) (so-far turn meant e g)
-    (read .instance-words .result) (read .instance-words .ensures)
-    _ _ (output .put-output .ensures .0) (output .put-output .ensures .1)
-    _ (wrote .write-rows .ensures)
-    _ _ (turn .before .loop .inv .0) (keyed .write-keys .ensures)
-    _ (numbered .number-rows .ensures .0) _ (numbered .number-rows .ensures .1)
-    _ (c .found-in .ensures)
+    (read .read-instance .result) _ _ (read .read-instance .ensures) _ (wrote .write-rows .ensures)
+    _ _ _ (c .class-instance .result) (c .class-instance .ensures)
 
 rows-of-requires : tie.Need-rows-of-requires Inv-loop μ-loop
 rows-of-requires c κs = search needs
 
-columns-of-requires : tie.Need-columns-of-requires Inv-loop μ-loop
-columns-of-requires c κs = search needs
-
-input-planes-requires : tie.Need-input-planes-requires Inv-loop μ-loop
-input-planes-requires c κs = search needs
-
-input-planes-requires-2 : tie.Need-input-planes-requires-2 Inv-loop μ-loop
-input-planes-requires-2 c κs = search needs
-
-add-words : tie.Need-add-words Inv-loop μ-loop
-add-words c = let p = start-at c .pre .0 in omega (arith, assembly.vectors-are (p .circuit) (start-at c .args .t1) (p .is), p .good .few-vectors)
+signals-of-requires : tie.Need-signals-of-requires Inv-loop μ-loop
+signals-of-requires c κs = search needs
 
 loop-holds : tie.Need-loop-holds Inv-loop μ-loop
 loop-holds c = (
   refl,
-  λ meant e g. assembly.turned-none meant (start-at c .args .t1) e _ _ (c .before .before .before .before .before .before .columns-of .result) _ _
-      (c .before .before .before .before .before .before .columns-of .ensures) (c .before .before .input-planes .ensures) (c .input-planes2 .ensures),
+  λ meant e g. assembly.turned-none meant (start-at c .args .t1) e _ _ (c .before .before .signals-of .result) (c .before .before .signals-of .ensures),
 )
 
 mul-one : tie.Need-mul-one Inv-loop μ-loop
@@ -218,71 +183,59 @@ element-copy-out-t c = omega (arith, type-placed (c .before .before))
 mul-to : tie.Need-mul-to Inv-loop μ-loop
 mul-to c = omega (arith, few (t-turn c))
 
-array-read-to : tie.Need-array-read-to Inv-loop μ-loop
-array-read-to c = few (t-turn c)
+element-copy-out-to : tie.Need-element-copy-out-to Inv-loop μ-loop
+element-copy-out-to c = few (t-turn c)
 
 cast-to : tie.Need-cast-to Inv-loop μ-loop
-cast-to c = omega (arith, fits (t-turn c) .order)
+cast-to c = omega (arith, fits (t-turn (c .before)) .order)
 
-instance-words-requires : tie.Need-instance-words-requires Inv-loop μ-loop
-instance-words-requires c κs =
-    let turn = t-turn (c .before .before) in (
+read-instance-requires : tie.Need-read-instance-requires Inv-loop μ-loop
+read-instance-requires c κs =
+    let turn = t-turn (c .before .before .before) in (
       assembly.type-there (known turn) (good turn) (whole turn) (is turn) (place turn) (here turn (known turn) (is turn)) noOne noType,
       (
         assembly.references-fit (known turn) (good turn) (whole turn) (is turn) (place turn) (here turn (known turn) (is turn)) noOne noType,
-        assembly.words-few (known turn) (good turn) (whole turn) (is turn) (place turn) (here turn (known turn) (is turn)),
+        (
+          (few turn, assembly.vectors-few (known turn) (good turn) (whole turn) (is turn) (place turn) (here turn (known turn) (is turn))),
+          fits turn .signals,
+        ),
       ),
     )
 
-cast-put-output : tie.Need-cast-put-output Inv-loop μ-loop
-cast-put-output c = omega (arith, output-few (words-turn (c .before .before .before .before .before .before .before)))
-
-put-output-requires : tie.Need-put-output-requires Inv-loop μ-loop
-put-output-requires c κs =
-    let turn = words-turn (c .before .before .before .before .before .before .before .before .before) in
-    ((output-few turn, few turn), fits turn .signals)
-
 write-rows-requires : tie.Need-write-rows-requires Inv-loop μ-loop
 write-rows-requires c κs =
-    let turn = words-turn (put-words (c .before .before .before .before .before .before)) in
+    let turn = read-turn (c .before .before) in
     (fits turn .order, (fits turn .words, fits turn .codes-fit))
 
-write-keys-requires : tie.Need-write-keys-requires Inv-loop μ-loop
-write-keys-requires c κs =
-    let turn = wrote-turn (c .before .before .before .before) in
-    (fits turn .order, (turn .before .loop .inv .0, fits turn .codes-fit))
-
-number-rows-requires : tie.Need-number-rows-requires Inv-loop μ-loop
-number-rows-requires c κs =
-    let keyed = c .before .before in
-    let turn = keyed-turn keyed in
-    ((fits turn .order .0, fits turn .order .1, fits turn .count-few), (fits turn .entries, keys-long keyed))
-
-found-in-requires : tie.Need-found-in-requires Inv-loop μ-loop
-found-in-requires c κs =
-    let numbered = c .before .before .before .before in
-    let wrote = keyed-wrote (numbered-keyed numbered) in
-    let turn = wrote-turn wrote in
-    let matrix-kept = wrote .write-rows .kept .1 .1 .1 .1 .1 .1 .1 .1 .0 in
-    let classes-kept = numbered .number-rows .kept .1 .1 .1 .0 in
-    (fits turn .order, (omega (arith, fits turn .words, matrix-kept), omega (arith, fits turn .entries, classes-kept)))
+class-instance-requires : tie.Need-class-instance-requires Inv-loop μ-loop
+class-instance-requires c κs =
+    let wrote = c .before .before .before .before .before .before in
+    let turn = read-turn (wrote-read wrote) in
+    let matrix-kept = wrote .write-rows .kept .1 .1 .1 .1 .1 .0 in (
+      (fits turn .order .0, fits turn .order .1, fits turn .count-few),
+      (
+        fits turn .codes-fit,
+        (omega (arith, fits turn .words, matrix-kept), fits turn .entries, turn .before .loop .inv .0),
+      ),
+    )
 
 add-found : tie.Need-add-found Inv-loop μ-loop
 add-found c =
-    let turn = found-turn c in
-    omega (arith, turned c (known turn) (is turn) (good turn) .found-is, assembly.found-few (known turn) (good turn) (place turn + 1))
+    let classed = c .before .before .before in
+    let turn = classed-turn classed in
+    omega (arith, turned classed (known turn) (is turn) (good turn) .found-is, assembly.found-few (known turn) (good turn) (place turn + 1))
 
 add-i : tie.Need-add-i Inv-loop μ-loop
-add-i c = omega (arith, few (found-turn c))
+add-i c = omega (arith, few (classed-turn (c .before .before .before)))
 
 loop-less : tie.Need-loop-less Inv-loop μ-loop
-loop-less c = omega (arith, found-turn c .loop-test .taken)
+loop-less c = omega (arith, classed-turn (c .before .before .before) .loop-test .taken)
 
 loop-again : tie.Need-loop-again Inv-loop μ-loop
-loop-again c = (keys-long (numbered-keyed (found-numbered c)), λ meant e g. turned c meant e g)
+loop-again c = let classed = c .before .before .before in (keys-long classed, λ meant e g. turned classed meant e g)
 
-cast-t72 : tie.Need-cast-t72 Inv-loop μ-loop
-cast-t72 c =
+cast-t51 : tie.Need-cast-t51 Inv-loop μ-loop
+cast-t51 c =
     let start = start-at (c .before .before) in
     let p = start .pre .0 in
     omega (arith, assembly.classes-few (p .circuit) (start .args .t1) (p .is) (p .good) (c .before .loop .inv .1 (p .circuit) (p .is) (p .good)))
@@ -313,10 +266,7 @@ grade-circuit-spec =
     Inv-loop
     μ-loop
     rows-of-requires
-    columns-of-requires
-    input-planes-requires
-    input-planes-requires-2
-    add-words
+    signals-of-requires
     loop-holds
     mul-one
     element-copy-out-one
@@ -325,20 +275,16 @@ grade-circuit-spec =
     mul-t
     element-copy-out-t
     mul-to
-    array-read-to
+    element-copy-out-to
     cast-to
-    instance-words-requires
-    cast-put-output
-    put-output-requires
+    read-instance-requires
     write-rows-requires
-    write-keys-requires
-    number-rows-requires
-    found-in-requires
+    class-instance-requires
     add-found
     add-i
     loop-less
     loop-again
-    cast-t72
+    cast-t51
     same-length
     same-length-2
     returns)

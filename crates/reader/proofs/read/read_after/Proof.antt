@@ -1,10 +1,10 @@
 -- `reader::read::read_after` meets its contract: each stage refuses, or hands on to the next; where all pass, the record holds what each has read.
 -- Assumes nothing.
-use mathlib.Core.Path.{_≡_, sym, _∙_}
+use mathlib.Core.Path.{_≡_, sym, subst, _∙_}
 use mathlib.Core.Bool.{false}
 use borrow.Author.Needs.{needs}
-use Rattle.circuit.specs.Answers.{verdictOf, isRefused}
-use Rattle.reader.specs.Sections.{InstancesRead, TypesAndLists}
+use Rattle.circuit.specs.Answers.{verdictOf, isRefused, Answers}
+use Rattle.instances.specs.ReadInstances.{InstancesRead, TypesAndLists}
 use Rattle.reader.proofs.ReadLaws.{answers-refused, types-fail, bridges-fail, held-to, instances-fail, vectors-fail, ending-fails, all-pass}
 use Rattle.reader.proofs.read.read_after.Statement.{statement}
 use Rattle.reader.proofs.read.read_after.Tie as tie
@@ -164,18 +164,22 @@ returns-5 c =
     (instances-are n) (instances-passed (v .before)) (v .read-vectors .ensures) (vectors-passed (z .before)) (z .ending .result) (z .ending .ensures) e)
     e (c .refused5 .ensures)
 
+whole-requires : tie.Need-whole-requires
+whole-requires c κs = search needs
+
 returns-6 : tie.Need-returns-6
 returns-6 c =
-    let x = c .before .before in
+    let x = c .before in
     let z = x .before .before in
     let v = z .before .before .before in
     let n = v .before .before .before in
     let b = n .before .before .before .before .before .before in
     let t = b .before .before .before in
     let P = t .before .before .args .inputs in
-    all-pass P (t .read-types .ensures) (types-passed (b .before)) (b .read-bridges .ensures) (bridges-passed (n .before .before .before .before))
+    subst (Answers _) (sym (c .whole .ensures))
+    (all-pass P (t .read-types .ensures) (types-passed (b .before)) (b .read-bridges .ensures) (bridges-passed (n .before .before .before .before))
     (instances-are n) (instances-passed (v .before)) (v .read-vectors .ensures) (vectors-passed (z .before)) (z .ending .result) (z .ending .ensures)
-    (sym (x .before .refuses5 .ensures) ∙ x .if5 .left)
+    (sym (x .before .refuses5 .ensures) ∙ x .if5 .left))
 
 pub read-after-spec : {M : Type 1} → statement M
 read-after-spec =
@@ -202,4 +206,5 @@ read-after-spec =
     refuses-requires-5
     refused-requires-5
     returns-5
+    whole-requires
     returns-6)

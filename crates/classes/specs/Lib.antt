@@ -1,0 +1,2 @@
+-- What the crate `classes` computes.
+pub mod Model

@@ -1,0 +1,86 @@
+-- The faults of an instance of an accepted circuit join nodes below 32, and labels below 12: the exhaustive list by its type's numbers, a user list
+-- by its bridges'.
+use Prim.Native.Nat.{ℕ, suc, _+_, _-_, _<_, _≤_}
+use mathlib.Core.Path.{refl}
+use mathlib.Core.Bool.{Bool, true, false, cond, not, _&&_}
+use mathlib.Core.List.{List, [], _∷_}
+use native.Mathlib.Omega.{arith}
+use lib.Dec.{T, eqb, leb, leb→le}
+use lib.ListN.{length, getD}
+use Rattle.words.specs.Tables.{table}
+use Rattle.switch.specs.Modules.{ModuleType}
+use Rattle.switch.specs.Bridges.{Bridge, nodes, input}
+use Rattle.switch.proofs.Paths.{both}
+use Rattle.circuit.specs.Circuit.{Circuit, Instance, Listed, Choice, exhaustive, no-faults, list, typeOfInstance, nodePairs, nodeInputs, exhaustiveList}
+use Rattle.circuit.specs.Circuit.{userList, chosen, faultsOf}
+use Rattle.circuit.specs.Laws.{bridgeGood, Each, ListedGood, CircuitGood}
+use Rattle.grading.proofs.Everywhere.{Every, every-nil, every-cons, every-append, every-table, every-join}
+use Rattle.grading.proofs.ValueLaws.{type-ranges, type-good}
+
+-- a bridge whose nodes are below 32, and whose label is below 12
+abbrev pub BridgeFits : Bridge → Type 0
+BridgeFits (nodes a b) = (a < 32) × (b < 32)
+BridgeFits (input m l) = (m < 32) × (l < 12)
+
+-- the numbers of the type of an instance
+pub record TypeFits (t : ModuleType) : Type 0 where
+  pub nodes-are : t .highest < 32
+  pub labels-are : t .labels ≤ 12
+
+pub types-fit : (c : Circuit) → CircuitGood c → (i : ℕ) (none : Instance) → i < length (c .instances) → TypeFits (typeOfInstance (c .types) (getD (c .instances) i none))
+types-fit c good i none h =
+    let inst : Instance = getD (c .instances) i none in
+    let ranges = type-ranges (typeOfInstance (c .types) inst) (type-good c good i h none inst refl .sound) in
+    record { nodes-are = ranges .highest; labels-are = ranges .labels-high }
+
+exhaustive-fits : (h k : ℕ) → h < 32 → k ≤ 12 → Every BridgeFits (exhaustiveList h k)
+unfolding exhaustiveList nodePairs nodeInputs
+exhaustive-fits h k p q =
+    every-append BridgeFits (nodePairs h) (nodeInputs h k)
+    (every-join
+    BridgeFits
+    (table (h + 1) (λ (a : ℕ). table (h - a) (λ (j : ℕ). nodes a (a + 1 + j))))
+    (every-table
+    (Every BridgeFits)
+    (h + 1)
+    (λ (a : ℕ). table (h - a) (λ (j : ℕ). nodes a (a + 1 + j)))
+    (λ a r. every-table BridgeFits (h - a) (λ (j : ℕ). nodes a (a + 1 + j)) (λ j s. (omega arith, omega arith)))))
+    (every-join
+    BridgeFits
+    (table (h + 1) (λ (m : ℕ). table k (λ (l : ℕ). input m l)))
+    (every-table
+    (Every BridgeFits)
+    (h + 1)
+    (λ (m : ℕ). table k (λ (l : ℕ). input m l))
+    (λ m r. every-table BridgeFits k (λ (l : ℕ). input m l) (λ l s. (omega arith, omega arith)))))
+
+bridge-fits : (b : Bridge) → T (bridgeGood b) → BridgeFits b
+unfolding bridgeGood
+bridge-fits (nodes a b) t =
+    let ends = both (leb a 31) (leb b 31) ((both (leb a 31 && leb b 31) (not (eqb a b)) t) .0) in
+    (omega (arith, leb→le a 31 (ends .0)), omega (arith, leb→le b 31 (ends .1)))
+bridge-fits (input m l) t =
+    let ends = both (leb m 31) (leb l 11) t in (omega (arith, leb→le m 31 (ends .0)), omega (arith, leb→le l 11 (ends .1)))
+
+list-fits : (n : ℕ) (bs : List Listed) → Each (λ (i : ℕ) (b : Listed). ListedGood b) bs → Every BridgeFits (userList n bs)
+unfolding userList
+list-fits n [] good = every-nil BridgeFits
+list-fits n (b ∷ bs) good =
+    go (eqb (b .list) n) (list-fits n bs (λ i none h. good (suc i) none (omega arith)))
+  where
+    go : (own : Bool) → Every BridgeFits (userList n bs) → Every BridgeFits (cond own (b .bridge ∷ userList n bs) (userList n bs))
+    go true rest = every-cons BridgeFits (b .bridge) (userList n bs) (bridge-fits (b .bridge) (good 0 b (omega arith) .bridge)) rest
+    go false rest = rest
+
+pub faults-fit : (c : Circuit) → CircuitGood c → (i : ℕ) (none : Instance) → i < length (c .instances)
+    → Every BridgeFits (faultsOf (c .types) (c .bridges) (getD (c .instances) i none))
+unfolding faultsOf chosen
+faults-fit c good i none h = go (types-fit c good i none h) (getD (c .instances) i none .choice)
+  where
+    t : ModuleType
+    t = typeOfInstance (c .types) (getD (c .instances) i none)
+
+    go : TypeFits t → (choice : Choice) → Every BridgeFits (chosen t (c .bridges) choice)
+    go fits exhaustive = exhaustive-fits (t .highest) (t .labels) (fits .nodes-are) (fits .labels-are)
+    go fits no-faults = every-nil BridgeFits
+    go fits (list n) = list-fits n (c .bridges) (good .bridges)

@@ -1,0 +1,12 @@
+-- The theorems on classes, and the laws of rows, values and records that the crates which grade share.
+pub mod Everywhere
+pub mod Lists
+pub mod ValueLaws
+pub mod FaultRanges
+pub mod RecordReads
+pub mod RowLaws
+pub mod MatrixLaws
+pub mod SameClass
+pub mod ClassLists
+pub mod ClassNumbering
+pub mod FoundLaws

@@ -1,0 +1,74 @@
+-- 01, "Faults, marks and classes": two rows are in one class when they are of the same instance and kind, with the same nodes in either order for kind 0,
+-- or the same node and labels with equal references for kind 1. Classes are numbered from 1 at their first row; the search for a row's class stops
+-- at the first earlier row that matches. A class is found when a row of it has a mark.
+use Prim.Native.Nat.{ℕ, suc, max}
+use mathlib.Core.Bool.{Bool, false, cond, _&&_, _||_}
+use mathlib.Core.List.{List, [], _∷_, _++_}
+use lib.Dec.{eqb, ltb}
+use lib.ListN.{length, getD}
+use Rattle.words.specs.Bits.{ofBool, sumTo}
+use Rattle.switch.specs.Bridges.{Bridge, nodes, input}
+use Rattle.circuit.specs.Circuit.{Circuit, Reference, primary, outputOf, Instance}
+use Rattle.grading.specs.Rows.{Row, rowsOf, markOf}
+
+unfoldable pub sameReference : Reference → Reference → Bool
+sameReference (primary n) (primary m) = eqb n m
+sameReference (primary n) (outputOf j) = false
+sameReference (outputOf i) (primary m) = false
+sameReference (outputOf i) (outputOf j) = eqb i j
+
+-- labels of one instance with equal references
+unfoldable pub sameLabel : Instance → ℕ → ℕ → Bool
+sameLabel i l m = sameReference (getD (i .references) l (primary 0)) (getD (i .references) m (primary 0))
+
+-- bridges of one instance that are one class
+unfoldable pub sameBridge : Instance → Bridge → Bridge → Bool
+sameBridge i (nodes a b) (nodes c d) = eqb a c && eqb b d || eqb a d && eqb b c
+sameBridge i (nodes a b) (input m l) = false
+sameBridge i (input m l) (nodes a b) = false
+sameBridge i (input m l) (input n k) = eqb m n && sameLabel i l k
+
+unfoldable pub sameClass : Row → Row → Bool
+sameClass r s = eqb (r .number) (s .number) && sameBridge (r .instance) (r .bridge) (s .bridge)
+
+-- the class of a row: that of the first earlier row that matches, else the next new number.
+-- The earlier rows come with their classes, in order
+unfoldable pub classAmong : Row → ℕ → List Row → List ℕ → ℕ
+classAmong row new [] classes = new
+classAmong row new (r ∷ rs) [] = new
+classAmong row new (r ∷ rs) (n ∷ ns) = let later = classAmong row new rs ns in cond (sameClass r row) n later
+
+-- the number of classes so far: the largest number given
+unfoldable pub largest : List ℕ → ℕ
+largest [] = 0
+largest (n ∷ ns) = max n (largest ns)
+
+unfoldable pub classesAfter : List Row → List ℕ → List Row → List ℕ
+classesAfter before classes [] = classes
+classesAfter before classes (row ∷ rows) =
+    classesAfter (before ++ (row ∷ [])) (classes ++ (classAmong row (suc (largest classes)) before classes ∷ [])) rows
+
+unfoldable pub classesOf : List Row → List ℕ
+classesOf rows = classesAfter [] [] rows
+
+-- ---- found classes
+
+-- has a row a mark under one of the circuit's vectors
+unfoldable pub hasMark : Circuit → Row → Bool
+hasMark c row = ltb 0 (sumTo (length (c .vectors)) (markOf c row))
+
+-- has a row of class n a mark
+unfoldable pub classFound : Circuit → ℕ → List Row → List ℕ → Bool
+classFound c n [] classes = false
+classFound c n (r ∷ rs) [] = false
+classFound c n (r ∷ rs) (m ∷ ms) = eqb m n && hasMark c r || classFound c n rs ms
+
+-- of the classes 1 to `count`, how many are found
+unfoldable pub foundAmong : Circuit → List Row → List ℕ → ℕ → ℕ
+foundAmong c rows classes count = sumTo count (λ (n : ℕ). ofBool (classFound c (suc n) rows classes))
+
+unfoldable pub classCount : Circuit → ℕ
+classCount c = largest (classesOf (rowsOf c))
+
+unfoldable pub foundCount : Circuit → ℕ
+foundCount c = foundAmong c (rowsOf c) (classesOf (rowsOf c)) (classCount c)

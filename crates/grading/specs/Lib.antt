@@ -1,0 +1,16 @@
+-- What grading means: the words of 01, "Faults, marks and classes".
+--   Values    label values by reference, outputs in file order
+--   Rows      the faults of all instances, and when a row is marked under a vector
+--   Classes   which rows are one class, class numbers, found classes
+--   Grading   the answer for given bytes and given buffer lengths, and what it leaves in the buffers
+--   Promise   the same of the code's answer
+--   Statements   the theorems on classes
+-- And what the crates that grade share: a row as a number, and what they ask of a circuit.
+pub mod Values
+pub mod Rows
+pub mod Classes
+pub mod Grading
+pub mod Promise
+pub mod Statements
+pub mod Codes
+pub mod Given

@@ -1,0 +1,20 @@
+// What a grading answers: the four counts, or why there are none.
+pub mod answers;
+
+use circuit::refusal::Refusal;
+
+// The four counts of a grading.
+pub struct Counts {
+    pub vectors: usize,
+    pub faults: usize,
+    pub classes: usize,
+    pub found: usize,
+}
+
+// A grading's counts, or why there is none: the file is refused, the matrix needs this many words, or the class buffer this many entries.
+pub enum Answer {
+    Graded(Counts),
+    Refused(Refusal),
+    ShortMatrix(usize),
+    ShortClasses(usize),
+}

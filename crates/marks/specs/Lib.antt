@@ -1,0 +1,2 @@
+-- What the crate `marks` computes.
+pub mod Model

@@ -1,0 +1,2 @@
+-- What the crate `rows` computes.
+pub mod Model

@@ -1,0 +1,2 @@
+-- What the functions that read types and edges rest on.
+pub mod ReadingTypes

@@ -1,0 +1,3 @@
+// Module types: the fields with tags 2 and 3 become records of types, each in range and complementary.
+mod edges;
+pub mod types;

@@ -10,7 +10,7 @@ pub struct Input {
 }
 
 // An input that could not be read.
-fn unread() -> Input
+pub fn unread() -> Input
     ensures { λ r. ⌜ (r .«is_read» ≡ false) × (r .count ≡ 0) ⌝ }
 {
     Input {

@@ -1,10 +1,10 @@
--- `show::lines::references` is safe and ends. The loop's invariant: the references passed take 22 bytes each at most. Assumes nothing.
+-- `listing::lines::references` is safe and ends. The loop's invariant: the references passed take 22 bytes each at most. Assumes nothing.
 use Prim.Native.Nat.{_≤_, _-_, _+_, _*_}
 use mathlib.Core.Path.{_≡_}
 use lib.ListN.{length}
 use borrow.Author.Needs.{needs}
-use Rattle.show.proofs.lines.references.Statement.{statement}
-use Rattle.show.proofs.lines.references.Tie as tie
+use Rattle.listing.proofs.lines.references.Statement.{statement}
+use Rattle.listing.proofs.lines.references.Tie as tie
 
 abbrev Inv-loop : tie.InvT-loop
 Inv-loop out₀ at count instance used end₀ i₀ out end i = (i ≤ used) × (end ≤ at + 22 * i) × (length out ≡ length out₀)

@@ -1,9 +1,9 @@
--- `show::lines::number` meets its contract: each number below 2 ^ 64 has at most 20 digits. Assumes nothing.
+-- `listing::lines::number` meets its contract: each number below 2 ^ 64 has at most 20 digits. Assumes nothing.
 use native.Mathlib.Omega.{arith}
 use borrow.Author.Needs.{needs}
 use Rattle.text.proofs.DecimalLaws.{decimal-length}
-use Rattle.show.proofs.lines.number.Statement.{statement}
-use Rattle.show.proofs.lines.number.Tie as tie
+use Rattle.listing.proofs.lines.number.Statement.{statement}
+use Rattle.listing.proofs.lines.number.Tie as tie
 
 put-number-requires : tie.Need-put-number-requires
 put-number-requires c κs = search needs

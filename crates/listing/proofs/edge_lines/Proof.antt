@@ -1,16 +1,16 @@
--- `show::listing::bridge_lines` is safe and ends. The loop's invariant: the text so far is within the buffer, whose length stays. Assumes nothing.
+-- `listing::edge_lines` is safe and ends. The loop's invariant: the text so far is within the buffer, whose length stays. Assumes nothing.
 use Prim.Native.Nat.{_≤_, _-_}
 use mathlib.Core.Path.{_≡_}
 use lib.ListN.{length}
 use borrow.Author.Needs.{needs}
-use Rattle.show.proofs.listing.bridge_lines.Statement.{statement}
-use Rattle.show.proofs.listing.bridge_lines.Tie as tie
+use Rattle.listing.proofs.edge_lines.Statement.{statement}
+use Rattle.listing.proofs.edge_lines.Tie as tie
 
 abbrev Inv-loop : tie.InvT-loop
-Inv-loop out₀ count bridges used output₀ i₀ out output i = (i ≤ used) × (output .at ≤ length out) × (length out ≡ length out₀)
+Inv-loop out₀ t used output₀ i₀ out output i = (i ≤ used) × (output .at ≤ length out) × (length out ≡ length out₀)
 
 abbrev μ-loop : tie.MeasureT-loop
-μ-loop out₀ count bridges used output₀ i₀ out output i = used - i
+μ-loop out₀ t used output₀ i₀ out output i = used - i
 
 at-most-requires : tie.Need-at-most-requires Inv-loop μ-loop
 at-most-requires c κs = search needs
@@ -21,14 +21,14 @@ loop-holds c = search needs
 room-requires : tie.Need-room-requires Inv-loop μ-loop
 room-requires c κs = search needs
 
-mul-bridge-line : tie.Need-mul-bridge-line Inv-loop μ-loop
-mul-bridge-line c = search needs
+mul-edge-line : tie.Need-mul-edge-line Inv-loop μ-loop
+mul-edge-line c = search needs
 
-array-copy-out-bridge-line : tie.Need-array-copy-out-bridge-line Inv-loop μ-loop
-array-copy-out-bridge-line c = search needs
+element-copy-out-edge-line : tie.Need-element-copy-out-edge-line Inv-loop μ-loop
+element-copy-out-edge-line c = search needs
 
-bridge-line-requires : tie.Need-bridge-line-requires Inv-loop μ-loop
-bridge-line-requires c κs = search needs
+edge-line-requires : tie.Need-edge-line-requires Inv-loop μ-loop
+edge-line-requires c κs = search needs
 
 up-to-requires : tie.Need-up-to-requires Inv-loop μ-loop
 up-to-requires c κs = search needs
@@ -48,8 +48,8 @@ same-length c = search needs
 returns : tie.Need-returns Inv-loop μ-loop
 returns c = search needs
 
-pub bridge-lines-spec : {M : Type 1} → statement M
-bridge-lines-spec =
+pub edge-lines-spec : {M : Type 1} → statement M
+edge-lines-spec =
     tie.close
     (tie.spec
     Inv-loop
@@ -57,9 +57,9 @@ bridge-lines-spec =
     at-most-requires
     loop-holds
     room-requires
-    mul-bridge-line
-    array-copy-out-bridge-line
-    bridge-line-requires
+    mul-edge-line
+    element-copy-out-edge-line
+    edge-line-requires
     up-to-requires
     add-i
     loop-less

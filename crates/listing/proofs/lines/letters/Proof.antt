@@ -1,10 +1,10 @@
--- `show::lines::letters` is safe and ends. The loop's invariant: a letter for each input passed. Assumes nothing.
+-- `listing::lines::letters` is safe and ends. The loop's invariant: a letter for each input passed. Assumes nothing.
 use Prim.Native.Nat.{_≤_, _-_}
 use mathlib.Core.Path.{_≡_}
 use lib.ListN.{length}
 use borrow.Author.Needs.{needs}
-use Rattle.show.proofs.lines.letters.Statement.{statement}
-use Rattle.show.proofs.lines.letters.Tie as tie
+use Rattle.listing.proofs.lines.letters.Statement.{statement}
+use Rattle.listing.proofs.lines.letters.Tie as tie
 
 abbrev Inv-loop : tie.InvT-loop
 Inv-loop out₀ at v inputs used i₀ out i = (i ≤ used) × (length out ≡ length out₀)

@@ -1,4 +1,7 @@
-// The lines of a circuit, in file order, each put where there is room for a whole line.
+// The text that `show` gives of a file: the lines of its circuit in file order, or of its refusal, each put where there is room for a whole line.
+mod least;
+mod lines;
+
 ghost use Prim.Native.Nat.{_≤_};
 ghost use lib.ListN.{length};
 use crate::least::at_most;

@@ -1,10 +1,10 @@
--- `show::listing::type_lines` is safe and ends. The loop's invariant: the text so far is within the buffer, whose length stays. Assumes nothing.
+-- `listing::type_lines` is safe and ends. The loop's invariant: the text so far is within the buffer, whose length stays. Assumes nothing.
 use Prim.Native.Nat.{_≤_, _-_}
 use mathlib.Core.Path.{_≡_}
 use lib.ListN.{length}
 use borrow.Author.Needs.{needs}
-use Rattle.show.proofs.listing.type_lines.Statement.{statement}
-use Rattle.show.proofs.listing.type_lines.Tie as tie
+use Rattle.listing.proofs.type_lines.Statement.{statement}
+use Rattle.listing.proofs.type_lines.Tie as tie
 
 abbrev Inv-loop : tie.InvT-loop
 Inv-loop out₀ count types used output₀ i₀ out output i = (i ≤ used) × (output .at ≤ length out) × (length out ≡ length out₀)

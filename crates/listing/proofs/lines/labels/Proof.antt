@@ -1,10 +1,10 @@
--- `show::lines::labels` is safe and ends. The loop's invariant: the labels passed take 21 bytes each at most. Assumes nothing.
+-- `listing::lines::labels` is safe and ends. The loop's invariant: the labels passed take 21 bytes each at most. Assumes nothing.
 use Prim.Native.Nat.{_≤_, _-_, _+_, _*_}
 use mathlib.Core.Path.{_≡_}
 use lib.ListN.{length}
 use borrow.Author.Needs.{needs}
-use Rattle.show.proofs.lines.labels.Statement.{statement}
-use Rattle.show.proofs.lines.labels.Tie as tie
+use Rattle.listing.proofs.lines.labels.Statement.{statement}
+use Rattle.listing.proofs.lines.labels.Tie as tie
 
 abbrev Inv-loop : tie.InvT-loop
 Inv-loop out₀ at e used end₀ i₀ out end i = (i ≤ used) × (end ≤ at + 21 * i) × (length out ≡ length out₀)

@@ -1,26 +1,21 @@
 -- 01, "The report": the output for the inverter, line by line and byte for byte, and two refusals. Each line is computed.
 use mathlib.Core.Path.{_≡_, refl}
-use mathlib.Core.List.{List, [], _∷_}
+use mathlib.Core.List.{[], _∷_}
 use Prim.Native.Nat.{ℕ}
-use Prim.Native.Char.{code}
-use Prim.Native.String.{String, [] as []ˢ, _∷_ as _∷ˢ_}
+use Prim.Native.String.{String}
 use Rattle.words.specs.Bits.{bit, sumTo, firstTo}
 use Rattle.words.specs.Rows.{markAt, marksOf, firstMarkOf}
 use Rattle.words.specs.Tables.{table}
+use Rattle.text.specs.Ascii.{bytesOf}
 use Rattle.text.specs.Decimal.{digitsOf, lengthIn, decimal}
 use Rattle.report.specs.Lines.{firstLine, kindLetter, digitsOfMarks, rowLine, refusalLine}
-
--- the bytes of a text in ASCII
-bytesOf : String → List ℕ
-bytesOf []ˢ = []
-bytesOf (a ∷ˢ text) = code a ∷ bytesOf text
 
 -- three vectors' marks stand in the row's first word, the first vector's in bit 0
 rowSays : ℕ → ℕ → ℕ → ℕ → ℕ → ℕ → String → Type 0
 rowSays instance kind first second class marks text = rowLine instance kind first second class 3 (marks ∷ 0 ∷ 0 ∷ 0 ∷ []) ≡ bytesOf text
 
 inverter-first : firstLine 3 6 6 6 ≡ bytesOf "vectors 3 faults 6 classes 6 found 6\n"
-unfolding bytesOf firstLine decimal digitsOf lengthIn
+unfolding firstLine decimal digitsOf lengthIn
 inverter-first = refl
 
 inverter-rows :
@@ -30,9 +25,9 @@ inverter-rows :
     × rowSays 1 1 0 0 4 0b010 "1 i 0 0 4 010 1 2\n"
     × rowSays 1 1 1 0 5 0b001 "1 i 1 0 5 100 1 1\n"
     × rowSays 1 1 2 0 6 0b011 "1 i 2 0 6 110 2 1\n"
-unfolding rowSays bytesOf rowLine decimal digitsOf lengthIn kindLetter digitsOfMarks table markAt marksOf firstMarkOf bit sumTo firstTo
+unfolding rowSays rowLine decimal digitsOf lengthIn kindLetter digitsOfMarks table markAt marksOf firstMarkOf bit sumTo firstTo
 inverter-rows = (refl, refl, refl, refl, refl, refl)
 
 refusals : (refusalLine 14 0 ≡ bytesOf "refused 14 at 0\n") × (refusalLine 15 8192 ≡ bytesOf "refused 15 at 8192\n")
-unfolding bytesOf refusalLine decimal digitsOf lengthIn
+unfolding refusalLine decimal digitsOf lengthIn
 refusals = (refl, refl)

@@ -1,0 +1,3 @@
+-- The proofs of the program `grade`.
+pub mod Lent
+pub mod GivenCircuits

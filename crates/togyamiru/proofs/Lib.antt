@@ -1,0 +1,2 @@
+-- The proofs of the entry for C and Rust.
+pub mod Numbers

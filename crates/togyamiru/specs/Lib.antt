@@ -1,0 +1,2 @@
+-- What the entry for C and Rust promises.
+pub mod Entry

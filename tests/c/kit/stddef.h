@@ -1,0 +1,2 @@
+/* The kit's clang brings no headers; this is the type of stddef.h that include/togyamiru.h names. */
+typedef __SIZE_TYPE__ size_t;

@@ -1,0 +1,4 @@
+/* The kit's clang brings no headers; these are the types of stdint.h that include/togyamiru.h names. */
+typedef __UINT8_TYPE__ uint8_t;
+typedef __UINT16_TYPE__ uint16_t;
+typedef __UINT64_TYPE__ uint64_t;

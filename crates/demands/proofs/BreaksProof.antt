@@ -1,0 +1,233 @@
+-- Each wrong grader breaks the demand that specs/Breaks names, on a small file. Cells, classes and counts are computed; a cell is a path by `cell-decides`.
+use Prim.Native.Nat.{ℕ, zero, suc, _≤_, _<_}
+use mathlib.Core.Path.{_≡_, refl, sym, ap, subst, _∙_}
+use mathlib.Core.Bool.{Bool, true, false, not}
+use mathlib.Core.Logic.{_↔_, inr}
+use mathlib.Core.List.{List, [], _∷_}
+use native.Mathlib.Omega.{arith}
+use native.Mathlib.Decide.{ℕ-discrete}
+use native.Mathlib.Nat.{add-zero}
+use lib.Dec.{T, leb, ltb, leb→le}
+use lib.ListN.{length}
+use Rattle.words.specs.Bits.{ofBool, sumTo}
+use Rattle.switch.specs.Bridges.{nodes}
+use Rattle.circuit.specs.Circuit.{Circuit}
+use Rattle.circuit.specs.Records.{emptyCircuit}
+use Rattle.circuit.specs.Reading.{Reading, accepted, refusal, readingOf}
+use Rattle.grading.specs.Rows.{rowsOf, cell}
+use Rattle.grading.specs.Promise.{countsOf}
+use Rattle.grading.proofs.RowLaws.{noRow}
+use Rattle.demands.specs.Calls.{Call, isGraded, cellAt, classAt}
+use Rattle.demands.specs.One.{bufferTests, testsFrom, tableOf, passed}
+use Rattle.demands.specs.Two.{vectorOf, rowAt, EqualBridges, OneClass, Found}
+use Rattle.demands.specs.Files.{inverter, inverterUnder, inverterListed, nandListed, nandOfOne, oneListed, nand3Fields, split}
+use Rattle.demands.specs.Graders.{Grader, called}
+use Rattle.demands.specs.Wrong.{marksAll, marksNever, leavesMatrix, firstWordOnly, inventsFound, sweepsOnce, onePlane, marksFloating, countsRows, spills, goesOn}
+use Rattle.demands.specs.Wrong.{watchesOutputs, holdsLevels, countsTwice, countsLabels, readsXAsZero}
+use Rattle.demands.specs.Breaks.{MeetsCells, MeetsClasses, BreakDemandOne, BreakDemandTwo}
+use Rattle.demands.proofs.Cells.{cell-decides}
+use Rattle.demands.proofs.Computing.{room, entries}
+use Rattle.demands.proofs.WrongProof.{wrong-computing, many, listedTwice, Differ, apart}
+
+-- ---- demand 1: graded exactly when no test of the table applies
+
+pub break-demand-one : BreakDemandOne
+unfolding wrong-computing isGraded bufferTests testsFrom tableOf passed
+break-demand-one = record {
+  refuses-every = λ meets. meets inverter room entries .graded-when-none-applies .1 tt;
+  skips-nine = λ meets. meets split room entries .graded-when-none-applies .0 tt;
+  skips-fourteen = λ meets. meets (inverterUnder []) room entries .graded-when-none-applies .0 tt;
+}
+
+-- ---- demand 2: the call of a grader for a file, and the circuit that the file tells
+
+abbrev callFor : Grader → List ℕ → Call
+callFor grader file = called grader file room entries
+
+unfoldable toldBy : Reading → Circuit
+toldBy (accepted c) = c
+toldBy (refusal number place) = emptyCircuit
+
+abbrev circuitOf : List ℕ → Circuit
+circuitOf file = toldBy (readingOf file)
+
+-- the file is accepted and the grader grades it
+abbrev Grades : Grader → List ℕ → Type 0
+Grades grader file = (readingOf file ≡ accepted (circuitOf file)) × T (isGraded (callFor grader file .answer))
+
+-- the grader's cell is the opposite of what it should be
+abbrev CellWrong : Grader → List ℕ → ℕ → ℕ → Type 0
+CellWrong grader file r v =
+    Grades grader file × T (ltb r (length (rowsOf (circuitOf file)))) × T (ltb v (length (circuitOf file .vectors)))
+    × (cellAt (callFor grader file .matrix-after) r v ≡ ofBool (not (cell (circuitOf file) (vectorOf (circuitOf file) v) (rowAt (circuitOf file) noRow r))))
+
+opposite : (n : ℕ) (b : Bool) → n ≡ ofBool (not b) → (n ≡ 1) ↔ T b → ⊥
+opposite n true e iff = let one = iff .1 tt in omega arith
+opposite n false e iff = iff .0 e
+
+by-cell : (grader : Grader) (file : List ℕ) (r v : ℕ) → CellWrong grader file r v → MeetsCells grader → ⊥
+by-cell grader file r v (grades, is-row, is-vector, differs) meets =
+    let c = circuitOf file in
+    let tells = meets file room entries c (grades .0) (grades .1) .marked noRow r v (leb→le _ _ is-row) (leb→le _ _ is-vector) in
+    let decides = cell-decides c (vectorOf c v) (rowAt c noRow r) in
+    opposite _ (cell c (vectorOf c v) (rowAt c noRow r)) differs (λ e. decides .0 (tells .0 e), λ t. tells .1 (decides .1 t))
+
+-- a mark past the last vector
+abbrev MarkPast : Grader → List ℕ → ℕ → ℕ → Type 0
+MarkPast grader file r v =
+    Grades grader file × T (ltb r (length (rowsOf (circuitOf file)))) × T (leb (length (circuitOf file .vectors)) v) × T (ltb v 256)
+    × (cellAt (callFor grader file .matrix-after) r v ≡ 1)
+
+by-past : (grader : Grader) (file : List ℕ) (r v : ℕ) → MarkPast grader file r v → MeetsCells grader → ⊥
+by-past grader file r v (grades, is-row, past, inside, mark) meets =
+    let tells = meets file room entries (circuitOf file) (grades .0) (grades .1) in
+    let none = tells .past-the-last-vector r v (leb→le _ _ is-row) (leb→le _ _ past) (leb→le _ _ inside) in
+    omega arith
+
+-- two rows that are one class have two numbers
+abbrev ClassWrong : Grader → List ℕ → ℕ → ℕ → Type 0
+ClassWrong grader file r s =
+    Grades grader file × T (ltb r (length (rowsOf (circuitOf file)))) × T (ltb s (length (rowsOf (circuitOf file))))
+    × OneClass (rowAt (circuitOf file) noRow r) (rowAt (circuitOf file) noRow s)
+    × Differ (classAt (callFor grader file .classes-after) r) (classAt (callFor grader file .classes-after) s)
+
+by-class : (grader : Grader) (file : List ℕ) (r s : ℕ) → ClassWrong grader file r s → MeetsClasses grader → ⊥
+by-class grader file r s (grades, is-row, is-row-too, one, differ) meets =
+    apart _ _ differ (meets file room entries (circuitOf file) (grades .0) (grades .1) .same noRow r s (leb→le _ _ is-row) (leb→le _ _ is-row-too) .1 one)
+
+-- ---- found counts, on one short whose rows, all of class 1, are marked or not
+
+-- under one vector, each row is of class 1, and is marked or not as `found` says; the found count is not that
+abbrev EachRow : Grader → List ℕ → Bool → Type 0
+EachRow grader file found =
+    (r : ℕ) → r < length (rowsOf (circuitOf file))
+    → (classAt (callFor grader file .classes-after) r ≡ 1) × (cellAt (callFor grader file .matrix-after) r 0 ≡ ofBool found)
+
+record FoundWrong (grader : Grader) (file : List ℕ) (found : Bool) : Type 0 where
+  grades : Grades grader file
+  rows : EachRow grader file found
+  some : 1 ≤ length (rowsOf (circuitOf file))
+  one-vector : length (circuitOf file .vectors) ≡ 1
+  one-class : countsOf (callFor grader file .answer) .classes ≡ 1
+  differs : Differ (countsOf (callFor grader file .answer) .found) (ofBool found)
+
+module _ (grader : Grader) (file : List ℕ) (found : Bool) (w : FoundWrong grader file found) where
+  abbrev HereFound : Type 0
+  HereFound = Found (callFor grader file) (circuitOf file) 1
+
+  -- class 1 is found where its first row is marked
+  is-found : ofBool found ≡ 1 → HereFound
+  is-found e = record {
+    row = 0;
+    is-row = w .some;
+    of-class = w .rows 0 (w .some) .0;
+    vector = 0;
+    is-vector = omega (arith, w .one-vector);
+    mark = w .rows 0 (w .some) .1 ∙ e;
+  }
+
+  -- and only there
+  found-is : HereFound → ofBool found ≡ 1
+  found-is f =
+      let first : f .vector ≡ 0 = omega (arith, f .is-vector, w .one-vector) in
+      sym (w .rows (f .row) (f .is-row) .1) ∙ subst (λ (v : ℕ). cellAt (callFor grader file .matrix-after) (f .row) v ≡ 1) first (f .mark)
+
+  -- so what counts class 1 is what it should be
+  counted : (n : ℕ) → n ≤ 1 → (n ≡ 1) ↔ HereFound → n ≡ ofBool found
+  counted n few iff = go (ℕ-discrete n 1)
+    where
+      go : Dec (n ≡ 1) → n ≡ ofBool found
+      go (yes e) = e ∙ sym (found-is (iff .0 e))
+      go (no e) = none found refl
+        where
+          none : (b : Bool) → found ≡ b → n ≡ ofBool b
+          none true q = absurd (e (iff .1 (is-found (ap ofBool q))))
+          none false q = omega arith
+
+  by-found : MeetsClasses grader → ⊥
+  unfolding sumTo
+  by-found meets =
+      let tells = meets file room entries (circuitOf file) (w .grades .0) (w .grades .1) .found in
+      let f : ℕ → ℕ = tells .0 in
+      apart _ _ (w .differs)
+      (tells .3 ∙ ap (λ (n : ℕ). sumTo n f) (w .one-class) ∙ add-zero (f 0) ∙ counted (f 0) (tells .1 0) (tells .2 0))
+
+-- ---- what is computed
+
+record Cells : Type 0 where
+  marks-all : CellWrong marksAll inverter 1 1
+  marks-never : CellWrong marksNever inverter 0 0
+  leaves-matrix : CellWrong leavesMatrix inverter 0 0
+  first-word-only : CellWrong firstWordOnly many 0 64
+  sweeps-once : CellWrong sweepsOnce (oneListed 3 nand3Fields (nodes 1 2 ∷ []) ("111" ∷ [])) 0 0
+  one-plane : CellWrong onePlane inverter 4 2
+  marks-floating : CellWrong marksFloating (nandListed (nodes 2 3 ∷ []) ("00" ∷ [])) 0 0
+  spills-63 : CellWrong spills many 0 63
+  goes-on : MarkPast goesOn inverter 0 3
+  watches-outputs : CellWrong watchesOutputs (nandListed (nodes 1 3 ∷ []) ("01" ∷ [])) 0 0
+  holds-levels : CellWrong holdsLevels (nandListed (nodes 2 3 ∷ []) ("01" ∷ "00" ∷ [])) 0 1
+  reads-x-as-zero : CellWrong readsXAsZero inverter 1 2
+  counts-twice : ClassWrong countsTwice listedTwice 0 1
+  counts-labels : ClassWrong countsLabels (nandOfOne ("0" ∷ [])) 6 7
+
+cells : Cells
+unfolding wrong-computing toldBy isGraded cellAt classAt EqualBridges OneClass
+cells = record {
+  marks-all = ((refl, tt), tt, tt, refl);
+  marks-never = ((refl, tt), tt, tt, refl);
+  leaves-matrix = ((refl, tt), tt, tt, refl);
+  first-word-only = ((refl, tt), tt, tt, refl);
+  sweeps-once = ((refl, tt), tt, tt, refl);
+  one-plane = ((refl, tt), tt, tt, refl);
+  marks-floating = ((refl, tt), tt, tt, refl);
+  spills-63 = ((refl, tt), tt, tt, refl);
+  goes-on = ((refl, tt), tt, tt, tt, refl);
+  watches-outputs = ((refl, tt), tt, tt, refl);
+  holds-levels = ((refl, tt), tt, tt, refl);
+  reads-x-as-zero = ((refl, tt), tt, tt, refl);
+  counts-twice = ((refl, tt), tt, tt, (refl, inr (refl, refl)), refl);
+  counts-labels = ((refl, tt), tt, tt, (refl, (refl, λ none. refl)), refl);
+}
+
+-- one row that X does not mark
+abbrev unmarked : List ℕ
+unmarked = inverterListed (nodes 0 2 ∷ []) ("X" ∷ [])
+
+row-unmarked : EachRow inventsFound unmarked false
+unfolding wrong-computing toldBy cellAt classAt
+row-unmarked zero h = (refl, refl)
+row-unmarked (suc r) h = absurd (omega arith)
+
+rows-twice : EachRow countsRows listedTwice true
+unfolding wrong-computing toldBy cellAt classAt
+rows-twice zero h = (refl, refl)
+rows-twice (suc zero) h = (refl, refl)
+rows-twice (suc (suc r)) h = absurd (omega arith)
+
+found-invented : FoundWrong inventsFound unmarked false
+unfolding wrong-computing toldBy isGraded cellAt classAt
+found-invented = record { grades = (refl, tt); rows = row-unmarked; some = omega arith; one-vector = refl; one-class = refl; differs = refl }
+
+found-rows : FoundWrong countsRows listedTwice true
+unfolding wrong-computing toldBy isGraded cellAt classAt
+found-rows = record { grades = (refl, tt); rows = rows-twice; some = omega arith; one-vector = refl; one-class = refl; differs = refl }
+
+pub break-demand-two : BreakDemandTwo
+break-demand-two = record {
+  marks-all = by-cell _ _ _ _ (cells .marks-all);
+  marks-never = by-cell _ _ _ _ (cells .marks-never);
+  leaves-matrix = by-cell _ _ _ _ (cells .leaves-matrix);
+  first-word-only = by-cell _ _ _ _ (cells .first-word-only);
+  sweeps-once = by-cell _ _ _ _ (cells .sweeps-once);
+  one-plane = by-cell _ _ _ _ (cells .one-plane);
+  marks-floating = by-cell _ _ _ _ (cells .marks-floating);
+  spills = by-cell _ _ _ _ (cells .spills-63);
+  goes-on = by-past _ _ _ _ (cells .goes-on);
+  watches-outputs = by-cell _ _ _ _ (cells .watches-outputs);
+  holds-levels = by-cell _ _ _ _ (cells .holds-levels);
+  reads-x-as-zero = by-cell _ _ _ _ (cells .reads-x-as-zero);
+  invents-found = by-found _ _ _ found-invented;
+  counts-rows = by-found _ _ _ found-rows;
+  counts-twice = by-class _ _ _ _ (cells .counts-twice);
+  counts-labels = by-class _ _ _ _ (cells .counts-labels);
+}

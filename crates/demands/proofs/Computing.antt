@@ -1,0 +1,54 @@
+-- What a file's grading computes with. A proof that says `unfolding computing` may compute readings, matrices, classes and counts of concrete files; with
+-- `grader-computing` also what a grader answers. Assumes nothing.
+use Prim.Native.Nat.{ℕ}
+use mathlib.Core.List.{List}
+use lib.ListN.{replicate}
+use Rattle.words.specs.Bits.{bit, pack, word, sumTo}
+use Rattle.words.specs.Tables.{table, upTo}
+use Rattle.words.specs.Rows.{rowOf}
+use Rattle.switch.specs.Conduction.{between, pEnds, nEnd, nEnds, badEnds, channelOf, transistorOn, anyOf, edgeOn, links}
+use Rattle.switch.specs.Modules.{allOf, typeInRange, edgeInRange, linksOf, known, settingOf}
+use Rattle.switch.specs.Bridges.{toLabel, closing}
+use Rattle.switch.specs.Deciding as deciding
+use Rattle.switch.specs.Deciding.{rename, partIn, renamings, joins, allBelow, oneRail, isComplementary, isMarked}
+use Rattle.circuit.specs.Fields.{twoBytes, cutIn, cutFrom}
+use Rattle.circuit.specs.Circuit.{numbered, joinLists, nodePairs, nodeInputs, exhaustiveList, exhaustiveSize, userList, chosen, chosenSize, faultsOf, faultCount}
+use Rattle.circuit.specs.Numbers.{signed, choiceOf, choiceInRange, referenceOf, referenceGood}
+use Rattle.circuit.specs.Known.{tagOf, typeIn, edgeIn, bridgeOf, listedIn, referencesIn, instanceIn, letterOf, vectorIn, latest, withEdge, edgeAdded, taken, typeAtAfter, knownAfter}
+use Rattle.circuit.specs.Table.{firstOf, misplaced, isEdge, unjudged, notComplementary, bridgeInRange, bridgeSuits, isEmpty, listUnsuited, listEmpty, isLetter, inputsTests, typeTests, edgeTestsOf, edgeTests, bridgeTests, instanceTests, vectorTests, bodyTests, isUnknown, fieldTests, endTests}
+use Rattle.circuit.specs.Reading.{unless, readFrom, readingOf}
+use Rattle.grading.specs.Values.{valueAt, labelValues, outputsAfter, outputsOf}
+use Rattle.grading.specs.Rows.{rowsOfInstance, rowsFrom, rowsOf, rowValues, cell, markOf, rowWords, matrixOf}
+use Rattle.grading.specs.Classes.{sameReference, sameLabel, sameBridge, sameClass, classAmong, largest, classesAfter, classesOf, hasMark, classFound, foundAmong, classCount, foundCount}
+use Rattle.grading.specs.Grading.{countsOf, gradingOfCircuit, afterReading, gradingOf, countsIn, numberIn, placeIn, over, matrixAfter, classesAfterGrading}
+use Rattle.grading.specs.Promise as promise
+use Rattle.circuit.specs.Answers as reading
+use Rattle.demands.specs.Graders.{refusalOf, refusing, outcomeOf, gradesBy, classAmongBy, classesAfterBy, classesBy, hasMarkBy, classFoundBy, foundBy, workBy, marksBy, rightWork, rightly}
+
+-- to unfold a definition is to unfold what its line names
+unfoldable pub computing : Unit {0}
+unfolding bit pack word sumTo table upTo rowOf
+    between pEnds nEnd nEnds badEnds channelOf transistorOn anyOf edgeOn links allOf typeInRange edgeInRange linksOf known settingOf
+    toLabel closing rename partIn renamings joins allBelow oneRail isComplementary deciding.outputOf isMarked
+    twoBytes cutIn cutFrom numbered joinLists nodePairs nodeInputs exhaustiveList exhaustiveSize userList chosen chosenSize faultsOf faultCount
+    signed choiceOf choiceInRange referenceOf referenceGood
+    tagOf typeIn edgeIn bridgeOf listedIn referencesIn instanceIn letterOf vectorIn latest withEdge edgeAdded taken typeAtAfter knownAfter
+    firstOf misplaced isEdge unjudged notComplementary bridgeInRange bridgeSuits isEmpty listUnsuited listEmpty isLetter
+    inputsTests typeTests edgeTestsOf edgeTests bridgeTests instanceTests vectorTests bodyTests isUnknown fieldTests endTests
+    unless readFrom readingOf valueAt labelValues outputsAfter outputsOf rowsOfInstance rowsFrom rowsOf rowValues cell markOf rowWords matrixOf
+    sameReference sameLabel sameBridge sameClass classAmong largest classesAfter classesOf hasMark classFound foundAmong classCount foundCount
+    countsOf gradingOfCircuit afterReading gradingOf countsIn numberIn placeIn over matrixAfter classesAfterGrading
+computing = tt
+
+-- and what a grader of specs/Graders does
+unfoldable pub grader-computing : Unit {0}
+unfolding computing reading.numberOf promise.numberOf promise.countsOf
+    refusalOf refusing outcomeOf gradesBy classAmongBy classesAfterBy classesBy hasMarkBy classFoundBy foundBy workBy marksBy rightWork rightly
+grader-computing = tt
+
+-- buffers that hold zeros, enough for 16 rows
+abbrev pub room : List ℕ
+room = replicate 64 0
+
+abbrev pub entries : List ℕ
+entries = replicate 16 0

@@ -1,0 +1,85 @@
+-- What a call that graded its file gave: its circuit is a good one, both buffers are long enough, and the counts and both buffers are the circuit's.
+use Prim.Native.Nat.{ℕ, _*_, _≤_, _<_}
+use mathlib.Core.Path.{_≡_, refl, ap, subst, _∙_}
+use mathlib.Core.Bool.{Bool, true, false, cond}
+use mathlib.Core.List.{List}
+use native.Mathlib.Omega.{arith}
+use borrow.Author.Tests.{ltb-false}
+use lib.Dec.{T, ltb}
+use lib.ListN.{length, getD, drop}
+use Rattle.circuit.specs.Circuit.{Circuit}
+use Rattle.circuit.specs.Reading.{Reading}
+use Rattle.circuit.specs.Laws.{CircuitGood}
+use Rattle.circuit.proofs.CircuitLaws.{accepted-is-good}
+use Rattle.grading.specs.Rows.{rowsOf, matrixOf}
+use Rattle.grading.specs.Classes.{classesOf, classCount, foundCount}
+use Rattle.grading.specs.Grading.{Grading, graded, refused, gradingOf, gradingOfCircuit, afterReading, over, countsIn, numberIn, matrixAfter, classesAfterGrading}
+use Rattle.grading.specs.Grading as grading
+use Rattle.grading.specs.Promise.{numberOf, countsOf, Meets}
+use Rattle.grading.specs.declared.Answer.{Answer}
+use Rattle.grading.specs.declared.Answer.the-variants.{Graded, Refused, ShortMatrix, ShortClasses}
+use Rattle.classes.proofs.FoundMeaning.{numbers-are}
+use Rattle.demands.specs.Calls.{Call, GradedAs, isGraded, classAt}
+
+pub record Gave (call : Call) (c : Circuit) : Type 0 where
+  pub good : CircuitGood c
+  pub words : 4 * length (rowsOf c) ≤ length (call .matrix)
+  pub entries : length (rowsOf c) ≤ length (call .classes)
+  pub counts-are : countsOf (call .answer) ≡ grading.countsOf c
+  pub matrix-is : call .matrix-after ≡ over (matrixOf c) (call .matrix)
+  pub classes-are : call .classes-after ≡ over (classesOf (rowsOf c)) (call .classes)
+
+no-number : (answer : Answer) → T (isGraded answer) → numberOf answer ≡ 0
+unfolding isGraded numberOf
+no-number (Graded counts) t = refl
+no-number (Refused refusal) t = absurd t
+no-number (ShortMatrix words) t = absurd t
+no-number (ShortClasses faults) t = absurd t
+
+pub gave : (call : Call) (c : Circuit) → GradedAs call c → Gave call c
+unfolding gradingOf afterReading gradingOfCircuit numberIn countsIn matrixAfter classesAfterGrading
+gave call c given =
+    go (ltb words (4 * faults)) (ltb entries faults) refl refl
+    (subst (λ (read : Reading). Kept (afterReading read words entries)) (given .accepts) (given .kept))
+  where
+    words : ℕ
+    words = length (call .matrix)
+
+    entries : ℕ
+    entries = length (call .classes)
+
+    faults : ℕ
+    faults = length (rowsOf c)
+
+    Kept : Grading → Type 0
+    Kept g = Meets g (call .answer) (call .matrix) (call .classes) (call .matrix-after) (call .classes-after)
+
+    go : (a b : Bool) → ltb words (4 * faults) ≡ a → ltb entries faults ≡ b
+        → Kept (cond a (refused 15 (4 * faults)) (cond b (refused 22 faults) (graded c))) → Gave call c
+    go true b p q kept = absurd (omega (arith, kept .number, no-number (call .answer) (given .graded)))
+    go false true p q kept = absurd (omega (arith, kept .number, no-number (call .answer) (given .graded)))
+    go false false p q kept = record {
+      good = accepted-is-good (call .file) c (given .accepts);
+      words = ltb-false words (4 * faults) p;
+      entries = ltb-false entries faults q;
+      counts-are = kept .counts;
+      matrix-is = kept .matrix-at-exit;
+      classes-are = kept .classes-at-exit;
+    }
+
+-- ---- counts and class numbers
+
+module _ (call : Call) (c : Circuit) (given : GradedAs call c) where
+  pub classes-counted : countsOf (call .answer) .classes ≡ classCount c
+  unfolding grading.countsOf
+  classes-counted = ap (λ (counts : grading.Counts). counts .classes) (gave call c given .counts-are)
+
+  pub found-counted : countsOf (call .answer) .found ≡ foundCount c
+  unfolding grading.countsOf
+  found-counted = ap (λ (counts : grading.Counts). counts .found) (gave call c given .counts-are)
+
+  pub class-is : (r : ℕ) → r < length (rowsOf c) → classAt (call .classes-after) r ≡ getD (classesOf (rowsOf c)) r 0
+  unfolding classAt over
+  class-is r h =
+      ap (λ (classes : List ℕ). getD classes r 0) (gave call c given .classes-are)
+      ∙ numbers-are (rowsOf c) (drop (length (classesOf (rowsOf c))) (call .classes)) r h

@@ -1,0 +1,30 @@
+-- The proofs of the statements in specs/, and what they share: Gave, what a call that graded its file gave; Computing, what a proof by computation unfolds.
+--   demand 1      Verdicts, GradingVerdicts, OneProof, Outcomes, RightProof
+--   demand 2      SettledValues, Cells, Floating, Columns, RowFaults, OneClass, FoundClasses, ClassCounts, ClassesCarried, NamedAgain
+--   demand 3      Refining, NoConverseProof
+--   one outcome   StepsOnce, UniqueProof
+--   by computing  KnownProof, WrongProof, BreaksProof
+pub mod Gave
+pub mod Verdicts
+pub mod GradingVerdicts
+pub mod OneProof
+pub mod Outcomes
+pub mod SettledValues
+pub mod Cells
+pub mod Floating
+pub mod Columns
+pub mod RowFaults
+pub mod OneClass
+pub mod FoundClasses
+pub mod ClassCounts
+pub mod ClassesCarried
+pub mod NamedAgain
+pub mod Refining
+pub mod Computing
+pub mod RightProof
+pub mod KnownProof
+pub mod NoConverseProof
+pub mod WrongProof
+pub mod BreaksProof
+pub mod StepsOnce
+pub mod UniqueProof

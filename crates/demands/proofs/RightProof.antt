@@ -1,0 +1,154 @@
+-- `rightly` meets the promise of `grade`: each test of the table has an answer that tells its number and its place, and the work on a circuit is the definitions'.
+-- So every input is answered (demand 1). Assumes nothing.
+use Prim.Native.Nat.{ℕ, suc}
+use mathlib.Core.Path.{_≡_, refl, ap, subst, _∙_}
+use mathlib.Core.Bool.{Bool, true, false, cond, _&&_, _||_}
+use mathlib.Core.List.{List, [], _∷_, _++_}
+use lib.Dec.{eqb}
+use lib.ListN.{length}
+use Rattle.words.specs.Bits.{ofBool}
+use Rattle.words.proofs.Counting.{sum-cong}
+use Rattle.circuit.specs.Fields.{Field, Cut, clean, broken, field, cutFrom}
+use Rattle.circuit.specs.Circuit.{Circuit}
+use Rattle.circuit.specs.Known.{Known, start, knownAfter, Tag, inputs-tag, type-tag, edge-tag, bridge-tag, instance-tag, vector-tag, no-tag, tagOf}
+use Rattle.circuit.specs.Table.{Test, Verdict, passes, refused, firstOf, inputsTests, typeTests, edgeTests, edgeTestsOf, bridgeTests, instanceTests, vectorTests, bodyTests, fieldTests, endTests}
+use Rattle.circuit.specs.Answers as reading
+use Rattle.grading.specs.Rows.{Row, rowsOf, markOf, rowWords, matrixOf}
+use Rattle.grading.specs.Classes.{sameClass, classAmong, largest, classesAfter, classesOf, hasMark, classFound, foundAmong, classCount, foundCount}
+use Rattle.grading.specs.Grading.{noCounts, Grading, graded, gradingOf, countsIn, numberIn, placeIn, matrixAfter, classesAfterGrading}
+use Rattle.grading.specs.Grading.{refused as refusedGrading}
+use Rattle.grading.specs.Grading as grading
+use Rattle.grading.specs.Promise.{numberOf, placeOf, countsOf, Meets}
+use Rattle.demands.specs.One.{bufferTests, testsFrom, tableOf, EveryInputIsAnswered}
+use Rattle.demands.specs.Graders.{Outcome, called, refusalOf, refusing, outcomeOf, gradesBy, classAmongBy, classesAfterBy, classesBy, hasMarkBy, classFoundBy, foundBy, workBy, rightWork, rightly, RightlyIsRight}
+use Rattle.demands.proofs.GradingVerdicts.{verdictIn, table-tells}
+
+-- ---- each test of the table has an answer
+
+abbrev Told : ℕ → ℕ → Type 0
+Told number place =
+    (numberOf (refusing number place) ≡ number) × (placeOf (refusing number place) ≡ place) × (countsOf (refusing number place) ≡ noCounts)
+
+AllTold : List Test → Type 0
+AllTold [] = Unit {0}
+AllTold (t ∷ ts) = Told (t .number) (t .place) × AllTold ts
+
+told-append : (ts us : List Test) → AllTold ts → AllTold us → AllTold (ts ++ us)
+unfolding AllTold
+told-append [] us a b = b
+told-append (t ∷ ts) us a b = (a .0, told-append ts us (a .1) b)
+
+VerdictTold : Verdict → Type 0
+VerdictTold passes = Unit {0}
+VerdictTold (refused number place) = Told number place
+
+told-first : (ts : List Test) → AllTold ts → VerdictTold (firstOf ts)
+unfolding AllTold VerdictTold firstOf
+told-first [] a = tt
+told-first (t ∷ ts) a = go (t .refuses) (told-first ts (a .1))
+  where
+    go : (b : Bool) → VerdictTold (firstOf ts) → VerdictTold (cond b (refused (t .number) (t .place)) (firstOf ts))
+    go true later = a .0
+    go false later = later
+
+told-body : (tag : Tag) (c : Circuit) (at : ℕ) (body : List ℕ) → AllTold (bodyTests tag c at body)
+unfolding AllTold refusing refusalOf numberOf placeOf countsOf reading.numberOf reading.placeOf bodyTests inputsTests typeTests edgeTests edgeTestsOf bridgeTests instanceTests vectorTests
+told-body inputs-tag c at body = ((refl, refl, refl), ((refl, refl, refl), tt))
+told-body type-tag c at body = ((refl, refl, refl), ((refl, refl, refl), ((refl, refl, refl), tt)))
+told-body edge-tag c at body = ((refl, refl, refl), ((refl, refl, refl), ((refl, refl, refl), ((refl, refl, refl), tt))))
+told-body bridge-tag c at body = ((refl, refl, refl), ((refl, refl, refl), ((refl, refl, refl), tt)))
+told-body instance-tag c at body =
+    ((refl, refl, refl), ((refl, refl, refl), ((refl, refl, refl), ((refl, refl, refl), ((refl, refl, refl), ((refl, refl, refl), ((refl, refl, refl), tt)))))))
+told-body vector-tag c at body = ((refl, refl, refl), ((refl, refl, refl), ((refl, refl, refl), tt)))
+told-body no-tag c at body = tt
+
+told-field : (known : Known) (f : Field) → AllTold (fieldTests known f)
+unfolding AllTold refusing refusalOf numberOf placeOf countsOf reading.numberOf reading.placeOf fieldTests
+told-field known f =
+    ((refl, refl, refl), ((refl, refl, refl), ((refl, refl, refl), told-body (tagOf (f .tag)) (known .circuit) (f .at) (f .body))))
+
+told-end : (known : Known) (size : ℕ) → AllTold (endTests known size)
+unfolding AllTold refusing refusalOf numberOf placeOf countsOf reading.numberOf reading.placeOf endTests
+told-end known size = ((refl, refl, refl), ((refl, refl, refl), ((refl, refl, refl), ((refl, refl, refl), tt))))
+
+module _ (size words entries : ℕ) where
+  told-buffers : (c : Circuit) → AllTold (bufferTests c words entries)
+  unfolding AllTold refusing refusalOf numberOf placeOf countsOf reading.numberOf reading.placeOf bufferTests
+  told-buffers c = ((refl, refl, refl), ((refl, refl, refl), tt))
+
+  told-rest : (known : Known) (cut : Cut) → AllTold (testsFrom size words entries known cut)
+  unfolding AllTold refusing refusalOf numberOf placeOf countsOf reading.numberOf reading.placeOf testsFrom
+  told-rest known clean = told-append (endTests known size) (bufferTests (known .circuit) words entries) (told-end known size) (told-buffers (known .circuit))
+  told-rest known (broken at) = ((refl, refl, refl), tt)
+  told-rest known (field f rest) =
+      told-append (fieldTests known f) (testsFrom size words entries (knownAfter known f) rest) (told-field known f) (told-rest (knownAfter known f) rest)
+
+told-table : (file : List ℕ) (words entries : ℕ) → AllTold (tableOf file words entries)
+unfolding AllTold refusing refusalOf numberOf placeOf countsOf reading.numberOf reading.placeOf tableOf
+told-table file words entries = ((refl, refl, refl), told-rest (length file) words entries start (cutFrom file 0))
+
+told-grading : (file : List ℕ) (words entries : ℕ) → VerdictTold (verdictIn (gradingOf file words entries))
+told-grading file words entries =
+    subst VerdictTold (table-tells file words entries) (told-first (tableOf file words entries) (told-table file words entries))
+
+-- ---- the work on a circuit is the definitions'
+
+among-same : (row : Row) (new : ℕ) (before : List Row) (classes : List ℕ) → classAmongBy sameClass row new before classes ≡ classAmong row new before classes
+unfolding classAmongBy classAmong
+among-same row new [] classes = refl
+among-same row new (r ∷ rs) [] = refl
+among-same row new (r ∷ rs) (n ∷ ns) = ap (λ (later : ℕ). cond (sameClass r row) n later) (among-same row new rs ns)
+
+after-same : (before : List Row) (classes : List ℕ) (rows : List Row) → classesAfterBy sameClass before classes rows ≡ classesAfter before classes rows
+unfolding classesAfterBy classesAfter
+after-same before classes [] = refl
+after-same before classes (row ∷ rows) =
+    ap (λ (n : ℕ). classesAfterBy sameClass (before ++ (row ∷ [])) (classes ++ (n ∷ [])) rows) (among-same row (suc (largest classes)) before classes)
+    ∙ after-same (before ++ (row ∷ [])) (classes ++ (classAmong row (suc (largest classes)) before classes ∷ [])) rows
+
+classes-same : (rows : List Row) → classesBy sameClass rows ≡ classesOf rows
+unfolding classesBy classesOf
+classes-same rows = after-same [] [] rows
+
+found-one : (c : Circuit) (n : ℕ) (rows : List Row) (classes : List ℕ)
+    → classFoundBy (length (c .vectors)) (markOf c) n rows classes ≡ classFound c n rows classes
+unfolding classFoundBy classFound hasMarkBy hasMark
+found-one c n [] classes = refl
+found-one c n (r ∷ rs) [] = refl
+found-one c n (r ∷ rs) (m ∷ ms) = ap (λ (later : Bool). eqb m n && hasMark c r || later) (found-one c n rs ms)
+
+found-same : (c : Circuit) (rows : List Row) (classes : List ℕ) (count : ℕ)
+    → foundBy (length (c .vectors)) (markOf c) rows classes count ≡ foundAmong c rows classes count
+unfolding foundBy foundAmong
+found-same c rows classes count = sum-cong count _ _ (λ n h. ap ofBool (found-one c (suc n) rows classes))
+
+-- ---- so every file's outcome meets the promise
+
+outcome-meets : (g : Grading) → VerdictTold (verdictIn g) → (matrix classes : List ℕ)
+    → let out : Outcome = outcomeOf rightWork g matrix classes in Meets g (out .answer) matrix classes (out .matrix) (out .classes)
+unfolding outcomeOf rightWork workBy rowWords matrixOf classCount foundCount VerdictTold verdictIn
+    numberOf placeOf countsOf numberIn placeIn countsIn matrixAfter classesAfterGrading grading.countsOf
+outcome-meets (graded c) told matrix classes =
+    let same = classes-same (rowsOf c) in record {
+      number = refl;
+      place = refl;
+      counts = rw (same, found-same c (rowsOf c) (classesOf (rowsOf c)) (largest (classesOf (rowsOf c)))) refl;
+      matrix-at-exit = refl;
+      classes-at-exit = rw same refl;
+    }
+outcome-meets (refusedGrading number place) told matrix classes =
+    record { number = told .0; place = told .1; counts = told .2; matrix-at-exit = refl; classes-at-exit = refl }
+
+pub rightly-is-right : RightlyIsRight
+unfolding rightly gradesBy
+rightly-is-right file matrix classes =
+    outcome-meets (gradingOf file (length matrix) (length classes)) (told-grading file (length matrix) (length classes)) matrix classes
+
+pub every-input-is-answered : EveryInputIsAnswered
+every-input-is-answered file matrix classes = record {
+  call = called rightly file matrix classes;
+  of-file = refl;
+  of-matrix = refl;
+  of-classes = refl;
+  kept = rightly-is-right file matrix classes;
+}

@@ -1,0 +1,102 @@
+-- One step only stands at an offset. The cut of a file from an offset tells that offset; so where two fields have the same cut, they end at the same offset too.
+use Prim.Native.Nat.{ℕ, _+_, _≤_}
+use mathlib.Core.Path.{_≡_, refl, sym, ap, _∙_}
+use mathlib.Core.Bool.{Bool, true, false, cond}
+use mathlib.Core.List.{List}
+use native.Mathlib.Omega.{arith}
+use borrow.Author.Tests.{eqb-true}
+use lib.Dec.{eqb, ltb}
+use lib.ListN.{length}
+use Rattle.circuit.specs.Fields.{Field, Cut, clean, broken, field, cutFrom}
+use Rattle.circuit.specs.Stages.{fieldIn, FieldAt, StepIs, NextIs}
+use Rattle.circuit.specs.declared.fields.Field.{Field as FieldRecord}
+use Rattle.circuit.specs.declared.fields.Step.{Step}
+use Rattle.circuit.specs.declared.fields.Step.the-variants.{Whole, Broken, End}
+use Rattle.circuit.specs.declared.fields.Next.{Next}
+use Rattle.circuit.specs.declared.fields.Next.the-variants.{Found, Other}
+use Rattle.circuit.proofs.Bodies.{length-body}
+use Rattle.circuit.proofs.Cuts.{behind, standing, cut-step}
+use Rattle.demands.specs.Unique.{One}
+
+-- the offset that a cut begins at, in a file of a size
+startOf : ℕ → Cut → ℕ
+startOf size clean = size
+startOf size (broken at) = at
+startOf size (field f rest) = f .at
+
+module _ (file : List ℕ) where
+  start-is : (at : ℕ) → at ≤ length file → startOf (length file) (cutFrom file at) ≡ at
+  unfolding startOf
+  start-is at h =
+      ap (startOf (length file)) (cut-step file at h)
+      ∙ go (eqb at (length file)) (ltb (length file) (at + 3)) (ltb (length file) (behind file at)) refl
+    where
+      rest : Cut
+      rest = cutFrom file (behind file at)
+
+      go : (b c d : Bool) → eqb at (length file) ≡ b
+          → startOf (length file) (cond b clean (cond c (broken at) (cond d (broken at) (field (standing file at) rest)))) ≡ at
+      go true c d e = sym (eqb-true at (length file) e)
+      go false true d e = refl
+      go false false true e = refl
+      go false false false e = refl
+
+  module _ (at : ℕ) where
+    same-field : (f g : FieldRecord) → FieldAt file at f → FieldAt file at g → f ≡ g
+    unfolding fieldIn
+    same-field f g one other = λ i. record { at = place i; tag = tag i; body = body i; len = len i }
+      where
+        cuts : field (fieldIn file f) (cutFrom file (f .body + f .len)) ≡ field (fieldIn file g) (cutFrom file (g .body + g .len))
+        cuts = sym (one .cut) ∙ other .cut
+
+        fields : fieldIn file f ≡ fieldIn file g
+        fields = cc
+
+        rests : cutFrom file (f .body + f .len) ≡ cutFrom file (g .body + g .len)
+        rests = cc
+
+        place : f .at ≡ g .at
+        place = one .place ∙ sym (other .place)
+
+        tag : f .tag ≡ g .tag
+        tag = ap (λ (x : Field). x .tag) fields
+
+        len : f .len ≡ g .len
+        len =
+            sym (length-body file f (one .inside)) ∙ ap (λ (x : Field). length (x .body)) fields ∙ length-body file g (other .inside)
+
+        ends : f .body + f .len ≡ g .body + g .len
+        ends =
+            sym (start-is (f .body + f .len) (one .inside)) ∙ ap (startOf (length file)) rests ∙ start-is (g .body + g .len) (other .inside)
+
+        body : f .body ≡ g .body
+        body = omega (arith, len, ends)
+
+    -- a whole field, no whole field and the end exclude each other
+    not-broken : (f : FieldRecord) (p : ℕ) → FieldAt file at f → cutFrom file at ≡ broken p → ⊥
+    not-broken f p here e = let c = here .cut in let z : _≡_ {A = ℕ} 0 1 = cc in omega arith
+
+    not-clean : (f : FieldRecord) → FieldAt file at f → cutFrom file at ≡ clean → ⊥
+    not-clean f here e = let c = here .cut in let z : _≡_ {A = ℕ} 0 1 = cc in omega arith
+
+    not-both : (p : ℕ) → cutFrom file at ≡ broken p → cutFrom file at ≡ clean → ⊥
+    not-both p e e′ = let z : _≡_ {A = ℕ} 0 1 = cc in omega arith
+
+    pub step-once : One (λ (r : Step). StepIs file at r)
+    unfolding StepIs
+    step-once (Whole f) (Whole g) p q = ap Whole (same-field f g p q)
+    step-once (Whole f) Broken p q = absurd (not-broken f at p q)
+    step-once (Whole f) End p q = absurd (not-clean f p q)
+    step-once Broken (Whole g) p q = absurd (not-broken g at q p)
+    step-once Broken Broken p q = refl
+    step-once Broken End p q = absurd (not-both at p q)
+    step-once End (Whole g) p q = absurd (not-clean g q p)
+    step-once End Broken p q = absurd (not-both at q p)
+    step-once End End p q = refl
+
+    pub next-once : (tag : ℕ) → One (λ (r : Next). NextIs file at tag r)
+    unfolding NextIs fieldIn
+    next-once tag (Found f) (Found g) (p, t) (q, t′) = ap Found (same-field f g p q)
+    next-once tag (Found f) Other (p, t) q = absurd (q (fieldIn file f) (cutFrom file (f .body + f .len)) (p .cut) t)
+    next-once tag Other (Found g) p (q, t) = absurd (p (fieldIn file g) (cutFrom file (g .body + g .len)) (q .cut) t)
+    next-once tag Other Other p q = refl

@@ -1,0 +1,132 @@
+-- No two outcomes meet the promise of a public function: `unique`. Most promises are equations; the others are taken apart below.
+use Prim.Native.Nat.{ℕ}
+use mathlib.Core.Path.{_≡_, refl, sym, _∙_}
+use mathlib.Core.List.{List}
+use Rattle.switch.specs.declared.ModuleType.{ModuleType}
+use Rattle.circuit.specs.Answers.{verdictOf}
+use Rattle.circuit.specs.Circuit.{Circuit as CircuitMeant}
+use Rattle.circuit.specs.Reading.{readingOf}
+use Rattle.circuit.specs.Table.{Verdict}
+use Rattle.circuit.specs.declared.Reading.{Reading}
+use Rattle.circuit.specs.declared.Reference.{Reference}
+use Rattle.circuit.specs.declared.refusal.Refusal.{Refusal}
+use Rattle.circuit.proofs.AnswerLaws.{verdict-tells, answers-unique}
+use Rattle.grading.specs.Grading.{Grading, Counts as CountsMeant}
+use Rattle.grading.specs.Given.{Read}
+use Rattle.grading.specs.Promise.{countsMeant, Promise, PromiseOfRead}
+use Rattle.grading.specs.declared.Answer.{Answer}
+use Rattle.grading.specs.declared.Counts.{Counts}
+use Rattle.rows.specs.Model.{RowsAre}
+use Rattle.rows.specs.declared.Rows.{Rows}
+use Rattle.marks.specs.Model.{InstanceRead}
+use Rattle.marks.specs.declared.instances.InstanceWords.{InstanceWords}
+use Rattle.classes.specs.Model.{InstanceClassed}
+use Rattle.classes.specs.declared.Classed.{Classed}
+use Rattle.report.specs.Given.{Given}
+use Rattle.togyamiru.specs.Entry.{EntryMeets}
+use Rattle.demands.specs.Unique.{Unique, One, OneAndBuffer, OneAndBuffers}
+use Rattle.demands.proofs.Outcomes.{same-counts, one-outcome-only}
+use Rattle.demands.proofs.StepsOnce.{step-once, next-once}
+
+-- ---- promises that are equations
+
+by-equation : {A : Type 0} {a : A} → One (λ (r : A). r ≡ a)
+by-equation r s p q = p ∙ sym q
+
+by-equations : {A B : Type 0} {a : A} {b : B} → OneAndBuffer (λ (r : A) (x : B). (r ≡ a) × (x ≡ b))
+by-equations r s x y (p, q) (p′, q′) = (p ∙ sym p′, q ∙ sym q′)
+
+-- equations of what tells the answer
+by-verdict : {v : Verdict} → One (λ (r : Refusal). verdictOf r ≡ v)
+by-verdict r s p q = verdict-tells r s (p ∙ sym q)
+
+by-counts : {c : CountsMeant} → One (λ (r : Counts). countsMeant r ≡ c)
+by-counts r s p q = same-counts r s (p ∙ sym q)
+
+-- ---- promises that are records of equations
+
+given-once : {line out : List ℕ} → OneAndBuffer (λ (r : ℕ) (out′ : List ℕ). Given line out r out′)
+given-once r s x y g h = (g .count-is ∙ sym (h .count-is), g .after-is ∙ sym (h .after-is))
+
+rows-once : {c : CircuitMeant} → One (λ (r : Rows). RowsAre c r)
+rows-once r s g h = λ i. record { codes = (g .codes-are ∙ sym (h .codes-are)) i; ends = (g .ends-are ∙ sym (h .ends-are)) i }
+
+read-once : {t : ModuleType} {references : List Reference} {place vectors : ℕ} {ones zeros : List ℕ}
+    → OneAndBuffers (λ (r : InstanceWords) (ones′ zeros′ : List ℕ). InstanceRead t references place vectors ones zeros r ones′ zeros′)
+read-once r s x y u v g h =
+    let same : r ≡ s = g .words-are ∙ sym (h .words-are) in
+    (same, g .ones-are ∙ rw same (sym (h .ones-are)), g .zeros-are ∙ rw same (sym (h .zeros-are)))
+
+classed-once : {rows matrix keys classes : List ℕ} {references : List Reference} {from to count : ℕ}
+    → OneAndBuffers (λ (r : Classed) (keys′ classes′ : List ℕ). InstanceClassed rows references from to count matrix keys classes r keys′ classes′)
+classed-once r s x y u v g h =
+    let classes : u ≡ v = g .classes-are ∙ sym (h .classes-are) in
+    let found : r .found ≡ s .found = g .found-is ∙ rw classes (sym (h .found-is)) in
+    ((λ i. record { count = (g .count-is ∙ sym (h .count-is)) i; found = found i }), g .keys-are ∙ sym (h .keys-are), classes)
+
+entry-once : {g : Grading} {matrix classes : List ℕ}
+    → OneAndBuffers (λ (answer′ matrix′ classes′ : List ℕ). EntryMeets g matrix classes answer′ matrix′ classes′)
+entry-once r s x y u v g h =
+    (g .answer-at-exit ∙ sym (h .answer-at-exit), g .matrix-at-exit ∙ sym (h .matrix-at-exit), g .classes-at-exit ∙ sym (h .classes-at-exit))
+
+-- ---- grading
+
+grade-once : (file matrix classes : List ℕ)
+    → OneAndBuffers (λ (r : Answer) (matrix′ classes′ : List ℕ). Promise file matrix classes r matrix′ classes′)
+grade-once file matrix classes r s x y u v kept kept′ =
+    let same =
+    one-outcome-only (record { file = file; matrix = matrix; classes = classes; answer = r; matrix-after = x; classes-after = u })
+    (record { file = file; matrix = matrix; classes = classes; answer = s; matrix-after = y; classes-after = v }) kept kept′ refl refl refl
+    in
+    (same .answer, same .matrix, same .classes)
+
+grade-read-once : (reading : Reading) (matrix classes : List ℕ) → Read reading
+    → OneAndBuffers (λ (r : Answer) (matrix′ classes′ : List ℕ). PromiseOfRead reading matrix classes r matrix′ classes′)
+grade-read-once reading matrix classes from r s x y u v kept kept′ =
+    grade-once (from .file) matrix classes r s x y u v (kept (from .file) (from .answers)) (kept′ (from .file) (from .answers))
+
+-- ---- all of them
+
+pub unique : Unique
+unique = record {
+  words-marks = λ row. by-equation;
+  words-first-mark = λ row. by-equation;
+  words-first-ones = λ n. by-equation;
+  text-put-byte = λ out at b. by-equations;
+  text-put-bytes = λ out at bytes. by-equations;
+  text-put-number = λ out at n. by-equations;
+  switch-complementary = λ t. by-equation;
+  switch-joining = λ t ones zeros. by-equation;
+  switch-output-planes = λ supply ground. by-equation;
+  circuit-step-at = λ file at h. step-once file at;
+  circuit-field-of = λ file at tag h. next-once file at tag;
+  circuit-byte = λ file f i. by-equation;
+  circuit-two-bytes = λ file f i. by-equation;
+  circuit-is-between = λ low high m. by-equation;
+  circuit-refuses = λ r. by-equation;
+  circuit-or-if = λ before test this. by-verdict;
+  circuit-number-of = λ r. by-equation;
+  circuit-place-of = λ r. by-equation;
+  types-no-type = by-equation;
+  instances-no-bridge = by-equation;
+  instances-no-instance = by-equation;
+  instances-lists-of = λ bridges count listed r s p q.
+      by-equation r s (p (listed .bridges) (listed .counted) (listed .within) (listed .ranges) (listed .is))
+      (q (listed .bridges) (listed .counted) (listed .within) (listed .ranges) (listed .is));
+  reader-read = λ file. answers-unique (readingOf file);
+  grading-number-of = λ answer. by-equation;
+  grading-place-of = λ answer. by-equation;
+  grading-counts-of = λ answer. by-counts;
+  rows-rows-of = λ c given r s p q.
+      rows-once r s (p (given .circuit) (given .is) (given .good)) (q (given .circuit) (given .is) (given .good));
+  marks-signals-of = λ vectors. by-equation;
+  marks-read-instance = λ t one place vectors ones zeros. read-once;
+  marks-write-rows = λ rows from to vectors read matrix. by-equation;
+  classes-class-instance = λ rows from to one matrix keys classes count. classed-once;
+  grader-grade-read = grade-read-once;
+  grader-grade = grade-once;
+  report-first-line = λ vectors faults classes found out. given-once;
+  report-refusal-line = λ number place out. given-once;
+  report-row-line = λ head vectors row out. given-once;
+  togyamiru-grade = λ file matrix classes. entry-once;
+}

@@ -1,0 +1,50 @@
+-- Which demand each wrong grader breaks (specs/Wrong), held against the demands themselves. 01, last paragraph: to refuse every file, or to grade one
+-- that the table refuses, breaks demand 1; wrong marks break demand 2; an invented found count breaks its class clause. The proofs are in proofs/BreaksProof.
+use Prim.Native.Nat.{ℕ}
+use mathlib.Core.List.{List}
+use lib.Dec.{T}
+use Rattle.circuit.specs.Circuit.{Circuit}
+use Rattle.demands.specs.Calls.{Accepts, isGraded}
+use Rattle.demands.specs.One.{One}
+use Rattle.demands.specs.Two.{CellsTell, ClassesTell}
+use Rattle.demands.specs.Graders.{Grader, called}
+use Rattle.demands.specs.Wrong.{refusesEvery, skips, marksAll, marksNever, leavesMatrix, firstWordOnly, inventsFound, sweepsOnce, onePlane, marksFloating, countsRows, spills, goesOn}
+use Rattle.demands.specs.Wrong.{watchesOutputs, holdsLevels, countsTwice, countsLabels, readsXAsZero}
+
+-- demand 1 holds of every call
+abbrev pub MeetsOne : Grader → Type 0
+MeetsOne grader = (file matrix classes : List ℕ) → One (called grader file matrix classes)
+
+-- demand 2, its cells and its classes, holds of every call that graded
+abbrev pub MeetsCells : Grader → Type 0
+MeetsCells grader =
+    (file matrix classes : List ℕ) (c : Circuit) → Accepts file c → T (isGraded (grader file matrix classes .answer))
+    → CellsTell (called grader file matrix classes) c
+
+abbrev pub MeetsClasses : Grader → Type 0
+MeetsClasses grader =
+    (file matrix classes : List ℕ) (c : Circuit) → Accepts file c → T (isGraded (grader file matrix classes .answer))
+    → ClassesTell (called grader file matrix classes) c
+
+pub record BreakDemandOne : Type 0 where
+  pub refuses-every : MeetsOne refusesEvery → ⊥
+  pub skips-nine : MeetsOne (skips 9) → ⊥
+  pub skips-fourteen : MeetsOne (skips 14) → ⊥
+
+pub record BreakDemandTwo : Type 0 where
+  pub marks-all : MeetsCells marksAll → ⊥
+  pub marks-never : MeetsCells marksNever → ⊥
+  pub leaves-matrix : MeetsCells leavesMatrix → ⊥
+  pub first-word-only : MeetsCells firstWordOnly → ⊥
+  pub sweeps-once : MeetsCells sweepsOnce → ⊥
+  pub one-plane : MeetsCells onePlane → ⊥
+  pub marks-floating : MeetsCells marksFloating → ⊥
+  pub spills : MeetsCells spills → ⊥
+  pub goes-on : MeetsCells goesOn → ⊥
+  pub watches-outputs : MeetsCells watchesOutputs → ⊥
+  pub holds-levels : MeetsCells holdsLevels → ⊥
+  pub reads-x-as-zero : MeetsCells readsXAsZero → ⊥
+  pub invents-found : MeetsClasses inventsFound → ⊥
+  pub counts-rows : MeetsClasses countsRows → ⊥
+  pub counts-twice : MeetsClasses countsTwice → ⊥
+  pub counts-labels : MeetsClasses countsLabels → ⊥

@@ -1,0 +1,152 @@
+-- What a line of the table of known results (specs/Known) can claim, of a file's grading, its report, the buffers, or the mark rule on words; and when a claim holds.
+-- `joins`, by which a node floats and a cell is marked, decides `Joined` (switch, `JoinsDecides`).
+use Prim.Native.Nat.{ℕ, suc, _+_, _-_, _*_}
+use Prim.Native.String.{String}
+use mathlib.Core.Path.{_≡_}
+use mathlib.Core.Bool.{Bool, true, false, cond, _&&_, not}
+use mathlib.Core.List.{List, [], _∷_, _++_, map}
+use lib.Dec.{eqb, leb}
+use lib.ListN.{length}
+use Rattle.words.specs.Tables.{table}
+use Rattle.text.specs.Ascii.{bytesOf}
+use Rattle.switch.specs.Conduction.{Value, between, ground, supply}
+use Rattle.switch.specs.Modules.{ModuleType, linksOf}
+use Rattle.switch.specs.Bridges.{Bridge, nodes, input}
+use Rattle.switch.specs.Deciding.{joins}
+use Rattle.circuit.specs.Circuit.{Circuit, Instance, no-faults, numbered, typeOfInstance, joinLists}
+use Rattle.grading.specs.Values.{labelValues, outputsOf}
+use Rattle.grading.specs.Rows.{Row, rowsOf}
+use Rattle.grading.specs.Grading.{Counts, Grading, graded, refused, gradingOf, countsIn, numberIn, placeIn, matrixAfter, classesAfterGrading}
+use Rattle.grading.specs.Codes.{codeOf}
+use Rattle.marks.specs.Model.{markWord}
+use Rattle.demands.specs.Calls.{cellAt}
+use Rattle.demands.specs.Report.{reportOf}
+
+-- ---- what a claim speaks of
+
+-- marks as a text of digits, the first vector's first
+abbrev pub digitsOf : String → List ℕ
+digitsOf text = map (λ (b : ℕ). b - 48) (bytesOf text)
+
+-- and as a word: the first vector's is bit 0
+abbrev pub wordOfDigits : List ℕ → ℕ
+wordOfDigits [] = 0
+wordOfDigits (d ∷ ds) = d + 2 * wordOfDigits ds
+
+abbrev pub wordOf : String → ℕ
+wordOf text = wordOfDigits (digitsOf text)
+
+-- the grading of a file with buffers that are long enough for any
+abbrev pub graded-whole : List ℕ → Grading
+graded-whole file = gradingOf file 8192 2048
+
+-- the marks of the row of a bridge, ends as written, in an instance: a digit for each vector. There are none where there is no such row
+unfoldable pub marksFrom : Circuit → List ℕ → ℕ → List Row → ℕ → Bridge → List ℕ
+marksFrom c matrix r [] n bridge = []
+marksFrom c matrix r (row ∷ rows) n bridge =
+    let later = marksFrom c matrix (suc r) rows n bridge in
+    cond (eqb (codeOf (row .number) (row .bridge)) (codeOf n bridge)) (table (length (c .vectors)) (cellAt matrix r)) later
+
+unfoldable pub marksIn : Grading → ℕ → Bridge → List ℕ
+marksIn (graded c) n bridge = marksFrom c (matrixAfter (graded c) []) 0 (rowsOf c) n bridge
+marksIn (refused number place) n bridge = []
+
+-- a node of a type that is joined to neither rail
+unfoldable pub floatsUnder : ModuleType → (ℕ → Value) → ℕ → Bool
+floatsUnder t values m = leb m (t .highest) && not (joins (linksOf t values) m supply) && not (joins (linksOf t values) m ground)
+
+unfoldable pub floatsOf : Circuit → Instance → List Value → ℕ → Bool
+floatsOf c i vector m = floatsUnder (typeOfInstance (c .types) i) (labelValues vector (outputsOf (c .types) vector (c .instances)) i) m
+
+-- a node of instance n that is joined to neither rail under vector v, both from 1
+unfoldable pub floatsIn : Grading → ℕ → ℕ → ℕ → Bool
+floatsIn (graded c) n m v =
+    between 1 (length (c .instances)) n && between 1 (length (c .vectors)) v
+    && floatsOf c (numbered (c .instances) n (record { type = 0; choice = no-faults; references = [] })) (numbered (c .vectors) v []) m
+floatsIn (refused number place) n m v = false
+
+-- number and place of a refusal, 0 and 0 where there is none
+abbrev pub refusalIn : Grading → ℕ × ℕ
+refusalIn grading = (numberIn grading, placeIn grading)
+
+-- the numbers of rows and of classes
+abbrev pub sizesIn : Grading → ℕ × ℕ
+sizesIn grading = (countsIn grading .faults, countsIn grading .classes)
+
+-- a whole grading: the file's size, the counts, and what is written into the buffers
+pub record Whole : Type 0 where
+  pub size : ℕ
+  pub counts : Counts
+  pub words : List ℕ
+  pub classes : List ℕ
+
+abbrev pub wholeOf : List ℕ → Grading → Whole
+wholeOf file grading = record { size = length file; counts = countsIn grading; words = matrixAfter grading []; classes = classesAfterGrading grading [] }
+
+-- both buffers after the grading of a file
+abbrev pub buffersAfter : List ℕ → List ℕ → List ℕ → List ℕ × List ℕ
+buffersAfter file matrix classes =
+    let grading = gradingOf file (length matrix) (length classes) in (matrixAfter grading matrix, classesAfterGrading grading classes)
+
+-- lines as bytes: each ends with byte 10
+abbrev pub bytesOfLines : List String → List ℕ
+bytesOfLines lines = joinLists (map (λ (line : String). bytesOf line ++ (10 ∷ [])) lines)
+
+-- a word of one node or label, in the four that it has
+abbrev pub four : ℕ → List ℕ
+four w = w ∷ 0 ∷ 0 ∷ 0 ∷ []
+
+-- the mark rule on words for two ends, each with its words of supply and of ground
+abbrev pub endsWord : ℕ → ℕ → ℕ → ℕ → ℕ
+endsWord supply-a ground-a supply-b ground-b = markWord (four supply-a ++ four supply-b) (four ground-a ++ four ground-b) [] [] (codeOf 1 (nodes 0 1)) 0
+
+-- and for a label, by the words in which it is known to be 1 and to be 0, and a node
+abbrev pub labelWord : ℕ → ℕ → ℕ → ℕ → ℕ
+labelWord ones zeros supply-m ground-m = markWord (four supply-m) (four ground-m) (four ones) (four zeros) (codeOf 1 (input 0 0)) 0
+
+-- ---- claims
+
+pub data Claim : Type 0 where
+  -- in a file, the row of a bridge of an instance reads these marks
+  reads : List ℕ → ℕ → Bridge → String → Claim
+  -- in a file, a node of an instance floats under a vector: instance, node, vector
+  floats : List ℕ → ℕ → ℕ → ℕ → Claim
+  -- a file is refused with this number at this place
+  refuses : List ℕ → ℕ → ℕ → Claim
+  -- the same with so many words for the matrix and entries for the classes; 0 at 0 where it is not refused
+  short : List ℕ → ℕ → ℕ → ℕ → ℕ → Claim
+  -- a file is graded: rows, classes
+  sizes : List ℕ → ℕ → ℕ → Claim
+  -- a file is graded and its rows' words are these
+  leaves : List ℕ → List ℕ → Claim
+  -- a file of so many bytes is graded: the four counts, the marks of each row, the class of each row
+  grades : List ℕ → ℕ → Counts → List String → List ℕ → Claim
+  -- a file's grading turns these buffers, a matrix and one for classes, into those
+  turns : List ℕ → List ℕ → List ℕ → List ℕ → List ℕ → Claim
+  -- a file's whole report, line by line
+  reports : List ℕ → List String → Claim
+  -- the mark rule on words: supply and ground at one end, at the other; marks
+  ends : String → String → String → String → String → Claim
+  -- known 1 and known 0 of a label, supply and ground of a node; marks
+  label : String → String → String → String → String → Claim
+
+unfoldable pub Holds : Claim → Type 0
+Holds (reads file n bridge marks) = marksIn (graded-whole file) n bridge ≡ digitsOf marks
+Holds (floats file n m v) = floatsIn (graded-whole file) n m v ≡ true
+Holds (refuses file number place) = graded-whole file ≡ refused number place
+Holds (short file words entries number place) = refusalIn (gradingOf file words entries) ≡ (number, place)
+Holds (sizes file rows classes) = sizesIn (graded-whole file) ≡ (rows, classes)
+Holds (leaves file words) = matrixAfter (graded-whole file) [] ≡ words
+Holds (grades file size counts marks classes) =
+    wholeOf file (graded-whole file)
+    ≡ record { size = size; counts = counts; words = joinLists (map (λ (text : String). four (wordOf text)) marks); classes = classes }
+Holds (turns file matrix classes matrix′ classes′) = buffersAfter file matrix classes ≡ (matrix′, classes′)
+Holds (reports file lines) = reportOf (graded-whole file) ≡ bytesOfLines lines
+Holds (ends supply-a ground-a supply-b ground-b marks) =
+    endsWord (wordOf supply-a) (wordOf ground-a) (wordOf supply-b) (wordOf ground-b) ≡ wordOf marks
+Holds (label ones zeros supply-m ground-m marks) = labelWord (wordOf ones) (wordOf zeros) (wordOf supply-m) (wordOf ground-m) ≡ wordOf marks
+
+infixr 40 _and_
+pub data AllHold : List Claim → Type 0 where
+  no-more : AllHold []
+  _and_ : {claim : Claim} {claims : List Claim} → Holds claim → AllHold claims → AllHold (claim ∷ claims)

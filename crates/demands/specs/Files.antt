@@ -1,0 +1,135 @@
+-- Circuit files put together field by field (01, "The circuit file"), for the known results and for the wrong graders.
+use Prim.Native.Nat.{ℕ, _+_, _-_, _/_, _%_}
+use Prim.Native.String.{String}
+use mathlib.Core.List.{List, [], _∷_, _++_, map}
+use lib.ListN.{length, replicate}
+use Rattle.words.specs.Tables.{table}
+use Rattle.text.specs.Ascii.{bytesOf}
+use Rattle.switch.specs.Bridges.{Bridge, nodes, input}
+use Rattle.circuit.specs.Circuit.{Reference, primary, outputOf, Choice, exhaustive, no-faults, list, joinLists}
+
+-- two bytes, high byte first
+abbrev pub twoBytesOf : ℕ → List ℕ
+twoBytesOf n = n / 256 ∷ n % 256 ∷ []
+
+abbrev pub field : ℕ → List ℕ → List ℕ
+field tag body = tag ∷ twoBytesOf (length body) ++ body
+
+abbrev pub inputsField : ℕ → List ℕ
+inputsField inputs = field 1 (twoBytesOf inputs)
+
+abbrev pub typeField : ℕ → ℕ → ℕ → List ℕ
+typeField h o k = field 2 (h ∷ o ∷ k ∷ [])
+
+abbrev pub edgeField : ℕ → ℕ → List ℕ → List ℕ
+edgeField a b labels = field 3 (a ∷ b ∷ labels)
+
+abbrev pub bridgeField : ℕ → Bridge → List ℕ
+bridgeField number (nodes a b) = field 4 (number ∷ 0 ∷ a ∷ b ∷ [])
+bridgeField number (input m l) = field 4 (number ∷ 1 ∷ m ∷ l ∷ [])
+
+-- numbers below zero in two's complement
+abbrev pub choiceByte : Choice → ℕ
+choiceByte exhaustive = 255
+choiceByte no-faults = 0
+choiceByte (list n) = n
+
+abbrev pub referenceBytes : Reference → List ℕ
+referenceBytes (primary n) = twoBytesOf n
+referenceBytes (outputOf i) = twoBytesOf (65536 - i)
+
+abbrev pub instanceField : ℕ → Choice → List Reference → List ℕ
+instanceField type choice references = field 5 (type ∷ choiceByte choice ∷ joinLists (map referenceBytes references))
+
+-- a vector as a text of 0, 1 and X
+abbrev pub vectorField : String → List ℕ
+vectorField vector = field 6 (bytesOf vector)
+
+abbrev pub vectorFields : List String → List ℕ
+vectorFields vectors = joinLists (map vectorField vectors)
+
+-- ---- 01's types
+
+-- h=2, o=2, k=1; edges 1-2 and 0-2, label 0
+abbrev pub inverterFields : List ℕ
+inverterFields = typeField 2 2 1 ++ edgeField 1 2 (0 ∷ []) ++ edgeField 0 2 (0 ∷ [])
+
+-- h=3, o=2, k=2; edge 1-2 with labels 0 and 1; edge 2-3 label 0; edge 3-0 label 1
+abbrev pub nandFields : List ℕ
+nandFields = typeField 3 2 2 ++ edgeField 1 2 (0 ∷ 1 ∷ []) ++ edgeField 2 3 (0 ∷ []) ++ edgeField 3 0 (1 ∷ [])
+
+-- h=4, o=2, k=3: three in series, edges in the order of their lower nodes: 0-4 label 2; 1-2 labels 0, 1 and 2; 2-3 label 0; 3-4 label 1
+abbrev pub nand3Fields : List ℕ
+nand3Fields = typeField 4 2 3 ++ edgeField 0 4 (2 ∷ []) ++ edgeField 1 2 (0 ∷ 1 ∷ 2 ∷ []) ++ edgeField 2 3 (0 ∷ []) ++ edgeField 3 4 (1 ∷ [])
+
+-- ---- files with one instance, or two
+
+-- one instance of a type, each label on an input of its own; with the exhaustive list, or with the user list 1 of some bridges
+abbrev pub oneUnder : ℕ → List ℕ → List String → List ℕ
+oneUnder inputs type vectors =
+    inputsField inputs ++ type ++ instanceField 1 exhaustive (table inputs (λ (l : ℕ). primary (l + 1))) ++ vectorFields vectors
+
+abbrev pub oneListed : ℕ → List ℕ → List Bridge → List String → List ℕ
+oneListed inputs type bridges vectors =
+    inputsField inputs ++ type ++ joinLists (map (bridgeField 1) bridges) ++ instanceField 1 (list 1) (table inputs (λ (l : ℕ). primary (l + 1)))
+    ++ vectorFields vectors
+
+abbrev pub inverterUnder : List String → List ℕ
+inverterUnder vectors = oneUnder 1 inverterFields vectors
+
+-- 01's example
+abbrev pub inverter : List ℕ
+inverter = inverterUnder ("0" ∷ "1" ∷ "X" ∷ [])
+
+abbrev pub inverterListed : List Bridge → List String → List ℕ
+inverterListed bridges vectors = oneListed 1 inverterFields bridges vectors
+
+abbrev pub nandUnder : List String → List ℕ
+nandUnder vectors = oneUnder 2 nandFields vectors
+
+abbrev pub nandListed : List Bridge → List String → List ℕ
+nandListed bridges vectors = oneListed 2 nandFields bridges vectors
+
+-- an inverter from input a, then a NAND of a and the inverter's output; the NAND has the exhaustive list
+abbrev pub inverterThenNand : List String → List ℕ
+inverterThenNand vectors =
+    inputsField 1 ++ inverterFields ++ nandFields ++ instanceField 1 no-faults (primary 1 ∷ [])
+    ++ instanceField 2 exhaustive (primary 1 ∷ outputOf 1 ∷ []) ++ vectorFields vectors
+
+-- both labels of a NAND on input 1
+abbrev pub nandOfOne : List String → List ℕ
+nandOfOne vectors = inputsField 1 ++ nandFields ++ instanceField 1 exhaustive (primary 1 ∷ primary 1 ∷ []) ++ vectorFields vectors
+
+-- a type of h=2, o=2, k=2 with these edges, and an instance of it
+abbrev pub oneType : List ℕ → List ℕ
+oneType edges = oneUnder 2 (typeField 2 2 2 ++ edges) ("00" ∷ [])
+
+-- each rail hangs on a label of its own: not complementary
+abbrev pub split : List ℕ
+split = oneType (edgeField 1 2 (0 ∷ []) ++ edgeField 0 2 (1 ∷ []))
+
+-- inverters, one for each of these references
+abbrev pub invertersOf : List Reference → List ℕ
+invertersOf references =
+    inputsField 1 ++ inverterFields ++ joinLists (map (λ (r : Reference). instanceField 1 exhaustive (r ∷ [])) references) ++ vectorField "0"
+
+-- an inverter with a choice
+abbrev pub inverterChoosing : Choice → List ℕ
+inverterChoosing choice = inputsField 1 ++ inverterFields ++ instanceField 1 choice (primary 1 ∷ []) ++ vectorField "0"
+
+-- two inverters, then a NAND of the first and input 1 and a NAND of both; bridges of two lists in turn, written from either end
+abbrev pub fourInstances : List String → List ℕ
+fourInstances vectors =
+    inputsField 2 ++ inverterFields ++ nandFields
+    ++ bridgeField 2 (nodes 3 2) ++ bridgeField 1 (nodes 2 0) ++ bridgeField 2 (nodes 0 3)
+    ++ bridgeField 2 (input 3 0) ++ bridgeField 1 (input 2 0) ++ bridgeField 2 (input 3 1)
+    ++ instanceField 1 no-faults (primary 2 ∷ []) ++ instanceField 1 (list 1) (outputOf 1 ∷ [])
+    ++ instanceField 2 (list 2) (outputOf 1 ∷ primary 1 ∷ []) ++ instanceField 2 (list 2) (outputOf 1 ∷ outputOf 2 ∷ [])
+    ++ vectorFields vectors
+
+-- 16 instances with 128 bridges each, 2,048 faults in all, and then some with one more
+abbrev pub manyFaults : ℕ → List ℕ
+manyFaults more =
+    inputsField 1 ++ inverterFields ++ joinLists (replicate 128 (bridgeField 1 (nodes 0 1))) ++ bridgeField 2 (nodes 0 1)
+    ++ joinLists (replicate 16 (instanceField 1 (list 1) (primary 1 ∷ []))) ++ joinLists (replicate more (instanceField 1 (list 2) (primary 1 ∷ [])))
+    ++ vectorField "0"

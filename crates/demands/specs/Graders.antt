@@ -1,0 +1,139 @@
+-- Graders as functions, to try against the promise of `grade`: what they answer and leave in the buffers, a right one, and where a wrong one may differ.
+use Prim.Native.Nat.{ℕ, suc}
+use mathlib.Core.Bool.{Bool, false, cond, _&&_, _||_}
+use mathlib.Core.List.{List, [], _∷_, _++_, map}
+use lib.Dec.{eqb, ltb}
+use lib.ListN.{length, getD}
+use Rattle.words.specs.Bits.{ofBool, sumTo}
+use Rattle.words.specs.Rows.{rowOf}
+use Rattle.switch.specs.Conduction.{Value}
+use Rattle.switch.specs.Modules.{ModuleType}
+use Rattle.switch.specs.Bridges.{Bridge}
+use Rattle.circuit.specs.Circuit.{Circuit, typeOfInstance, joinLists}
+use Rattle.circuit.specs.declared.refusal.Refusal.{Refusal}
+use Rattle.circuit.specs.declared.refusal.Refusal.the-variants.{TooLong, Broken, UnknownTag, Misplaced, WrongLength, TooMany, OutOfRange, BadEnds, NotComplementary, BadReference, BridgeUnsuited, EmptyList, TooManyFaults, Unfinished}
+use Rattle.grading.specs.Rows.{Row, rowsOf, rowValues, markOf}
+use Rattle.grading.specs.Classes.{sameClass, largest}
+use Rattle.grading.specs.Grading.{Grading, graded, refused, gradingOf, over}
+use Rattle.grading.specs.declared.Answer.{Answer}
+use Rattle.grading.specs.declared.Answer.the-variants.{Graded, Refused, ShortMatrix, ShortClasses}
+use Rattle.demands.specs.Calls.{Call, Kept}
+
+-- ---- graders
+
+-- what a grader answers, and what both buffers hold then
+pub record Outcome : Type 0 where
+  pub answer : Answer
+  pub matrix : List ℕ
+  pub classes : List ℕ
+
+-- of a file, a matrix and a class buffer
+abbrev pub Grader : Type 0
+Grader = List ℕ → List ℕ → List ℕ → Outcome
+
+abbrev pub called : Grader → List ℕ → List ℕ → List ℕ → Call
+called grader file matrix classes =
+    let outcome = grader file matrix classes in record {
+      file = file;
+      matrix = matrix;
+      classes = classes;
+      answer = outcome .answer;
+      matrix-after = outcome .matrix;
+      classes-after = outcome .classes;
+    }
+
+-- the promise holds of every call
+abbrev pub MeetsPromise : Grader → Type 0
+MeetsPromise grader = (file matrix classes : List ℕ) → Kept (called grader file matrix classes)
+
+-- ---- the code's answers
+
+-- the refusal of reading with a number and a place
+unfoldable pub refusalOf : ℕ → ℕ → Refusal
+refusalOf n p =
+    cond (eqb n 1) TooLong (cond (eqb n 2) (Broken p) (cond (eqb n 3) (UnknownTag p) (cond (eqb n 4) (Misplaced p)
+    (cond (eqb n 5) (WrongLength p) (cond (eqb n 6) (TooMany p) (cond (eqb n 7) (OutOfRange p) (cond (eqb n 8) (BadEnds p)
+    (cond (eqb n 9) (NotComplementary p) (cond (eqb n 10) (BadReference p) (cond (eqb n 11) (BridgeUnsuited p)
+    (cond (eqb n 12) (EmptyList p) (cond (eqb n 13) (TooManyFaults p) (Unfinished p)))))))))))))
+
+unfoldable pub refusing : ℕ → ℕ → Answer
+refusing n p = cond (eqb n 15) (ShortMatrix p) (cond (eqb n 22) (ShortClasses p) (Refused (refusalOf n p)))
+
+-- ---- a grader by what it works out of the circuit; it refuses by the table
+
+pub record Work : Type 0 where
+  pub words : List ℕ
+  pub classes : List ℕ
+  pub class-count : ℕ
+  pub found : ℕ
+
+unfoldable pub outcomeOf : (Circuit → Work) → Grading → List ℕ → List ℕ → Outcome
+outcomeOf work (refused n p) matrix classes = record { answer = refusing n p; matrix = matrix; classes = classes }
+outcomeOf work (graded c) matrix classes =
+    let w = work c in record {
+      answer = Graded (record { vectors = length (c .vectors); faults = length (rowsOf c); classes = w .class-count; found = w .found });
+      matrix = over (w .words) matrix;
+      classes = over (w .classes) classes;
+    }
+
+unfoldable pub gradesBy : (Circuit → Work) → Grader
+gradesBy work file matrix classes = outcomeOf work (gradingOf file (length matrix) (length classes)) matrix classes
+
+-- ---- work by the marks of rows, their packing into words, and the test for one class
+
+-- the class numbers by a test for one class, as `classesOf` gives them by `sameClass`
+unfoldable pub classAmongBy : (Row → Row → Bool) → Row → ℕ → List Row → List ℕ → ℕ
+classAmongBy same row new [] classes = new
+classAmongBy same row new (r ∷ rs) [] = new
+classAmongBy same row new (r ∷ rs) (n ∷ ns) = let later = classAmongBy same row new rs ns in cond (same r row) n later
+
+unfoldable pub classesAfterBy : (Row → Row → Bool) → List Row → List ℕ → List Row → List ℕ
+classesAfterBy same before classes [] = classes
+classesAfterBy same before classes (row ∷ rows) =
+    classesAfterBy same (before ++ (row ∷ [])) (classes ++ (classAmongBy same row (suc (largest classes)) before classes ∷ [])) rows
+
+unfoldable pub classesBy : (Row → Row → Bool) → List Row → List ℕ
+classesBy same rows = classesAfterBy same [] [] rows
+
+-- has a row a mark under one of so many vectors
+unfoldable pub hasMarkBy : ℕ → (Row → ℕ → ℕ) → Row → Bool
+hasMarkBy vectors marks row = ltb 0 (sumTo vectors (marks row))
+
+-- the number of found classes by the marks, as `foundCount` gives it by `markOf`
+unfoldable pub classFoundBy : ℕ → (Row → ℕ → ℕ) → ℕ → List Row → List ℕ → Bool
+classFoundBy vectors marks n [] classes = false
+classFoundBy vectors marks n (r ∷ rs) [] = false
+classFoundBy vectors marks n (r ∷ rs) (m ∷ ms) = eqb m n && hasMarkBy vectors marks r || classFoundBy vectors marks n rs ms
+
+unfoldable pub foundBy : ℕ → (Row → ℕ → ℕ) → List Row → List ℕ → ℕ → ℕ
+foundBy vectors marks rows classes count = sumTo count (λ (n : ℕ). ofBool (classFoundBy vectors marks (suc n) rows classes))
+
+-- how a row is packed: from the number of vectors and the marks, from 0
+abbrev pub Packing : Type 0
+Packing = ℕ → (ℕ → ℕ) → List ℕ
+
+unfoldable pub workBy : Packing → (Circuit → Row → ℕ → ℕ) → (Row → Row → Bool) → Circuit → Work
+workBy packed marks same c =
+    let classes = classesBy same (rowsOf c) in record {
+      words = joinLists (map (λ (row : Row). packed (length (c .vectors)) (marks c row)) (rowsOf c));
+      classes = classes;
+      class-count = largest classes;
+      found = foundBy (length (c .vectors)) (marks c) (rowsOf c) classes (largest classes);
+    }
+
+-- the marks of rows by a test on a type, the values of its labels, and a bridge
+unfoldable pub marksBy : (ModuleType → (ℕ → Value) → Bridge → Bool) → Circuit → Row → ℕ → ℕ
+marksBy test c row v =
+    ofBool (test (typeOfInstance (c .types) (row .instance)) (rowValues c (getD (c .vectors) v []) row) (row .bridge))
+
+-- ---- the right ones
+
+unfoldable pub rightWork : Circuit → Work
+rightWork c = workBy rowOf markOf sameClass c
+
+unfoldable pub rightly : Grader
+rightly file matrix classes = gradesBy rightWork file matrix classes
+
+-- the promise can be met, and a grader that differs from this one in one place is right in all others
+abbrev pub RightlyIsRight : Type 0
+RightlyIsRight = MeetsPromise rightly

@@ -1,0 +1,157 @@
+-- 01, "Known results": all of them, those marked P first, then the whole example of "The report" and more of both kinds, in one table under one statement,
+-- `AllKnown`. What a line says is in specs/Claims; the proof, by computation, is in proofs/KnownProof.
+use Prim.Native.Nat.{_-_, _^_}
+use Prim.Native.String.{String}
+use mathlib.Core.List.{List, [], _∷_, _++_}
+use lib.ListN.{replicate}
+use Rattle.switch.specs.Bridges.{nodes}
+use Rattle.circuit.specs.Circuit.{primary, outputOf, no-faults, list, joinLists}
+use Rattle.demands.specs.Files.{field, inputsField, typeField, edgeField, inverterFields, inverter, inverterUnder, inverterListed, inverterChoosing, nandUnder, inverterThenNand}
+use Rattle.demands.specs.Files.{nandOfOne, oneType, split, invertersOf, fourInstances, manyFaults}
+use Rattle.demands.specs.Claims.{Claim, reads, floats, refuses, short, sizes, leaves, grades, turns, reports, ends, label, AllHold}
+
+-- ---- vectors
+
+abbrev pub all-four : List String
+all-four = "00" ∷ "01" ∷ "10" ∷ "11" ∷ []
+
+-- every vector of two inputs
+abbrev pub nine : List String
+nine = "00" ∷ "01" ∷ "10" ∷ "11" ∷ "0X" ∷ "1X" ∷ "X0" ∷ "X1" ∷ "XX" ∷ []
+
+-- ---- the table: 01's sentences, each with its lines, then more
+
+abbrev pub known : List Claim
+known =
+    -- P: bridge 2-3 reads 0100; 0-3 reads 0010; 1-3 reads 0101
+    reads (nandUnder all-four) 1 (nodes 2 3) "0100"
+    ∷ reads (nandUnder all-four) 1 (nodes 0 3) "0010"
+    ∷ reads (nandUnder all-four) 1 (nodes 1 3) "0101"
+    -- P: under 00 node 3 is joined to neither rail
+    ∷ floats (nandUnder all-four) 1 3 1
+    -- P: 0X marks 0-2; 1X does not mark 2-3
+    ∷ reads (nandUnder ("0X" ∷ [])) 1 (nodes 0 2) "1"
+    ∷ reads (nandUnder ("1X" ∷ [])) 1 (nodes 2 3) "0"
+    -- P: bridge 0-1 is marked under every vector, XX included
+    ∷ reads (nandUnder nine) 1 (nodes 0 1) "111111111"
+    -- P: an inverter from input a, then a NAND of a and the inverter's output: X for a does not mark the NAND's 0-2, although both fillings do
+    ∷ reads (inverterThenNand ("0" ∷ "1" ∷ "X" ∷ [])) 2 (nodes 0 2) "110"
+    -- P: document 002's example: supply 1010 and ground 0100 at one end, 1100 and 0011 at the other, gives 0110
+    ∷ ends "1010" "0100" "1100" "0011" "0110"
+    -- P: its input short: label 1100, supply 1010, ground 0100, gives 0110
+    ∷ label "1100" "0011" "1010" "0100" "0110"
+    -- P: h=2, o=2, k=2, edges 1-2 label 0 and 0-2 label 1: refusal 9. No edges: 9
+    ∷ refuses split 9 5
+    ∷ refuses (oneType []) 9 5
+    -- NAND with both references 1: 14 rows, 10 classes
+    ∷ sizes (nandOfOne ("0" ∷ [])) 14 10
+    -- in instance 2 a reference of −1 is good, −2 or 0 is 10; in instance 1 a reference of −1 is 10
+    ∷ sizes (invertersOf (primary 1 ∷ outputOf 1 ∷ [])) 12 12
+    ∷ refuses (invertersOf (primary 1 ∷ outputOf 2 ∷ [])) 10 30
+    ∷ refuses (invertersOf (primary 1 ∷ primary 0 ∷ [])) 10 30
+    ∷ refuses (invertersOf (outputOf 1 ∷ [])) 10 23
+    -- empty file: 14 at 0. One byte 1: 2 at 0
+    ∷ refuses [] 14 0
+    ∷ refuses (1 ∷ []) 2 0
+    -- 64 vectors fill one word; the 65th is bit 0 of the next
+    ∷ leaves (inverterListed (nodes 0 1 ∷ []) (replicate 64 "0")) ((2 ^ 64 - 1) ∷ 0 ∷ 0 ∷ 0 ∷ [])
+    ∷ leaves (inverterListed (nodes 0 1 ∷ []) (replicate 65 "0")) ((2 ^ 64 - 1) ∷ 1 ∷ 0 ∷ 0 ∷ [])
+    -- 2,048 faults pass, 2,049 are 13; 8,191 words for 2,048 faults is 15 with 8,192
+    ∷ short (manyFaults 0) 8192 2048 0 0
+    ∷ refuses (manyFaults 1) 13 1038
+    ∷ short (manyFaults 0) 8191 2048 15 8192
+    -- "The report": one inverter, vectors 0, 1, X. The file is 42 bytes; 3 vectors, 6 faults, 6 classes, 6 found; classes 1 to 6;
+    -- rows 111, 100, 010, 010, 100, 110
+    ∷ grades inverter 42 (record { vectors = 3; faults = 6; classes = 6; found = 6 })
+    ("111" ∷ "100" ∷ "010" ∷ "010" ∷ "100" ∷ "110" ∷ []) (1 ∷ 2 ∷ 3 ∷ 4 ∷ 5 ∷ 6 ∷ [])
+    -- its output in full
+    ∷ reports inverter
+    ("vectors 3 faults 6 classes 6 found 6"
+    ∷ "1 n 0 1 1 111 3 1"
+    ∷ "1 n 0 2 2 100 1 1"
+    ∷ "1 n 1 2 3 010 1 2"
+    ∷ "1 i 0 0 4 010 1 2"
+    ∷ "1 i 1 0 5 100 1 1"
+    ∷ "1 i 2 0 6 110 2 1"
+    ∷ [])
+    -- beyond 01's results: whole reports. NAND with both references 1: labels 0 and 1 are one class with each node
+    ∷ reports (nandOfOne ("0" ∷ "1" ∷ "X" ∷ []))
+    ("vectors 3 faults 14 classes 10 found 8"
+    ∷ "1 n 0 1 1 111 3 1"
+    ∷ "1 n 0 2 2 100 1 1"
+    ∷ "1 n 0 3 3 000 0 0"
+    ∷ "1 n 1 2 4 010 1 2"
+    ∷ "1 n 1 3 5 010 1 2"
+    ∷ "1 n 2 3 6 000 0 0"
+    ∷ "1 i 0 0 7 010 1 2"
+    ∷ "1 i 0 1 7 010 1 2"
+    ∷ "1 i 1 0 8 100 1 1"
+    ∷ "1 i 1 1 8 100 1 1"
+    ∷ "1 i 2 0 9 110 2 1"
+    ∷ "1 i 2 1 9 110 2 1"
+    ∷ "1 i 3 0 10 010 1 2"
+    ∷ "1 i 3 1 10 010 1 2"
+    ∷ [])
+    -- the inverter without faults, and the NAND behind it: 0-2 reads 110
+    ∷ reports (inverterThenNand ("0" ∷ "1" ∷ "X" ∷ []))
+    ("vectors 3 faults 14 classes 14 found 12"
+    ∷ "2 n 0 1 1 111 3 1"
+    ∷ "2 n 0 2 2 110 2 1"
+    ∷ "2 n 0 3 3 010 1 2"
+    ∷ "2 n 1 2 4 000 0 0"
+    ∷ "2 n 1 3 5 100 1 1"
+    ∷ "2 n 2 3 6 100 1 1"
+    ∷ "2 i 0 0 7 010 1 2"
+    ∷ "2 i 0 1 8 100 1 1"
+    ∷ "2 i 1 0 9 100 1 1"
+    ∷ "2 i 1 1 10 010 1 2"
+    ∷ "2 i 2 0 11 100 1 1"
+    ∷ "2 i 2 1 12 010 1 2"
+    ∷ "2 i 3 0 13 000 0 0"
+    ∷ "2 i 3 1 14 110 2 1"
+    ∷ [])
+    -- X alone marks nothing but 0-1
+    ∷ reports (inverterUnder ("X" ∷ []))
+    ("vectors 1 faults 6 classes 6 found 1"
+    ∷ "1 n 0 1 1 1 1 1"
+    ∷ "1 n 0 2 2 0 0 0"
+    ∷ "1 n 1 2 3 0 0 0"
+    ∷ "1 i 0 0 4 0 0 0"
+    ∷ "1 i 1 0 5 0 0 0"
+    ∷ "1 i 2 0 6 0 0 0"
+    ∷ [])
+    -- no faults; and a refusal
+    ∷ reports (inverterChoosing no-faults) ("vectors 1 faults 0 classes 0 found 0" ∷ [])
+    ∷ reports [] ("refused 14 at 0" ∷ [])
+    -- 15 comes before 22, each with what is needed
+    ∷ short inverter 23 6 15 24
+    ∷ short inverter 23 5 15 24
+    ∷ short inverter 0 0 15 24
+    ∷ short inverter 24 5 22 6
+    ∷ short inverter 24 6 0 0
+    -- two words more than it needs, one entry more: they keep their contents
+    ∷ turns inverter (replicate 26 9) (replicate 7 9)
+    (7 ∷ 0 ∷ 0 ∷ 0 ∷ 1 ∷ 0 ∷ 0 ∷ 0 ∷ 2 ∷ 0 ∷ 0 ∷ 0 ∷ 2 ∷ 0 ∷ 0 ∷ 0 ∷ 1 ∷ 0 ∷ 0 ∷ 0 ∷ 3 ∷ 0 ∷ 0 ∷ 0 ∷ 9 ∷ 9 ∷ [])
+    (1 ∷ 2 ∷ 3 ∷ 4 ∷ 5 ∷ 6 ∷ 9 ∷ [])
+    -- four instances, rows of three of them, in the order of their lists
+    ∷ grades (fourInstances ("00" ∷ "01" ∷ "10" ∷ "11" ∷ "X0" ∷ "0X" ∷ [])) 152 (record { vectors = 6; faults = 10; classes = 10; found = 9 })
+    ("010100" ∷ "111110" ∷ "000100" ∷ "100000" ∷ "001000" ∷ "101100" ∷ "010100" ∷ "101010" ∷ "000000" ∷ "111110" ∷ [])
+    (1 ∷ 2 ∷ 3 ∷ 4 ∷ 5 ∷ 6 ∷ 7 ∷ 8 ∷ 9 ∷ 10 ∷ [])
+    -- the refusals that are left: a file too long, tag 0, inputs twice, three bytes for the inputs, 65 inputs, a 17th type, an edge 2-2,
+    -- a bridge of kind 2, choice -2, bridge 0-3 for an inverter, a list without bridges
+    ∷ refuses (replicate 32769 0) 1 0
+    ∷ refuses (0 ∷ 0 ∷ 0 ∷ []) 3 0
+    ∷ refuses (inputsField 1 ++ inputsField 1) 4 5
+    ∷ refuses (field 1 (0 ∷ 0 ∷ 1 ∷ [])) 5 0
+    ∷ refuses (inputsField 65) 7 0
+    ∷ refuses (inputsField 1 ++ joinLists (replicate 17 inverterFields)) 6 293
+    ∷ refuses (inputsField 1 ++ typeField 2 2 1 ++ edgeField 2 2 (0 ∷ [])) 8 11
+    ∷ refuses (inputsField 1 ++ inverterFields ++ field 4 (1 ∷ 2 ∷ 0 ∷ 1 ∷ [])) 7 23
+    ∷ refuses (inputsField 1 ++ inverterFields ++ field 5 (1 ∷ 254 ∷ 0 ∷ 1 ∷ [])) 7 23
+    ∷ refuses (inverterListed (nodes 0 3 ∷ []) ("0" ∷ [])) 11 30
+    ∷ refuses (inverterChoosing (list 1)) 12 23
+    ∷ []
+
+-- all results of the table hold
+abbrev pub AllKnown : Type 0
+AllKnown = AllHold known

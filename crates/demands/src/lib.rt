@@ -1,0 +1,1 @@
+// No code: the demands on the grader are stated in specs/ and proved in proofs/.

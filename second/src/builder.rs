@@ -6,6 +6,32 @@ pub type EdgeRow<'a> = (u8, u8, &'a [u8]);
 pub const INVERTER: &[EdgeRow] = &[(1, 2, &[0]), (0, 2, &[0])];
 pub const NAND: &[EdgeRow] = &[(1, 2, &[0, 1]), (2, 3, &[0]), (3, 0, &[1])];
 
+/// The thesis's circuit 3, the complement of an adder's carry.
+pub const CARRY: &[EdgeRow] = &[
+    (1, 3, &[0]),
+    (3, 2, &[1]),
+    (1, 2, &[2]),
+    (2, 4, &[0, 1]),
+    (4, 5, &[2]),
+    (5, 0, &[0, 1]),
+    (4, 6, &[0]),
+    (6, 0, &[1]),
+];
+
+/// The thesis's circuit 4, the complement of an adder's sum; label 3 is the carry's.
+pub const SUM: &[EdgeRow] = &[
+    (1, 2, &[0, 1, 2]),
+    (2, 3, &[1]),
+    (3, 4, &[2]),
+    (4, 5, &[0]),
+    (2, 5, &[3]),
+    (5, 6, &[3]),
+    (6, 0, &[0, 1, 2]),
+    (5, 7, &[0]),
+    (7, 8, &[1]),
+    (8, 0, &[2]),
+];
+
 #[derive(Clone, Debug, Default, PartialEq, Eq)]
 pub struct FileBuilder {
     pub bytes: Vec<u8>,
@@ -77,5 +103,21 @@ impl FileBuilder {
     /// The file's length so far, which is the place of a field added next.
     pub fn end(&self) -> usize {
         self.bytes.len()
+    }
+}
+
+/// A file to be written under this name.
+#[derive(Clone, Debug, PartialEq, Eq)]
+pub struct NamedFile {
+    pub name: String,
+    pub bytes: Vec<u8>,
+}
+
+impl NamedFile {
+    pub fn new(name: impl Into<String>, file: FileBuilder) -> NamedFile {
+        NamedFile {
+            name: name.into(),
+            bytes: file.bytes,
+        }
     }
 }

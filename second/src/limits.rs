@@ -4,7 +4,7 @@
 
 use std::fmt::Display;
 
-use crate::builder::FileBuilder;
+use crate::builder::{FileBuilder, NamedFile};
 
 mod bridges;
 mod bytes;
@@ -23,17 +23,8 @@ mod types;
 mod vectors;
 
 /// The name says what is in the file; it ends in `.cir`.
-#[derive(Clone, Debug, PartialEq, Eq)]
-pub struct NamedFile {
-    pub name: String,
-    pub bytes: Vec<u8>,
-}
-
 fn named(name: impl Display, file: FileBuilder) -> NamedFile {
-    NamedFile {
-        name: format!("{name}.cir"),
-        bytes: file.bytes,
-    }
+    NamedFile::new(format!("{name}.cir"), file)
 }
 
 /// Every file, each name once, the same on every run.

@@ -1,5 +1,5 @@
-//! Starts of files made by hand, each up to a field of another kind, and two
-//! whole files: the paper's inverter and one with every kind of field.
+//! Starts of files made by hand, each up to a field of another kind, and whole
+//! files: the paper's inverter, its NAND and one with every kind of field.
 
 use crate::builder::FileBuilder;
 
@@ -75,6 +75,14 @@ pub fn inverter_file() -> FileBuilder {
         .inverter()
         .instance(1, -1, &[1])
         .vectors(&["0", "1", "X"])
+}
+
+/// The paper's NAND with all its faults.
+pub fn nand_under(vectors: &[&str]) -> FileBuilder {
+    two_inputs()
+        .nand()
+        .instance(1, -1, &[1, 2])
+        .vectors(vectors)
 }
 
 /// Every tag, edges with one to four labels and a repeated one, both kinds of

@@ -6,6 +6,7 @@ mod support;
 use second::builder::FileBuilder;
 use second::circuit::Kind;
 use second::report::{report, report_of};
+use second::starts::nand_under;
 use support::{answer, digits, refusal, Accepted};
 
 /// The 42 bytes: inputs; type and its two edges; instance; vectors 0, 1, X.
@@ -35,13 +36,6 @@ fn bytes_from_hex(text: &str) -> Vec<u8> {
         .chunks_exact(2)
         .map(|pair| (pair[0] * 16 + pair[1]) as u8)
         .collect()
-}
-
-fn nand_under(vectors: &[&str]) -> FileBuilder {
-    FileBuilder::inputs(2)
-        .nand()
-        .instance(1, -1, &[1, 2])
-        .vectors(vectors)
 }
 
 #[test]

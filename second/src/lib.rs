@@ -1,6 +1,6 @@
 //! The second grader: reads a circuit file, grades its bridges one path search
 //! at a time, prints the report or the circuit, makes or damages circuit files
-//! from a seed, and writes files by hand at every limit.
+//! from a seed, and writes files by hand: at every limit, and samples.
 
 pub mod builder;
 pub mod circuit;
@@ -16,6 +16,7 @@ pub mod random;
 pub mod read;
 pub mod refusal;
 pub mod report;
+pub mod samples;
 pub mod show;
 pub mod spoil;
 pub mod starts;

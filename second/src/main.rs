@@ -1,5 +1,6 @@
 //! The commands: grade files, show circuits, make circuits, damage circuits, lay
-//! the files at the limits, and tally which refusals a set of files reaches.
+//! the files at the limits or the samples, and tally which refusals a set of files
+//! reaches.
 
 use std::ffi::{OsStr, OsString};
 use std::fs::{create_dir_all, write, File};
@@ -7,11 +8,13 @@ use std::io::{self, Read, Write};
 use std::path::Path;
 use std::process::ExitCode;
 
+use second::builder::NamedFile;
 use second::damage::damaged_file;
 use second::limits::limit_files;
 use second::make::made_file;
 use second::read::{read, LONGEST_FILE};
 use second::report::report_of;
+use second::samples::sample_files;
 use second::show::show_of;
 
 const USAGE: &str = "usage: second grade [FILE...]
@@ -19,6 +22,7 @@ const USAGE: &str = "usage: second grade [FILE...]
        second make OUTDIR SEED COUNT
        second damage OUTDIR SEED COUNT
        second limits OUTDIR
+       second samples OUTDIR
        second refusals [FILE...]
 ";
 
@@ -37,7 +41,8 @@ fn main() -> ExitCode {
         Some("refusals") => tally_refusals(rest),
         Some("make") => lay_from_seed(rest, "made", made_file),
         Some("damage") => lay_from_seed(rest, "damaged", damaged_file),
-        Some("limits") => lay_limits(rest),
+        Some("limits") => lay_named(rest, limit_files),
+        Some("samples") => lay_named(rest, sample_files),
         _ => None,
     };
     match ending {
@@ -132,13 +137,11 @@ fn lay_from_seed(words: &[OsString], name: &str, file: fn(u64, u64) -> Vec<u8>) 
     Some(is_well(directory, lay(directory, files)))
 }
 
-fn lay_limits(words: &[OsString]) -> Ending {
+fn lay_named(words: &[OsString], files: fn() -> Vec<NamedFile>) -> Ending {
     let [directory] = words else {
         return None;
     };
-    let files = limit_files()
-        .into_iter()
-        .map(|file| (file.name, file.bytes));
+    let files = files().into_iter().map(|file| (file.name, file.bytes));
     Some(is_well(directory, lay(directory, files)))
 }
 

@@ -3,12 +3,14 @@
 
 use std::fs;
 use std::io::Write;
-use std::path::PathBuf;
+use std::path::{Path, PathBuf};
 use std::process::{Command, Output, Stdio};
 
+use second::builder::NamedFile;
 use second::limits::limit_files;
 use second::make::made_file;
 use second::report::report_of;
+use second::samples::sample_files;
 use second::show::show_of;
 use second::starts::inverter_file;
 
@@ -111,21 +113,34 @@ fn tells_a_failed_read() {
     }
 }
 
+/// The directory holds these files and no others.
+fn assert_laid(directory: &Path, files: Vec<NamedFile>) {
+    assert_eq!(fs::read_dir(directory).unwrap().count(), files.len());
+    for file in files {
+        let laid = fs::read(directory.join(&file.name)).unwrap();
+        assert!(laid == file.bytes, "{}", file.name);
+    }
+}
+
 #[test]
 fn lays_the_limits() {
     let directory = fresh_directory("limits").join("made/on/the/way");
     let output = run(&["limits", directory.to_str().unwrap()], &[]);
     assert_eq!(output.status.code(), Some(0));
-    let files = limit_files();
-    assert_eq!(fs::read_dir(&directory).unwrap().count(), files.len());
-    for file in files {
-        let laid = fs::read(directory.join(&file.name)).unwrap();
-        assert!(laid == file.bytes, "{}", file.name);
-    }
+    assert_laid(&directory, limit_files());
     let in_the_way = directory.join("inputs-1.cir");
     let failed = run(&["limits", in_the_way.to_str().unwrap()], &[]);
     assert_eq!(failed.status.code(), Some(1));
     assert!(text(&failed.stderr).contains("inputs-1.cir"));
+}
+
+#[test]
+fn lays_the_samples() {
+    let directory = fresh_directory("samples");
+    let output = run(&["samples", directory.to_str().unwrap()], &[]);
+    assert_eq!(output.status.code(), Some(0));
+    assert!(output.stdout.is_empty() && output.stderr.is_empty());
+    assert_laid(&directory, sample_files());
 }
 
 #[test]
@@ -163,7 +178,7 @@ fn makes_damages_and_tallies() {
 
 #[test]
 fn wrong_words_show_the_usage() {
-    let wrong: [&[&str]; 9] = [
+    let wrong: [&[&str]; 11] = [
         &[],
         &["judge"],
         &["make"],
@@ -173,6 +188,8 @@ fn wrong_words_show_the_usage() {
         &["damage", "out", "1", "2", "3"],
         &["limits"],
         &["limits", "out", "1"],
+        &["samples"],
+        &["samples", "out", "1"],
     ];
     for words in wrong {
         let output = run(words, &[]);

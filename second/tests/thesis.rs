@@ -12,7 +12,7 @@ use second::builder::FileBuilder;
 use second::circuit::Kind;
 use second::grade::{Graded, Row};
 use support::nets::{all_orders, edge, Module, Net};
-use support::Accepted;
+use support::{sample_file, Accepted};
 
 /// Input shorts, general shorts, transistor stuck-on faults, as in the tables.
 type Counts = [usize; 3];
@@ -198,18 +198,23 @@ fn table_8_circuit_4() {
     assert_eq!(fitting.iter().filter(at_ground).count(), 12);
 }
 
+fn adder_modules() -> [Module; 2] {
+    [(circuit_3(), 3), (circuit_4(), 4)].map(|((p, n), labels)| Module::of(&p, &n, labels))
+}
+
 /// Circuit 3 drives circuit 4: the fourth reference is the first instance's
 /// output. The file has three inputs and the vectors of circuit 3.
-fn adder(set: &[&str]) -> (Graded, Counts) {
-    let (carry, sum) = (circuit_3(), circuit_4());
-    let carry = Module::of(&carry.0, &carry.1, 3);
-    let sum = Module::of(&sum.0, &sum.1, 4);
-    let file = sum.added_to(carry.added_to(FileBuilder::inputs(3)));
-    let graded = file
+fn adder_file(set: &[&str]) -> FileBuilder {
+    let [carry, sum] = adder_modules();
+    sum.added_to(carry.added_to(FileBuilder::inputs(3)))
         .instance(1, -1, &[1, 2, 3])
         .instance(2, -1, &[1, 2, 3, -1])
         .vectors(set)
-        .graded();
+}
+
+fn adder(set: &[&str]) -> (Graded, Counts) {
+    let [carry, sum] = adder_modules();
+    let graded = adder_file(set).graded();
     let (of_carry, of_sum) = (
         counts(&graded, 1, &carry, untested),
         counts(&graded, 2, &sum, untested),
@@ -230,6 +235,14 @@ fn table_9_circuit_3_driving_4() {
         assert_eq!(usize::from(graded.classes), 112 + 2);
         assert_eq!(graded.found, 112 + 2 - published[2]);
     }
+}
+
+/// The sample for newcomers has its edges by hand, and the vectors in order.
+#[test]
+fn sample_adder_is_circuit_3_driving_4() {
+    let mut set = ADDER.to_vec();
+    set.sort();
+    assert_eq!(adder_file(&set).bytes, sample_file("adder"));
 }
 
 /// Section 4.3.1's count of the faults that one vector tests, with n1 and n0 the

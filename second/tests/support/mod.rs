@@ -2,11 +2,12 @@
 
 #![allow(dead_code)] // Each test file uses its own part of these.
 
-use second::builder::FileBuilder;
+use second::builder::{FileBuilder, NamedFile};
 use second::circuit::Kind;
 use second::grade::{grade, Graded};
 use second::limits::limit_files;
 use second::refusal::Refusal;
+use second::samples::sample_files;
 
 pub mod nets;
 
@@ -34,7 +35,16 @@ pub fn refusal(bytes: &[u8]) -> Option<(u8, usize)> {
 
 /// The bytes of one of the files that `limits` lays.
 pub fn limit_file(name: &str) -> Vec<u8> {
-    let file = limit_files().into_iter().find(|file| file.name == name);
+    named_file(limit_files(), name)
+}
+
+/// The bytes of one of the files that `samples` lays.
+pub fn sample_file(name: &str) -> Vec<u8> {
+    named_file(sample_files(), name)
+}
+
+fn named_file(files: Vec<NamedFile>, name: &str) -> Vec<u8> {
+    let file = files.into_iter().find(|file| file.name == name);
     file.unwrap_or_else(|| panic!("{name} is not laid")).bytes
 }
 

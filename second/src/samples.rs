@@ -1,0 +1,87 @@
+//! Sample circuits for newcomers: small files by hand, each of which shows one
+//! thing, and a full-size one. `circuits/README.md` of the project explains them.
+
+use crate::builder::{FileBuilder, NamedFile, CARRY, SUM};
+use crate::make::full_circuit;
+use crate::random::Random;
+use crate::starts::{inverter_file, nand_under, nothing};
+use crate::write::{bytes_of, fields_of};
+
+/// A seed that gives 64 inputs too, and X for a quarter of the vectors' bytes.
+const FULL_SEED: u64 = 14;
+
+/// Every sample, each name once, the same on every run.
+pub fn sample_files() -> Vec<NamedFile> {
+    let samples = [
+        ("inverter", inverter_file()),
+        ("nand", nand()),
+        ("reconvergent", reconvergent()),
+        ("both_ends", both_ends()),
+        ("floating", floating()),
+        ("unfixed", unfixed()),
+        ("outputs", outputs()),
+        ("adder", adder()),
+        ("full", full()),
+    ];
+    let named = |(name, file)| NamedFile::new(name, file);
+    samples.into_iter().map(named).collect()
+}
+
+fn nand() -> FileBuilder {
+    nand_under(&["00", "01", "10", "11", "0X", "1X", "XX"])
+}
+
+/// An inverter, then a NAND of the same input and the inverter's output.
+fn reconvergent() -> FileBuilder {
+    FileBuilder::inputs(1)
+        .inverter()
+        .nand()
+        .instance(1, 0, &[1])
+        .instance(2, -1, &[1, -1])
+        .vectors(&["0", "1", "X"])
+}
+
+fn both_ends() -> FileBuilder {
+    listed_nand(&[(2, 3), (3, 2), (0, 3)], &["00", "01", "10", "11"])
+}
+
+/// Under 00 both n-channel transistors are off, so node 3 is joined to no rail.
+fn floating() -> FileBuilder {
+    listed_nand(&[(2, 3), (0, 3), (1, 3)], &["00"])
+}
+
+/// The second input is fixed by nobody: each vector as it is, then guessed.
+fn unfixed() -> FileBuilder {
+    nand_under(&["0X", "00", "1X", "10"])
+}
+
+/// A short to supply under vectors that have the output at 1 anyway.
+fn outputs() -> FileBuilder {
+    listed_nand(&[(1, 3)], &["00", "01", "10"])
+}
+
+/// A NAND whose user list has these bridges between nodes.
+fn listed_nand(bridges: &[(u8, u8)], vectors: &[&str]) -> FileBuilder {
+    let file = FileBuilder::inputs(2).nand();
+    let add = |file: FileBuilder, &(first, second): &(u8, u8)| file.bridge(1, 0, first, second);
+    bridges
+        .iter()
+        .fold(file, add)
+        .instance(1, 1, &[1, 2])
+        .vectors(vectors)
+}
+
+/// The thesis's full adder: the carry's complement drives the sum's.
+fn adder() -> FileBuilder {
+    FileBuilder::inputs(3)
+        .module(6, 4, 3, CARRY)
+        .module(8, 5, 4, SUM)
+        .instance(1, -1, &[1, 2, 3])
+        .instance(2, -1, &[1, 2, 3, -1])
+        .vectors(&["000", "001", "010", "011", "100", "101", "110", "111"])
+}
+
+fn full() -> FileBuilder {
+    let circuit = full_circuit(&mut Random::for_file(FULL_SEED, 0));
+    nothing().raw(&bytes_of(&fields_of(&circuit)))
+}

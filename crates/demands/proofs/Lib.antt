@@ -3,7 +3,7 @@
 --   demand 2      SettledValues, Cells, Floating, Columns, RowFaults, OneClass, FoundClasses, ClassCounts, ClassesCarried, NamedAgain
 --   demand 3      Refining, NoConverseProof
 --   one outcome   StepsOnce, UniqueProof
---   by computing  KnownProof, WrongProof, BreaksProof
+--   by computing  KnownProof, WrongProof, BreaksProof; MeetsProof, what the demands do not break
 pub mod Gave
 pub mod Verdicts
 pub mod GradingVerdicts
@@ -26,5 +26,6 @@ pub mod KnownProof
 pub mod NoConverseProof
 pub mod WrongProof
 pub mod BreaksProof
+pub mod MeetsProof
 pub mod StepsOnce
 pub mod UniqueProof

@@ -1,11 +1,12 @@
--- Demand 1 holds of every call that keeps the promise of `grade`, and after a grading everything past the answer is as it was.
+-- Demand 1 holds of every call that answers by the table, so of every call that keeps the promise of `grade`; and after a grading everything past the answer is as it was.
 use Prim.Native.Nat.{ℕ, _*_, _≤_}
 use mathlib.Core.Path.{_≡_, refl, sym, _∙_}
+use mathlib.Core.Bool.{Bool, true, false, cond}
 use mathlib.Core.Logic.{_⊎_, inl, inr, _↔_}
 use mathlib.Core.List.{List}
 use native.Mathlib.Omega.{arith}
-use borrow.Author.Tests.{le-ltb}
-use lib.Dec.{T}
+use borrow.Author.Tests.{le-ltb, ltb-false}
+use lib.Dec.{T, ltb}
 use lib.ListN.{length, drop, length-append, length-drop}
 use lib.Seq.{drop-at}
 use Rattle.switch.specs.Modules.{allOf}
@@ -16,13 +17,14 @@ use Rattle.circuit.specs.Answers as reading
 use Rattle.circuit.proofs.Tested.{never-passes}
 use Rattle.grading.specs.Rows.{rowsOf, matrixOf}
 use Rattle.grading.specs.Classes.{classesOf}
-use Rattle.grading.specs.Grading.{Grading, graded, noCounts, gradingOf, gradingOfCircuit, afterReading, countsIn, over, matrixAfter, classesAfterGrading}
+use Rattle.grading.specs.Grading.{Grading, graded, noCounts, gradingOf, gradingOfCircuit, afterReading, over, matrixAfter, classesAfterGrading}
 use Rattle.grading.specs.Grading.{refused as refusedGrading}
+use Rattle.grading.specs.Promise.{countsOf}
 use Rattle.grading.specs.declared.Answer.{Answer}
 use Rattle.grading.specs.declared.Answer.the-variants.{Graded, Refused, ShortMatrix, ShortClasses}
 use Rattle.grading.proofs.ClassLists.{length-classes}
 use Rattle.grading.proofs.MatrixLaws.{length-matrix}
-use Rattle.demands.specs.Calls.{Call, Kept, Accepts, GradedAs, isGraded, Refuses}
+use Rattle.demands.specs.Calls.{Call, Kept, Accepts, isGraded, Refuses}
 use Rattle.demands.specs.One.{passed, FirstApplying, tableFor, One, OneHolds, GradingKeepsTheRest}
 use Rattle.demands.proofs.Gave.{gave}
 use Rattle.demands.proofs.Verdicts.{none-applies, first-applying}
@@ -35,26 +37,40 @@ graded-or-refused (Refused r) = inr (reading.numberOf r, reading.placeOf r, (ref
 graded-or-refused (ShortMatrix words) = inr (15, words, (refl, refl))
 graded-or-refused (ShortClasses faults) = inr (22, faults, (refl, refl))
 
--- ---- what a refusal leaves
+-- ---- a call that answers by the table, whatever it writes when it grades
 
-record Untouched (g : Grading) (matrix classes : List ℕ) : Type 0 where
-  counts : countsIn g ≡ noCounts
-  words : matrixAfter g matrix ≡ matrix
-  entries : classesAfterGrading g classes ≡ classes
+abbrev meant : Call → Grading
+meant call = gradingOf (call .file) (length (call .matrix)) (length (call .classes))
 
-untouched : (g : Grading) (number place : ℕ) → verdictIn g ≡ refused number place → (matrix classes : List ℕ) → Untouched g matrix classes
-unfolding verdictIn countsIn matrixAfter classesAfterGrading
-untouched (graded c) number place e matrix classes = absurd (never-passes (sym e))
-untouched (refusedGrading n p) number place e matrix classes = record { counts = refl; words = refl; entries = refl }
+-- its verdict is the grading's, and a refusal leaves both buffers as they were
+pub record ByTheTable (call : Call) : Type 0 where
+  pub verdict : answered (call .answer) ≡ verdictIn (meant call)
+  pub keeps : (number place : ℕ) → answered (call .answer) ≡ refused number place → (call .matrix-after ≡ call .matrix) × (call .classes-after ≡ call .classes)
 
--- ---- the demand
+counts-nothing : (answer : Answer) (number place : ℕ) → Refuses answer number place → countsOf answer ≡ noCounts
+unfolding Refuses countsOf
+counts-nothing (Graded counts) number place r = absurd r
+counts-nothing (Refused by) number place r = refl
+counts-nothing (ShortMatrix words) number place r = refl
+counts-nothing (ShortClasses faults) number place r = refl
 
-module _ (call : Call) (kept : Kept call) where
-  given : Grading
-  given = gradingOf (call .file) (length (call .matrix)) (length (call .classes))
+-- buffers that pass 15 and 22 are long enough
+fits : (c : Circuit) (words entries : ℕ) → verdictIn (gradingOfCircuit c words entries) ≡ passes → (4 * length (rowsOf c) ≤ words) × (length (rowsOf c) ≤ entries)
+unfolding gradingOfCircuit verdictIn
+fits c words entries e = go (ltb words (4 * faults)) (ltb entries faults) refl refl e
+  where
+    faults : ℕ
+    faults = length (rowsOf c)
 
+    go : (a b : Bool) → ltb words (4 * faults) ≡ a → ltb entries faults ≡ b
+        → verdictIn (cond a (refusedGrading 15 (4 * faults)) (cond b (refusedGrading 22 faults) (graded c))) ≡ passes → (4 * faults ≤ words) × (faults ≤ entries)
+    go true b p q r = absurd (never-passes r)
+    go false true p q r = absurd (never-passes r)
+    go false false p q r = (ltb-false words (4 * faults) p, ltb-false entries faults q)
+
+module _ (call : Call) (by : ByTheTable call) where
   same-verdict : answered (call .answer) ≡ firstOf (tableFor call)
-  same-verdict = answer-is call kept ∙ sym (table-tells (call .file) (length (call .matrix)) (length (call .classes)))
+  same-verdict = by .verdict ∙ sym (table-tells (call .file) (length (call .matrix)) (length (call .classes)))
 
   by-the-table : (number place : ℕ) → Refuses (call .answer) number place ↔ FirstApplying (tableFor call) number place
   by-the-table number place =
@@ -78,43 +94,56 @@ module _ (call : Call) (kept : Kept call) where
       go (inl g) = inl (g, when-none-applies .0 g)
       go (inr (number, place, r)) = inr (number, place, r, by-the-table number place .0 r)
 
-  its-circuit : T (isGraded (call .answer)) → (c : Circuit) × GradedAs call c
+  abbrev Taken : Type 0
+  Taken = (c : Circuit) × Accepts (call .file) c × (4 * length (rowsOf c) ≤ length (call .matrix)) × (length (rowsOf c) ≤ length (call .classes))
+
+  its-circuit : T (isGraded (call .answer)) → Taken
   unfolding gradingOf afterReading verdictIn
-  its-circuit g = go (readingOf (call .file)) refl (sym (answer-is call kept) ∙ graded-is (call .answer) .0 g)
+  its-circuit g = go (readingOf (call .file)) refl (sym (by .verdict) ∙ graded-is (call .answer) .0 g)
     where
       go : (read : Reading) → readingOf (call .file) ≡ read → verdictIn (afterReading read (length (call .matrix)) (length (call .classes))) ≡ passes
-          → (c : Circuit) × GradedAs call c
+          → Taken
       go (refusal number place) e q = absurd (never-passes q)
-      go (accepted c) e q = (c, record { kept = kept; accepts = e; graded = g })
+      go (accepted c) e q = let room = fits c (length (call .matrix)) (length (call .classes)) q in (c, e, room .0, room .1)
 
   with-room : (c : Circuit) → Accepts (call .file) c → 4 * length (rowsOf c) ≤ length (call .matrix) → length (rowsOf c) ≤ length (call .classes)
       → T (isGraded (call .answer))
   unfolding gradingOf afterReading gradingOfCircuit verdictIn
   with-room c e words entries =
       graded-is (call .answer) .1
-      (answer-is call kept ∙ rw (e, le-ltb (length (call .matrix)) (4 * length (rowsOf c)) words, le-ltb (length (call .classes)) (length (rowsOf c)) entries))
+      (by .verdict ∙ rw (e, le-ltb (length (call .matrix)) (4 * length (rowsOf c)) words, le-ltb (length (call .classes)) (length (rowsOf c)) entries))
 
-  after-refusal : (number place : ℕ) → Refuses (call .answer) number place → Untouched given (call .matrix) (call .classes)
-  unfolding given
-  after-refusal number place r =
-      untouched given number place (sym (answer-is call kept) ∙ refuses-is (call .answer) number place .0 r) (call .matrix) (call .classes)
-
-  one : One call
-  unfolding given
-  one = record {
+  pub one-by-the-table : One call
+  one-by-the-table = record {
     graded-or-refused = either;
     never-both = λ g number place r. never-passes (sym (refuses-is (call .answer) number place .0 r) ∙ graded-is (call .answer) .0 g);
     refused-by-the-table = by-the-table;
     graded-when-none-applies = when-none-applies;
     graded-is-accepted = its-circuit;
     accepted-is-graded = with-room;
-    refusal-counts-nothing = λ number place r. kept .counts ∙ after-refusal number place r .counts;
-    refusal-keeps-the-matrix = λ number place r. kept .matrix-at-exit ∙ after-refusal number place r .words;
-    refusal-keeps-the-classes = λ number place r. kept .classes-at-exit ∙ after-refusal number place r .entries;
+    refusal-counts-nothing = counts-nothing (call .answer);
+    refusal-keeps-the-matrix = λ number place r. by .keeps number place (refuses-is (call .answer) number place .0 r) .0;
+    refusal-keeps-the-classes = λ number place r. by .keeps number place (refuses-is (call .answer) number place .0 r) .1;
   }
 
+-- ---- the demand
+
+untouched : (g : Grading) (number place : ℕ) → verdictIn g ≡ refused number place → (matrix classes : List ℕ)
+    → (matrixAfter g matrix ≡ matrix) × (classesAfterGrading g classes ≡ classes)
+unfolding verdictIn matrixAfter classesAfterGrading
+untouched (graded c) number place e matrix classes = absurd (never-passes (sym e))
+untouched (refusedGrading n p) number place e matrix classes = (refl, refl)
+
+kept-by-the-table : (call : Call) → Kept call → ByTheTable call
+kept-by-the-table call kept = record {
+  verdict = answer-is call kept;
+  keeps = λ number place e.
+      let as-found = untouched (meant call) number place (sym (answer-is call kept) ∙ e) (call .matrix) (call .classes) in
+      (kept .matrix-at-exit ∙ as-found .0, kept .classes-at-exit ∙ as-found .1);
+}
+
 pub one-holds : OneHolds
-one-holds = one
+one-holds call kept = one-by-the-table call (kept-by-the-table call kept)
 
 -- ---- after a grading
 

@@ -1,5 +1,6 @@
--- Which demand each wrong grader breaks (specs/Wrong), held against the demands themselves. 01, last paragraph: to refuse every file, or to grade one
--- that the table refuses, breaks demand 1; wrong marks break demand 2; an invented found count breaks its class clause. The proofs are in proofs/BreaksProof.
+-- Which demand each wrong grader breaks (specs/Wrong), held against the demands themselves, and which it meets. 01, last paragraph: to refuse every file, or to
+-- grade one that the table refuses, breaks demand 1; wrong marks break demand 2 and not demand 1; an invented found count breaks the class clause of demand 2.
+-- The proofs are in proofs/BreaksProof and proofs/MeetsProof.
 use Prim.Native.Nat.{ℕ}
 use mathlib.Core.List.{List}
 use lib.Dec.{T}
@@ -7,7 +8,7 @@ use Rattle.circuit.specs.Circuit.{Circuit}
 use Rattle.demands.specs.Calls.{Accepts, isGraded}
 use Rattle.demands.specs.One.{One}
 use Rattle.demands.specs.Two.{CellsTell, ClassesTell}
-use Rattle.demands.specs.Graders.{Grader, called}
+use Rattle.demands.specs.Graders.{Grader, called, Work, gradesBy, rightly}
 use Rattle.demands.specs.Wrong.{refusesEvery, skips, marksAll, marksNever, leavesMatrix, firstWordOnly, inventsFound, sweepsOnce, onePlane, marksFloating, countsRows, spills, goesOn}
 use Rattle.demands.specs.Wrong.{watchesOutputs, holdsLevels, countsTwice, countsLabels, readsXAsZero}
 
@@ -25,6 +26,18 @@ abbrev pub MeetsClasses : Grader → Type 0
 MeetsClasses grader =
     (file matrix classes : List ℕ) (c : Circuit) → Accepts file c → T (isGraded (grader file matrix classes .answer))
     → ClassesTell (called grader file matrix classes) c
+
+-- the right grader meets all of them
+pub record RightlyMeetsAll : Type 0 where
+  pub one : MeetsOne rightly
+  pub cells : MeetsCells rightly
+  pub classes : MeetsClasses rightly
+
+-- whatever a grader works out and writes, it meets demand 1 if it refuses by the table; so do those that mark all or never, which break demand 2
+pub record MeetDemandOne : Type 0 where
+  pub by-any-work : (work : Circuit → Work) → MeetsOne (gradesBy work)
+  pub marks-all : MeetsOne marksAll
+  pub marks-never : MeetsOne marksNever
 
 pub record BreakDemandOne : Type 0 where
   pub refuses-every : MeetsOne refusesEvery → ⊥

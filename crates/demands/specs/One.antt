@@ -54,14 +54,15 @@ tableFor call = tableOf (call .file) (length (call .matrix)) (length (call .clas
 
 -- ---- the demand
 
--- a refusal carries no counts, so that its counts are 0 is said by the answer's own form
+-- a refusal carries no counts, so that its counts are 0 is said by the answer's own form; that form also gives `never-both`. What is written is demand 2's
 pub record One (call : Call) : Type 0 where
   pub graded-or-refused : (T (isGraded (call .answer)) × T (allOf passed (tableFor call)))
       ⊎ ((number : ℕ) × (place : ℕ) × Refuses (call .answer) number place × FirstApplying (tableFor call) number place)
   pub never-both : T (isGraded (call .answer)) → (number place : ℕ) → Refuses (call .answer) number place → ⊥
   pub refused-by-the-table : (number place : ℕ) → Refuses (call .answer) number place ↔ FirstApplying (tableFor call) number place
   pub graded-when-none-applies : T (isGraded (call .answer)) ↔ T (allOf passed (tableFor call))
-  pub graded-is-accepted : T (isGraded (call .answer)) → (c : Circuit) × GradedAs call c
+  pub graded-is-accepted : T (isGraded (call .answer))
+      → (c : Circuit) × Accepts (call .file) c × (4 * length (rowsOf c) ≤ length (call .matrix)) × (length (rowsOf c) ≤ length (call .classes))
   pub accepted-is-graded : (c : Circuit) → Accepts (call .file) c → 4 * length (rowsOf c) ≤ length (call .matrix)
       → length (rowsOf c) ≤ length (call .classes) → T (isGraded (call .answer))
   pub refusal-counts-nothing : (number place : ℕ) → Refuses (call .answer) number place → countsOf (call .answer) ≡ noCounts

@@ -1,0 +1,61 @@
+-- The right grader meets demands 1 and 2; every grader that refuses by the table meets demand 1, whatever it works out of a circuit.
+use Prim.Native.Nat.{ℕ}
+use mathlib.Core.Path.{_≡_, refl, sym, _∙_}
+use mathlib.Core.List.{List}
+use lib.Dec.{T}
+use lib.ListN.{length}
+use Rattle.circuit.specs.Circuit.{Circuit}
+use Rattle.circuit.specs.Table.{refused}
+use Rattle.circuit.proofs.Tested.{never-passes}
+use Rattle.grading.specs.Grading.{Grading, graded, gradingOf}
+use Rattle.grading.specs.Grading.{refused as refusedGrading}
+use Rattle.demands.specs.Calls.{Accepts, GradedAs, isGraded}
+use Rattle.demands.specs.Graders.{Work, outcomeOf, gradesBy, rightWork, rightly, called}
+use Rattle.demands.specs.Wrong.{marksAll, marksNever}
+use Rattle.demands.specs.Breaks.{MeetsOne, RightlyMeetsAll, MeetDemandOne}
+use Rattle.demands.proofs.GradingVerdicts.{answered, answer-is}
+use Rattle.demands.proofs.OneProof.{ByTheTable, one-by-the-table, one-holds}
+use Rattle.demands.proofs.Cells.{cell-is-path}
+use Rattle.demands.proofs.ClassCounts.{classes-count-once}
+use Rattle.demands.proofs.RightProof.{rightly-is-right}
+
+-- ---- the right grader
+
+right-as : (file matrix classes : List ℕ) (c : Circuit) → Accepts file c → T (isGraded (rightly file matrix classes .answer))
+    → GradedAs (called rightly file matrix classes) c
+right-as file matrix classes c accepts is-graded = record { kept = rightly-is-right file matrix classes; accepts = accepts; graded = is-graded }
+
+pub rightly-meets-all : RightlyMeetsAll
+rightly-meets-all = record {
+  one = λ file matrix classes. one-holds (called rightly file matrix classes) (rightly-is-right file matrix classes);
+  cells = λ file matrix classes c e g. cell-is-path (called rightly file matrix classes) c (right-as file matrix classes c e g);
+  classes = λ file matrix classes c e g. classes-count-once (called rightly file matrix classes) c (right-as file matrix classes c e g);
+}
+
+-- ---- any work
+
+module _ (work : Circuit → Work) (matrix classes : List ℕ) where
+  -- its verdict is the right grader's
+  same-verdict : (g : Grading) → answered (outcomeOf work g matrix classes .answer) ≡ answered (outcomeOf rightWork g matrix classes .answer)
+  unfolding outcomeOf answered
+  same-verdict (graded c) = refl
+  same-verdict (refusedGrading n p) = refl
+
+  refusal-keeps : (g : Grading) (number place : ℕ) → answered (outcomeOf work g matrix classes .answer) ≡ refused number place
+      → (outcomeOf work g matrix classes .matrix ≡ matrix) × (outcomeOf work g matrix classes .classes ≡ classes)
+  unfolding outcomeOf answered
+  refusal-keeps (graded c) number place e = absurd (never-passes (sym e))
+  refusal-keeps (refusedGrading n p) number place e = (refl, refl)
+
+by-any-work : (work : Circuit → Work) → MeetsOne (gradesBy work)
+unfolding gradesBy rightly
+by-any-work work file matrix classes =
+    let g = gradingOf file (length matrix) (length classes) in
+    one-by-the-table (called (gradesBy work) file matrix classes) (record {
+      verdict = same-verdict work matrix classes g ∙ answer-is (called rightly file matrix classes) (rightly-is-right file matrix classes);
+      keeps = refusal-keeps work matrix classes g;
+    })
+
+pub meet-demand-one : MeetDemandOne
+unfolding marksAll marksNever
+meet-demand-one = record { by-any-work = by-any-work; marks-all = by-any-work _; marks-never = by-any-work _ }

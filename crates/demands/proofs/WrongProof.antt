@@ -11,7 +11,7 @@ use Rattle.grading.specs.Promise as promise
 use Rattle.demands.specs.Files.{inverter, inverterUnder, inverterListed, nandListed, nandOfOne, oneListed, nand3Fields, split}
 use Rattle.demands.specs.Graders.{Grader, MeetsPromise}
 use Rattle.demands.specs.Wrong.{refusesEvery, without, readWithout, skips, marksAll, marksNever, leavesMatrix, firstWordOnly, inventsFound}
-use Rattle.demands.specs.Wrong.{labelMarked, markedBy, isAmong, handedOn, swept, sweepsOnce, isOne, unlike, onePlaneMarked, onePlane}
+use Rattle.demands.specs.Wrong.{labelMarked, markedBy, lowerNode, putIn, inNodeOrder, isAmong, handedOn, swept, sweepsOnce, isOne, unlike, onePlaneMarked, onePlane}
 use Rattle.demands.specs.Wrong.{levelIn, isZero, sameLevel, unequalEnds, marksFloating, rowsFound, countsRows, packed63, spills, goesOn}
 use Rattle.demands.specs.Wrong.{changesOutput, watchesOutputs, held, rowValuesAt, levelAt, heldLevel, opposed, heldMarked, holdsLevels}
 use Rattle.demands.specs.Wrong.{sameAsWritten, countsTwice, sameLabelToo, countsLabels, zeroForX, zeroed, readsXAsZero}
@@ -24,7 +24,7 @@ use Rattle.demands.proofs.Computing.{grader-computing, room, entries}
 unfoldable pub wrong-computing : Unit {0}
 unfolding grader-computing
     refusesEvery without readWithout skips marksAll marksNever leavesMatrix firstWordOnly inventsFound
-    labelMarked markedBy isAmong handedOn swept sweepsOnce isOne unlike onePlaneMarked onePlane
+    labelMarked markedBy lowerNode putIn inNodeOrder isAmong handedOn swept sweepsOnce isOne unlike onePlaneMarked onePlane
     levelIn isZero sameLevel unequalEnds marksFloating rowsFound countsRows packed63 spills goesOn
     changesOutput watchesOutputs held rowValuesAt levelAt heldLevel opposed heldMarked holdsLevels
     sameAsWritten countsTwice sameLabelToo countsLabels zeroForX zeroed readsXAsZero
@@ -87,7 +87,7 @@ record Computed : Type 0 where
   leaves-matrix : WordDiffers leavesMatrix inverter 0
   first-word-only : WordDiffers firstWordOnly many 1
   invents-found : FoundDiffers inventsFound (inverterUnder ("X" ∷ []))
-  -- all three on: node 2 is joined to ground through 3 and 4, so 1-2 is marked
+  -- all three on: node 2 is joined to ground through 3 and 4, so 1-2 is marked; in node order 2-3 comes before 3-4, which feeds it
   sweeps-once : WordDiffers sweepsOnce (oneListed 3 nand3Fields (nodes 1 2 ∷ []) ("111" ∷ [])) 0
   -- the label at X, node 1
   one-plane : WordDiffers onePlane inverter 16

@@ -58,9 +58,13 @@ inverterFields = typeField 2 2 1 ++ edgeField 1 2 (0 ∷ []) ++ edgeField 0 2 (0
 abbrev pub nandFields : List ℕ
 nandFields = typeField 3 2 2 ++ edgeField 1 2 (0 ∷ 1 ∷ []) ++ edgeField 2 3 (0 ∷ []) ++ edgeField 3 0 (1 ∷ [])
 
--- h=4, o=2, k=3: three in series, edges in the order of their lower nodes: 0-4 label 2; 1-2 labels 0, 1 and 2; 2-3 label 0; 3-4 label 1
+-- a NOR: h=3, o=3, k=2; edge 1-2 label 0; edge 2-3 label 1; edge 0-3 with labels 0 and 1
+abbrev pub norFields : List ℕ
+norFields = typeField 3 3 2 ++ edgeField 1 2 (0 ∷ []) ++ edgeField 2 3 (1 ∷ []) ++ edgeField 0 3 (0 ∷ 1 ∷ [])
+
+-- a NAND of three: h=4, o=2, k=3; from ground up 0-4 label 2; 3-4 label 1; 2-3 label 0; then 1-2 with labels 0, 1 and 2
 abbrev pub nand3Fields : List ℕ
-nand3Fields = typeField 4 2 3 ++ edgeField 0 4 (2 ∷ []) ++ edgeField 1 2 (0 ∷ 1 ∷ 2 ∷ []) ++ edgeField 2 3 (0 ∷ []) ++ edgeField 3 4 (1 ∷ [])
+nand3Fields = typeField 4 2 3 ++ edgeField 0 4 (2 ∷ []) ++ edgeField 3 4 (1 ∷ []) ++ edgeField 2 3 (0 ∷ []) ++ edgeField 1 2 (0 ∷ 1 ∷ 2 ∷ [])
 
 -- ---- files with one instance, or two
 
@@ -89,6 +93,9 @@ nandUnder vectors = oneUnder 2 nandFields vectors
 
 abbrev pub nandListed : List Bridge → List String → List ℕ
 nandListed bridges vectors = oneListed 2 nandFields bridges vectors
+
+abbrev pub norUnder : List String → List ℕ
+norUnder vectors = oneUnder 2 norFields vectors
 
 -- an inverter from input a, then a NAND of a and the inverter's output; the NAND has the exhaustive list
 abbrev pub inverterThenNand : List String → List ℕ

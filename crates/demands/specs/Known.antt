@@ -4,9 +4,9 @@ use Prim.Native.Nat.{_-_, _^_}
 use Prim.Native.String.{String}
 use mathlib.Core.List.{List, [], _∷_, _++_}
 use lib.ListN.{replicate}
-use Rattle.switch.specs.Bridges.{nodes}
-use Rattle.circuit.specs.Circuit.{primary, outputOf, no-faults, list, joinLists}
-use Rattle.demands.specs.Files.{field, inputsField, typeField, edgeField, inverterFields, inverter, inverterUnder, inverterListed, inverterChoosing, nandUnder, inverterThenNand}
+use Rattle.switch.specs.Bridges.{nodes, input}
+use Rattle.circuit.specs.Circuit.{primary, outputOf, exhaustive, no-faults, list, joinLists}
+use Rattle.demands.specs.Files.{field, inputsField, typeField, edgeField, instanceField, inverterFields, inverter, inverterUnder, inverterListed, inverterChoosing, nandUnder, norUnder, inverterThenNand}
 use Rattle.demands.specs.Files.{nandOfOne, oneType, split, invertersOf, fourInstances, manyFaults}
 use Rattle.demands.specs.Claims.{Claim, reads, floats, refuses, short, sizes, leaves, grades, turns, reports, ends, label, AllHold}
 
@@ -137,6 +137,18 @@ known =
     ∷ grades (fourInstances ("00" ∷ "01" ∷ "10" ∷ "11" ∷ "X0" ∷ "0X" ∷ [])) 152 (record { vectors = 6; faults = 10; classes = 10; found = 9 })
     ("010100" ∷ "111110" ∷ "000100" ∷ "100000" ∷ "001000" ∷ "101100" ∷ "010100" ∷ "101010" ∷ "000000" ∷ "111110" ∷ [])
     (1 ∷ 2 ∷ 3 ∷ 4 ∷ 5 ∷ 6 ∷ 7 ∷ 8 ∷ 9 ∷ 10 ∷ [])
+    -- a NOR, whose output is above node 2: what lies between supply and the output is p-channel
+    ∷ reads (norUnder all-four) 1 (nodes 0 2) "1100"
+    ∷ reads (norUnder all-four) 1 (nodes 1 2) "0010"
+    ∷ reads (norUnder all-four) 1 (nodes 2 3) "0100"
+    ∷ floats (norUnder all-four) 1 2 4
+    -- one short listed three times, from either end: three rows of one class, ends as written
+    ∷ reports (inverterListed (nodes 2 0 ∷ nodes 0 2 ∷ nodes 2 0 ∷ []) ("0" ∷ "1" ∷ []))
+    ("vectors 2 faults 3 classes 1 found 1"
+    ∷ "1 n 2 0 1 10 1 1"
+    ∷ "1 n 0 2 1 10 1 1"
+    ∷ "1 n 2 0 1 10 1 1"
+    ∷ [])
     -- the refusals that are left: a file too long, tag 0, inputs twice, three bytes for the inputs, 65 inputs, a 17th type, an edge 2-2,
     -- a bridge of kind 2, choice -2, bridge 0-3 for an inverter, a list without bridges
     ∷ refuses (replicate 32769 0) 1 0
@@ -150,6 +162,25 @@ known =
     ∷ refuses (inputsField 1 ++ inverterFields ++ field 5 (1 ∷ 254 ∷ 0 ∷ 1 ∷ [])) 7 23
     ∷ refuses (inverterListed (nodes 0 3 ∷ []) ("0" ∷ [])) 11 30
     ∷ refuses (inverterChoosing (list 1)) 12 23
+    -- as many bytes as a file may have, and tag 0; a body one byte short; no inputs first; an edge 1-3 over the output 2
+    ∷ refuses (replicate 32768 0) 3 0
+    ∷ refuses (1 ∷ 0 ∷ 2 ∷ 1 ∷ []) 2 0
+    ∷ refuses (typeField 2 2 1) 4 0
+    ∷ refuses (inputsField 1 ++ typeField 3 2 1 ++ edgeField 1 3 (0 ∷ [])) 8 11
+    -- a type without edges is judged at the end, after 4 and before 5
+    ∷ refuses (inputsField 1 ++ typeField 2 2 1) 9 5
+    ∷ refuses (inputsField 1 ++ typeField 2 2 1 ++ inputsField 1) 4 11
+    ∷ refuses (inputsField 1 ++ typeField 2 2 1 ++ field 5 []) 9 5
+    -- an instance of no type, with a byte too many, with a reference too many, with an input too high, with a label too high in its list
+    ∷ refuses (inputsField 1 ++ instanceField 1 exhaustive (primary 1 ∷ [])) 7 5
+    ∷ refuses (inputsField 1 ++ inverterFields ++ field 5 (1 ∷ 255 ∷ 0 ∷ 1 ∷ 0 ∷ [])) 5 23
+    ∷ refuses (inputsField 1 ++ inverterFields ++ instanceField 1 exhaustive (primary 1 ∷ primary 1 ∷ [])) 10 23
+    ∷ refuses (invertersOf (primary 2 ∷ [])) 10 23
+    ∷ refuses (inverterListed (input 0 1 ∷ []) ("0" ∷ [])) 11 30
+    -- a vector byte 2; no instance; no vector
+    ∷ refuses (inverterUnder ("2" ∷ [])) 7 30
+    ∷ refuses (invertersOf []) 14 27
+    ∷ refuses (inverterUnder []) 14 30
     ∷ []
 
 -- all results of the table hold

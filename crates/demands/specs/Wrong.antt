@@ -1,10 +1,10 @@
 -- Wrong graders, each with its mistake and where that comes from, and the statement that it does not meet the promise of `grade`. Each is right in all else
 -- (specs/Graders, `rightly`). 01's last paragraph names those of the first part, its "Slips my class makes" those of the second, README those of the third.
 -- The proofs, on small files, are in proofs/WrongProof.
-use Prim.Native.Nat.{ℕ, zero, suc, _+_, _*_}
+use Prim.Native.Nat.{ℕ, zero, suc, _+_, _*_, min}
 use mathlib.Core.Bool.{Bool, true, false, cond, not, _&&_, _||_, Bool·beq}
 use mathlib.Core.List.{List, [], _∷_, _++_, map}
-use lib.Dec.{eqb, ltb}
+use lib.Dec.{eqb, leb, ltb}
 use lib.ListN.{length, getD}
 use Rattle.words.specs.Bits.{ofBool, pack}
 use Rattle.words.specs.Tables.{table, upTo}
@@ -44,7 +44,7 @@ refusesEvery file matrix classes =
 abbrev pub RefusesEveryIsWrong : Type 0
 RefusesEveryIsWrong = MeetsPromise refusesEvery → ⊥
 
--- grades a file that the table refuses: it never looks at the tests with one of the numbers
+-- grades a file that the table refuses: it never looks at the tests of a field or of the end of the file that have one of the numbers
 unfoldable pub without : ℕ → List Test → List Test
 without n [] = []
 without n (t ∷ ts) = let rest = without n ts in cond (eqb (t .number) n) rest (t ∷ rest)
@@ -117,7 +117,18 @@ unfoldable pub markedBy : (ℕ → ℕ → Bool) → (ℕ → Value) → Bridge 
 markedBy joined values (nodes a b) = joined a supply && joined b ground || joined a ground && joined b supply
 markedBy joined values (input m l) = labelMarked (values l) (joined m supply) (joined m ground)
 
--- slip 1: one sweep over the edges in file order; an on edge hands on from either end to the other
+-- slip 1: one sweep over the edges in node order, that of their lower nodes; an on edge hands on from either end to the other
+unfoldable pub lowerNode : Link → ℕ
+lowerNode w = min (w .0) (w .1)
+
+unfoldable pub putIn : Link → List Link → List Link
+putIn w [] = w ∷ []
+putIn w (u ∷ us) = let later = putIn w us in cond (leb (lowerNode w) (lowerNode u)) (w ∷ u ∷ us) (u ∷ later)
+
+unfoldable pub inNodeOrder : List Link → List Link
+inNodeOrder [] = []
+inNodeOrder (w ∷ ws) = putIn w (inNodeOrder ws)
+
 unfoldable pub isAmong : ℕ → List ℕ → Bool
 isAmong m reached = anyOf (eqb m) reached
 
@@ -129,7 +140,9 @@ swept [] reached = reached
 swept (w ∷ ws) reached = swept ws (handedOn w reached)
 
 unfoldable pub sweepsOnce : Grader
-sweepsOnce = marking (marksBy λ (t : ModuleType) (values : ℕ → Value). markedBy (λ (m rail : ℕ). isAmong m (swept (linksOf t values) (rail ∷ []))) values)
+sweepsOnce =
+    marking (marksBy λ (t : ModuleType) (values : ℕ → Value).
+    markedBy (λ (m rail : ℕ). isAmong m (swept (inNodeOrder (linksOf t values)) (rail ∷ []))) values)
 
 abbrev pub SweepsOnceIsWrong : Type 0
 SweepsOnceIsWrong = MeetsPromise sweepsOnce → ⊥
@@ -190,7 +203,8 @@ countsRows =
 abbrev pub CountsRowsIsWrong : Type 0
 CountsRowsIsWrong = MeetsPromise countsRows → ⊥
 
--- slip 5: vectors that spill from one word into the next. A word of 63, as of a signed number: the 64th vector stands in the next word
+-- slip 5: vectors that spill from one word into the next. A word of 63, as of a signed number: the 64th vector stands in the next word,
+-- and vectors 253 to 256 vanish
 unfoldable pub packed63 : Packing
 packed63 vectors f = table 4 (λ (w : ℕ). pack 63 (λ (v : ℕ). upTo vectors f (63 * w + v)))
 

@@ -69,19 +69,30 @@ floatsIn (refused number place) n m v = false
 abbrev pub refusalIn : Grading → ℕ × ℕ
 refusalIn grading = (numberIn grading, placeIn grading)
 
--- the numbers of rows and of classes
-abbrev pub sizesIn : Grading → ℕ × ℕ
-sizesIn grading = (countsIn grading .faults, countsIn grading .classes)
+-- a refusal's number, 0 where there is none, and the numbers of rows and of classes
+abbrev pub sizesIn : Grading → ℕ × ℕ × ℕ
+sizesIn grading = (numberIn grading, countsIn grading .faults, countsIn grading .classes)
 
--- a whole grading: the file's size, the counts, and what is written into the buffers
+-- a refusal's number, and what is written into the matrix
+abbrev pub wordsIn : Grading → ℕ × List ℕ
+wordsIn grading = (numberIn grading, matrixAfter grading [])
+
+-- a whole grading: the file's size, a refusal's number, the counts, and what is written into the buffers
 pub record Whole : Type 0 where
   pub size : ℕ
+  pub number : ℕ
   pub counts : Counts
   pub words : List ℕ
   pub classes : List ℕ
 
 abbrev pub wholeOf : List ℕ → Grading → Whole
-wholeOf file grading = record { size = length file; counts = countsIn grading; words = matrixAfter grading []; classes = classesAfterGrading grading [] }
+wholeOf file grading = record {
+  size = length file;
+  number = numberIn grading;
+  counts = countsIn grading;
+  words = matrixAfter grading [];
+  classes = classesAfterGrading grading [];
+}
 
 -- both buffers after the grading of a file
 abbrev pub buffersAfter : List ℕ → List ℕ → List ℕ → List ℕ × List ℕ
@@ -115,11 +126,11 @@ pub data Claim : Type 0 where
   refuses : List ℕ → ℕ → ℕ → Claim
   -- the same with so many words for the matrix and entries for the classes; 0 at 0 where it is not refused
   short : List ℕ → ℕ → ℕ → ℕ → ℕ → Claim
-  -- a file is graded: rows, classes
+  -- a file is graded, not refused: rows, classes
   sizes : List ℕ → ℕ → ℕ → Claim
-  -- a file is graded and its rows' words are these
+  -- a file is graded, not refused, and its rows' words are these
   leaves : List ℕ → List ℕ → Claim
-  -- a file of so many bytes is graded: the four counts, the marks of each row, the class of each row
+  -- a file of so many bytes is graded, not refused: the four counts, the marks of each row, the class of each row
   grades : List ℕ → ℕ → Counts → List String → List ℕ → Claim
   -- a file's grading turns these buffers, a matrix and one for classes, into those
   turns : List ℕ → List ℕ → List ℕ → List ℕ → List ℕ → Claim
@@ -135,11 +146,11 @@ Holds (reads file n bridge marks) = marksIn (graded-whole file) n bridge ≡ dig
 Holds (floats file n m v) = floatsIn (graded-whole file) n m v ≡ true
 Holds (refuses file number place) = graded-whole file ≡ refused number place
 Holds (short file words entries number place) = refusalIn (gradingOf file words entries) ≡ (number, place)
-Holds (sizes file rows classes) = sizesIn (graded-whole file) ≡ (rows, classes)
-Holds (leaves file words) = matrixAfter (graded-whole file) [] ≡ words
+Holds (sizes file rows classes) = sizesIn (graded-whole file) ≡ (0, rows, classes)
+Holds (leaves file words) = wordsIn (graded-whole file) ≡ (0, words)
 Holds (grades file size counts marks classes) =
     wholeOf file (graded-whole file)
-    ≡ record { size = size; counts = counts; words = joinLists (map (λ (text : String). four (wordOf text)) marks); classes = classes }
+    ≡ record { size = size; number = 0; counts = counts; words = joinLists (map (λ (text : String). four (wordOf text)) marks); classes = classes }
 Holds (turns file matrix classes matrix′ classes′) = buffersAfter file matrix classes ≡ (matrix′, classes′)
 Holds (reports file lines) = reportOf (graded-whole file) ≡ bytesOfLines lines
 Holds (ends supply-a ground-a supply-b ground-b marks) =

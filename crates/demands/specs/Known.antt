@@ -149,7 +149,7 @@ known =
     ∷ "1 n 0 2 1 10 1 1"
     ∷ "1 n 2 0 1 10 1 1"
     ∷ [])
-    -- the refusals that are left: a file too long, tag 0, inputs twice, three bytes for the inputs, 65 inputs, a 17th type, an edge 2-2,
+    -- more refusals, so that each number is here: a file too long, tag 0, inputs twice, three bytes for the inputs, 65 inputs, a 17th type, an edge 2-2,
     -- a bridge of kind 2, choice -2, bridge 0-3 for an inverter, a list without bridges
     ∷ refuses (replicate 32769 0) 1 0
     ∷ refuses (0 ∷ 0 ∷ 0 ∷ []) 3 0
@@ -167,7 +167,7 @@ known =
     ∷ refuses (1 ∷ 0 ∷ 2 ∷ 1 ∷ []) 2 0
     ∷ refuses (typeField 2 2 1) 4 0
     ∷ refuses (inputsField 1 ++ typeField 3 2 1 ++ edgeField 1 3 (0 ∷ [])) 8 11
-    -- a type without edges is judged at the end, after 4 and before 5
+    -- a type without edges: judged at the end of the file, or at a later field after 4 and before 5
     ∷ refuses (inputsField 1 ++ typeField 2 2 1) 9 5
     ∷ refuses (inputsField 1 ++ typeField 2 2 1 ++ inputsField 1) 4 11
     ∷ refuses (inputsField 1 ++ typeField 2 2 1 ++ field 5 []) 9 5

@@ -1,4 +1,5 @@
--- 01, "The report": one first line, then a line for each row; a refusal prints only its own. The lines themselves are those of the crate `report`.
+-- What a whole report is, by definition (01, "The report"): one first line, then a line for each row; a refusal prints only its own. The lines themselves are
+-- those of the crate `report`, which is proved to write them; that the program prints all of them in this order is not proved: the tests compare its output.
 use Prim.Native.Nat.{ℕ}
 use mathlib.Core.List.{List, [], _∷_, _++_}
 use lib.ListN.{length}

@@ -142,8 +142,8 @@ ClassesCountOnce = (call : Call) (c : Circuit) → GradedAs call c → ClassesTe
 
 -- ---- a bridge named once more
 
--- the second circuit has one bridge field more, anywhere among the others, and for each instance that chose its list it is equal to a bridge that the list has:
--- the same nodes from the other end, or the same node with a label of equal reference
+-- the second circuit has one bridge field more, anywhere among the others. Its list has a bridge that for each instance that chose the list is
+-- equal to it, for instance named from the other end, or the same node with a label of equal reference
 pub record NamedAgain (c d : Circuit) : Type 0 where
   pub inputs : c .inputs ≡ d .inputs
   pub types : c .types ≡ d .types

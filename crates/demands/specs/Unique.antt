@@ -1,5 +1,6 @@
 -- Two outcomes that meet the promise of a public function are equal: its answer, and what it was lent as it is at exit. A field for each public function of each
--- library, under its name, with its `ensures` clause word for word; .ci/parts/7-statements holds the two together. What clauses leave open is in docs/OPEN.md.
+-- library, save those that docs/OPEN.md lists with what their clauses leave open, under its name, with its `ensures` clause word for word;
+-- .ci/parts/7-statements holds the two together.
 use Prim.Native.Nat.{ℕ, _+_, _*_, _≤_, min}
 use mathlib.Core.Path.{_≡_}
 use mathlib.Core.Bool.{Bool}

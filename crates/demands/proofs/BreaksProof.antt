@@ -8,38 +8,29 @@ use native.Mathlib.Omega.{arith}
 use native.Mathlib.Decide.{ℕ-discrete}
 use native.Mathlib.Nat.{add-zero}
 use lib.Dec.{T, leb, ltb, leb→le}
-use lib.ListN.{length}
+use lib.ListN.{length, getD}
 use Rattle.words.specs.Bits.{ofBool, sumTo}
 use Rattle.switch.specs.Bridges.{nodes}
 use Rattle.circuit.specs.Circuit.{Circuit}
 use Rattle.circuit.specs.Records.{emptyCircuit}
+use Rattle.circuit.specs.Answers as reading
 use Rattle.circuit.specs.Reading.{Reading, accepted, refusal, readingOf}
 use Rattle.grading.specs.Rows.{rowsOf, cell}
 use Rattle.grading.specs.Promise.{countsOf}
 use Rattle.grading.proofs.RowLaws.{noRow}
-use Rattle.demands.specs.Calls.{Call, isGraded, cellAt, classAt}
+use Rattle.demands.specs.Calls.{Call, isGraded, Refuses, cellAt, classAt}
 use Rattle.demands.specs.One.{bufferTests, testsFrom, tableOf, passed}
 use Rattle.demands.specs.Two.{vectorOf, rowAt, EqualBridges, OneClass, Found}
 use Rattle.demands.specs.Files.{inverter, inverterUnder, inverterListed, nandListed, nandOfOne, oneListed, nand3Fields, split}
 use Rattle.demands.specs.Graders.{Grader, called}
-use Rattle.demands.specs.Wrong.{marksAll, marksNever, leavesMatrix, firstWordOnly, inventsFound, sweepsOnce, onePlane, marksFloating, countsRows, spills, goesOn}
+use Rattle.demands.specs.Wrong.{marksAll, marksNever, leavesMatrix, firstWordOnly, inventsFound, sweepsOnce, onePlane, marksFloating, countsRows, spills, wraps, goesOn}
 use Rattle.demands.specs.Wrong.{watchesOutputs, holdsLevels, countsTwice, countsLabels, readsXAsZero}
 use Rattle.demands.specs.Breaks.{MeetsCells, MeetsClasses, BreakDemandOne, BreakDemandTwo}
 use Rattle.demands.proofs.Cells.{cell-decides}
 use Rattle.demands.proofs.Computing.{room, entries}
-use Rattle.demands.proofs.WrongProof.{wrong-computing, many, listedTwice, Differ, apart}
+use Rattle.demands.proofs.WrongProof.{wrong-computing, many, lastOnly, listedTwice, ones, Differ, apart}
 
--- ---- demand 1: graded exactly when no test of the table applies
-
-pub break-demand-one : BreakDemandOne
-unfolding wrong-computing isGraded bufferTests testsFrom tableOf passed
-break-demand-one = record {
-  refuses-every = λ meets. meets inverter room entries .graded-when-none-applies .1 tt;
-  skips-nine = λ meets. meets split room entries .graded-when-none-applies .0 tt;
-  skips-fourteen = λ meets. meets (inverterUnder []) room entries .graded-when-none-applies .0 tt;
-}
-
--- ---- demand 2: the call of a grader for a file, and the circuit that the file tells
+-- ---- the call of a grader for a file, and the circuit that the file tells
 
 abbrev callFor : Grader → List ℕ → Call
 callFor grader file = called grader file room entries
@@ -50,6 +41,24 @@ toldBy (refusal number place) = emptyCircuit
 
 abbrev circuitOf : List ℕ → Circuit
 circuitOf file = toldBy (readingOf file)
+
+-- ---- demand 1: graded exactly when no test of the table applies, and what a call leaves as it was
+
+-- the word at a place of a list
+abbrev wordAt : ℕ → List ℕ → ℕ
+wordAt i words = getD words i 0
+
+pub break-demand-one : BreakDemandOne
+unfolding wrong-computing toldBy isGraded bufferTests testsFrom tableOf passed Refuses reading.placeOf
+break-demand-one = record {
+  refuses-every = λ meets. meets inverter room entries .graded-when-none-applies .1 tt;
+  skips-nine = λ meets. meets split room entries .graded-when-none-applies .0 tt;
+  skips-fourteen = λ meets. meets (inverterUnder []) room entries .graded-when-none-applies .0 tt;
+  clears-first = λ meets. apart 0 1 refl (ap (wordAt 0) (meets [] ones entries .refusal-keeps-the-matrix 14 0 (refl, refl)));
+  writes-past = λ meets. apart 0 1 refl (ap (wordAt 0) (meets inverter ones entries (circuitOf inverter) refl tt .words));
+}
+
+-- ---- demand 2
 
 -- the file is accepted and the grader grades it
 abbrev Grades : Grader → List ℕ → Type 0
@@ -163,6 +172,7 @@ record Cells : Type 0 where
   one-plane : CellWrong onePlane inverter 4 2
   marks-floating : CellWrong marksFloating (nandListed (nodes 2 3 ∷ []) ("00" ∷ [])) 0 0
   spills-63 : CellWrong spills many 0 63
+  wraps-65 : CellWrong wraps lastOnly 0 0
   goes-on : MarkPast goesOn inverter 0 3
   watches-outputs : CellWrong watchesOutputs (nandListed (nodes 1 3 ∷ []) ("01" ∷ [])) 0 0
   holds-levels : CellWrong holdsLevels (nandListed (nodes 2 3 ∷ []) ("01" ∷ "00" ∷ [])) 0 1
@@ -181,6 +191,7 @@ cells = record {
   one-plane = ((refl, tt), tt, tt, refl);
   marks-floating = ((refl, tt), tt, tt, refl);
   spills-63 = ((refl, tt), tt, tt, refl);
+  wraps-65 = ((refl, tt), tt, tt, refl);
   goes-on = ((refl, tt), tt, tt, tt, refl);
   watches-outputs = ((refl, tt), tt, tt, refl);
   holds-levels = ((refl, tt), tt, tt, refl);
@@ -222,6 +233,7 @@ break-demand-two = record {
   one-plane = by-cell _ _ _ _ (cells .one-plane);
   marks-floating = by-cell _ _ _ _ (cells .marks-floating);
   spills = by-cell _ _ _ _ (cells .spills-63);
+  wraps = by-cell _ _ _ _ (cells .wraps-65);
   goes-on = by-past _ _ _ _ (cells .goes-on);
   watches-outputs = by-cell _ _ _ _ (cells .watches-outputs);
   holds-levels = by-cell _ _ _ _ (cells .holds-levels);

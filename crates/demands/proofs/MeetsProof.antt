@@ -14,7 +14,7 @@ use Rattle.demands.specs.Graders.{Work, outcomeOf, gradesBy, rightWork, 
 use Rattle.demands.specs.Wrong.{marksAll, marksNever}
 use Rattle.demands.specs.Breaks.{MeetsOne, RightlyMeetsAll, MeetDemandOne}
 use Rattle.demands.proofs.GradingVerdicts.{answered, answer-is}
-use Rattle.demands.proofs.OneProof.{ByTheTable, one-by-the-table, one-holds}
+use Rattle.demands.proofs.OneProof.{ByTheTable, one-by-the-table, one-holds, grading-keeps-the-rest}
 use Rattle.demands.proofs.Cells.{cell-is-path}
 use Rattle.demands.proofs.ClassCounts.{classes-count-once}
 use Rattle.demands.proofs.RightProof.{rightly-is-right}
@@ -28,6 +28,7 @@ right-as file matrix classes c accepts is-graded = record { kept = rightly-is-ri
 pub rightly-meets-all : RightlyMeetsAll
 rightly-meets-all = record {
   one = λ file matrix classes. one-holds (called rightly file matrix classes) (rightly-is-right file matrix classes);
+  rest = λ file matrix classes c e g. grading-keeps-the-rest (called rightly file matrix classes) c (right-as file matrix classes c e g);
   cells = λ file matrix classes c e g. cell-is-path (called rightly file matrix classes) c (right-as file matrix classes c e g);
   classes = λ file matrix classes c e g. classes-count-once (called rightly file matrix classes) c (right-as file matrix classes c e g);
 }

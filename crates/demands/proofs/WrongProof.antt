@@ -2,22 +2,23 @@
 use Prim.Native.Nat.{ℕ}
 use mathlib.Core.Path.{_≡_, refl, ap, subst}
 use mathlib.Core.Bool.{false}
-use mathlib.Core.List.{List, [], _∷_}
+use mathlib.Core.List.{List, [], _∷_, _++_}
 use lib.Dec.{T, eqb, eqb-refl}
-use lib.ListN.{getD, replicate}
+use lib.ListN.{length, getD, replicate}
 use Rattle.switch.specs.Bridges.{nodes}
 use Rattle.grading.specs.Grading.{Counts, Grading, gradingOf, countsIn, numberIn, matrixAfter, classesAfterGrading}
 use Rattle.grading.specs.Promise as promise
+use Rattle.demands.specs.Calls.{isGraded}
 use Rattle.demands.specs.Files.{inverter, inverterUnder, inverterListed, nandListed, nandOfOne, oneListed, nand3Fields, split}
 use Rattle.demands.specs.Graders.{Grader, MeetsPromise}
 use Rattle.demands.specs.Wrong.{refusesEvery, without, readWithout, skips, marksAll, marksNever, leavesMatrix, firstWordOnly, inventsFound}
 use Rattle.demands.specs.Wrong.{labelMarked, markedBy, lowerNode, putIn, inNodeOrder, isAmong, handedOn, swept, sweepsOnce, isOne, unlike, onePlaneMarked, onePlane}
-use Rattle.demands.specs.Wrong.{levelIn, isZero, sameLevel, unequalEnds, marksFloating, rowsFound, countsRows, packed63, spills, goesOn}
+use Rattle.demands.specs.Wrong.{levelIn, isZero, sameLevel, unequalEnds, marksFloating, rowsFound, countsRows, packed63, spills, packedFirst, wraps, goesOn}
 use Rattle.demands.specs.Wrong.{changesOutput, watchesOutputs, held, rowValuesAt, levelAt, heldLevel, opposed, heldMarked, holdsLevels}
-use Rattle.demands.specs.Wrong.{sameAsWritten, countsTwice, sameLabelToo, countsLabels, zeroForX, zeroed, readsXAsZero}
+use Rattle.demands.specs.Wrong.{sameAsWritten, countsTwice, sameLabelToo, countsLabels, zeroForX, zeroed, readsXAsZero, clearingNext, writesPast, clearsFirst}
 use Rattle.demands.specs.Wrong.{RefusesEveryIsWrong, SkipsNineIsWrong, SkipsFourteenIsWrong, MarksAllIsWrong, MarksNeverIsWrong, LeavesMatrixIsWrong, FirstWordOnlyIsWrong, InventsFoundIsWrong}
-use Rattle.demands.specs.Wrong.{SweepsOnceIsWrong, OnePlaneIsWrong, MarksFloatingIsWrong, CountsRowsIsWrong, SpillsIsWrong, GoesOnIsWrong}
-use Rattle.demands.specs.Wrong.{WatchesOutputsIsWrong, HoldsLevelsIsWrong, CountsTwiceIsWrong, CountsLabelsIsWrong, ReadsXAsZeroIsWrong}
+use Rattle.demands.specs.Wrong.{SweepsOnceIsWrong, OnePlaneIsWrong, MarksFloatingIsWrong, CountsRowsIsWrong, SpillsIsWrong, WrapsIsWrong, GoesOnIsWrong}
+use Rattle.demands.specs.Wrong.{WatchesOutputsIsWrong, HoldsLevelsIsWrong, CountsTwiceIsWrong, CountsLabelsIsWrong, ReadsXAsZeroIsWrong, WritesPastIsWrong, ClearsFirstIsWrong}
 use Rattle.demands.proofs.Computing.{grader-computing, room, entries}
 
 -- what the wrong graders compute with
@@ -25,9 +26,9 @@ unfoldable pub wrong-computing : Unit {0}
 unfolding grader-computing
     refusesEvery without readWithout skips marksAll marksNever leavesMatrix firstWordOnly inventsFound
     labelMarked markedBy lowerNode putIn inNodeOrder isAmong handedOn swept sweepsOnce isOne unlike onePlaneMarked onePlane
-    levelIn isZero sameLevel unequalEnds marksFloating rowsFound countsRows packed63 spills goesOn
+    levelIn isZero sameLevel unequalEnds marksFloating rowsFound countsRows packed63 spills packedFirst wraps goesOn
     changesOutput watchesOutputs held rowValuesAt levelAt heldLevel opposed heldMarked holdsLevels
-    sameAsWritten countsTwice sameLabelToo countsLabels zeroForX zeroed readsXAsZero
+    sameAsWritten countsTwice sameLabelToo countsLabels zeroForX zeroed readsXAsZero isGraded clearingNext writesPast clearsFirst
 wrong-computing = tt
 
 -- ---- where an outcome differs from the promise, the promise is not met
@@ -44,8 +45,13 @@ apart a b differ e = subst T differ (subst (λ (n : ℕ). T (eqb a n)) e (eqb-re
 abbrev NumberDiffers : Grader → List ℕ → Type 0
 NumberDiffers grader file = Differ (promise.numberOf (grader file room entries .answer)) (numberIn (meant file))
 
+-- in a matrix that held these words
+abbrev WordDiffersIn : List ℕ → Grader → List ℕ → ℕ → Type 0
+WordDiffersIn matrix grader file i =
+    Differ (getD (grader file matrix entries .matrix) i 0) (getD (matrixAfter (gradingOf file (length matrix) 16) matrix) i 0)
+
 abbrev WordDiffers : Grader → List ℕ → ℕ → Type 0
-WordDiffers grader file i = Differ (getD (grader file room entries .matrix) i 0) (getD (matrixAfter (meant file) room) i 0)
+WordDiffers = WordDiffersIn room
 
 abbrev ClassDiffers : Grader → List ℕ → ℕ → Type 0
 ClassDiffers grader file i = Differ (getD (grader file room entries .classes) i 0) (getD (classesAfterGrading (meant file) entries) i 0)
@@ -56,8 +62,8 @@ FoundDiffers grader file = Differ (promise.countsOf (grader file room entries .a
 by-number : (grader : Grader) (file : List ℕ) → NumberDiffers grader file → MeetsPromise grader → ⊥
 by-number grader file differ meets = apart _ _ differ (meets file room entries .number)
 
-by-word : (grader : Grader) (file : List ℕ) (i : ℕ) → WordDiffers grader file i → MeetsPromise grader → ⊥
-by-word grader file i differ meets = apart _ _ differ (ap (λ (words : List ℕ). getD words i 0) (meets file room entries .matrix-at-exit))
+by-word : (matrix : List ℕ) (grader : Grader) (file : List ℕ) (i : ℕ) → WordDiffersIn matrix grader file i → MeetsPromise grader → ⊥
+by-word matrix grader file i differ meets = apart _ _ differ (ap (λ (words : List ℕ). getD words i 0) (meets file matrix entries .matrix-at-exit))
 
 by-class : (grader : Grader) (file : List ℕ) (i : ℕ) → ClassDiffers grader file i → MeetsPromise grader → ⊥
 by-class grader file i differ meets = apart _ _ differ (ap (λ (classes : List ℕ). getD classes i 0) (meets file room entries .classes-at-exit))
@@ -65,11 +71,18 @@ by-class grader file i differ meets = apart _ _ differ (ap (λ (classes : List �
 by-found : (grader : Grader) (file : List ℕ) → FoundDiffers grader file → MeetsPromise grader → ⊥
 by-found grader file differ meets = apart _ _ differ (ap (λ (counts : Counts). counts .found) (meets file room entries .counts))
 
--- ---- the files
+-- ---- the files, and a matrix that is not zeros
+
+abbrev pub ones : List ℕ
+ones = replicate 64 1
 
 -- 65 vectors, one row that is always marked
 abbrev pub many : List ℕ
 many = inverterListed (nodes 0 1 ∷ []) (replicate 65 "0")
+
+-- 65 vectors, one row that the last alone marks
+abbrev pub lastOnly : List ℕ
+lastOnly = inverterListed (nodes 0 2 ∷ []) (replicate 64 "1" ++ ("0" ∷ []))
 
 -- one short, listed from both ends
 abbrev pub listedTwice : List ℕ
@@ -95,6 +108,7 @@ record Computed : Type 0 where
   marks-floating : WordDiffers marksFloating (nandListed (nodes 2 3 ∷ []) ("00" ∷ [])) 0
   counts-rows : FoundDiffers countsRows listedTwice
   spills-63 : WordDiffers spills many 0
+  wraps-65 : WordDiffers wraps lastOnly 0
   goes-on : WordDiffers goesOn inverter 0
   -- under 01 a leak runs from supply over 1-3 to ground, and the output stays 1
   watches-outputs : WordDiffers watchesOutputs (nandListed (nodes 1 3 ∷ []) ("01" ∷ [])) 0
@@ -104,6 +118,9 @@ record Computed : Type 0 where
   -- node 0 with label 0, then with label 1: rows 6 and 7
   counts-labels : ClassDiffers countsLabels (nandOfOne ("0" ∷ [])) 7
   reads-x-as-zero : WordDiffers readsXAsZero inverter 4
+  -- the inverter has 24 words
+  writes-past : WordDiffersIn ones writesPast inverter 24
+  clears-first : WordDiffersIn ones clearsFirst [] 0
 
 computed : Computed
 unfolding wrong-computing
@@ -121,12 +138,15 @@ computed = record {
   marks-floating = refl;
   counts-rows = refl;
   spills-63 = refl;
+  wraps-65 = refl;
   goes-on = refl;
   watches-outputs = refl;
   holds-levels = refl;
   counts-twice = refl;
   counts-labels = refl;
   reads-x-as-zero = refl;
+  writes-past = refl;
+  clears-first = refl;
 }
 
 -- ---- so each is wrong
@@ -141,43 +161,46 @@ pub skips-fourteen-is-wrong : SkipsFourteenIsWrong
 skips-fourteen-is-wrong = by-number _ _ (computed .skips-14)
 
 pub marks-all-is-wrong : MarksAllIsWrong
-marks-all-is-wrong = by-word _ _ _ (computed .marks-all)
+marks-all-is-wrong = by-word room _ _ _ (computed .marks-all)
 
 pub marks-never-is-wrong : MarksNeverIsWrong
-marks-never-is-wrong = by-word _ _ _ (computed .marks-never)
+marks-never-is-wrong = by-word room _ _ _ (computed .marks-never)
 
 pub leaves-matrix-is-wrong : LeavesMatrixIsWrong
-leaves-matrix-is-wrong = by-word _ _ _ (computed .leaves-matrix)
+leaves-matrix-is-wrong = by-word room _ _ _ (computed .leaves-matrix)
 
 pub first-word-only-is-wrong : FirstWordOnlyIsWrong
-first-word-only-is-wrong = by-word _ _ _ (computed .first-word-only)
+first-word-only-is-wrong = by-word room _ _ _ (computed .first-word-only)
 
 pub invents-found-is-wrong : InventsFoundIsWrong
 invents-found-is-wrong = by-found _ _ (computed .invents-found)
 
 pub sweeps-once-is-wrong : SweepsOnceIsWrong
-sweeps-once-is-wrong = by-word _ _ _ (computed .sweeps-once)
+sweeps-once-is-wrong = by-word room _ _ _ (computed .sweeps-once)
 
 pub one-plane-is-wrong : OnePlaneIsWrong
-one-plane-is-wrong = by-word _ _ _ (computed .one-plane)
+one-plane-is-wrong = by-word room _ _ _ (computed .one-plane)
 
 pub marks-floating-is-wrong : MarksFloatingIsWrong
-marks-floating-is-wrong = by-word _ _ _ (computed .marks-floating)
+marks-floating-is-wrong = by-word room _ _ _ (computed .marks-floating)
 
 pub counts-rows-is-wrong : CountsRowsIsWrong
 counts-rows-is-wrong = by-found _ _ (computed .counts-rows)
 
 pub spills-is-wrong : SpillsIsWrong
-spills-is-wrong = by-word _ _ _ (computed .spills-63)
+spills-is-wrong = by-word room _ _ _ (computed .spills-63)
+
+pub wraps-is-wrong : WrapsIsWrong
+wraps-is-wrong = by-word room _ _ _ (computed .wraps-65)
 
 pub goes-on-is-wrong : GoesOnIsWrong
-goes-on-is-wrong = by-word _ _ _ (computed .goes-on)
+goes-on-is-wrong = by-word room _ _ _ (computed .goes-on)
 
 pub watches-outputs-is-wrong : WatchesOutputsIsWrong
-watches-outputs-is-wrong = by-word _ _ _ (computed .watches-outputs)
+watches-outputs-is-wrong = by-word room _ _ _ (computed .watches-outputs)
 
 pub holds-levels-is-wrong : HoldsLevelsIsWrong
-holds-levels-is-wrong = by-word _ _ _ (computed .holds-levels)
+holds-levels-is-wrong = by-word room _ _ _ (computed .holds-levels)
 
 pub counts-twice-is-wrong : CountsTwiceIsWrong
 counts-twice-is-wrong = by-class _ _ _ (computed .counts-twice)
@@ -186,4 +209,10 @@ pub counts-labels-is-wrong : CountsLabelsIsWrong
 counts-labels-is-wrong = by-class _ _ _ (computed .counts-labels)
 
 pub reads-x-as-zero-is-wrong : ReadsXAsZeroIsWrong
-reads-x-as-zero-is-wrong = by-word _ _ _ (computed .reads-x-as-zero)
+reads-x-as-zero-is-wrong = by-word room _ _ _ (computed .reads-x-as-zero)
+
+pub writes-past-is-wrong : WritesPastIsWrong
+writes-past-is-wrong = by-word ones _ _ _ (computed .writes-past)
+
+pub clears-first-is-wrong : ClearsFirstIsWrong
+clears-first-is-wrong = by-word ones _ _ _ (computed .clears-first)

@@ -6,15 +6,21 @@ use mathlib.Core.List.{List}
 use lib.Dec.{T}
 use Rattle.circuit.specs.Circuit.{Circuit}
 use Rattle.demands.specs.Calls.{Accepts, isGraded}
-use Rattle.demands.specs.One.{One}
+use Rattle.demands.specs.One.{One, RestKept}
 use Rattle.demands.specs.Two.{CellsTell, ClassesTell}
 use Rattle.demands.specs.Graders.{Grader, called, Work, gradesBy, rightly}
-use Rattle.demands.specs.Wrong.{refusesEvery, skips, marksAll, marksNever, leavesMatrix, firstWordOnly, inventsFound, sweepsOnce, onePlane, marksFloating, countsRows, spills, goesOn}
-use Rattle.demands.specs.Wrong.{watchesOutputs, holdsLevels, countsTwice, countsLabels, readsXAsZero}
+use Rattle.demands.specs.Wrong.{refusesEvery, skips, marksAll, marksNever, leavesMatrix, firstWordOnly, inventsFound, sweepsOnce, onePlane, marksFloating, countsRows, spills, wraps, goesOn}
+use Rattle.demands.specs.Wrong.{watchesOutputs, holdsLevels, countsTwice, countsLabels, readsXAsZero, writesPast, clearsFirst}
 
 -- demand 1 holds of every call
 abbrev pub MeetsOne : Grader → Type 0
 MeetsOne grader = (file matrix classes : List ℕ) → One (called grader file matrix classes)
+
+-- and what it says of a grading: past the answer both buffers are as they were
+abbrev pub MeetsRest : Grader → Type 0
+MeetsRest grader =
+    (file matrix classes : List ℕ) (c : Circuit) → Accepts file c → T (isGraded (grader file matrix classes .answer))
+    → RestKept (called grader file matrix classes) c
 
 -- demand 2, its cells and its classes, holds of every call that graded
 abbrev pub MeetsCells : Grader → Type 0
@@ -30,6 +36,7 @@ MeetsClasses grader =
 -- the right grader meets all of them
 pub record RightlyMeetsAll : Type 0 where
   pub one : MeetsOne rightly
+  pub rest : MeetsRest rightly
   pub cells : MeetsCells rightly
   pub classes : MeetsClasses rightly
 
@@ -43,6 +50,8 @@ pub record BreakDemandOne : Type 0 where
   pub refuses-every : MeetsOne refusesEvery → ⊥
   pub skips-nine : MeetsOne (skips 9) → ⊥
   pub skips-fourteen : MeetsOne (skips 14) → ⊥
+  pub clears-first : MeetsOne clearsFirst → ⊥
+  pub writes-past : MeetsRest writesPast → ⊥
 
 pub record BreakDemandTwo : Type 0 where
   pub marks-all : MeetsCells marksAll → ⊥
@@ -53,6 +62,7 @@ pub record BreakDemandTwo : Type 0 where
   pub one-plane : MeetsCells onePlane → ⊥
   pub marks-floating : MeetsCells marksFloating → ⊥
   pub spills : MeetsCells spills → ⊥
+  pub wraps : MeetsCells wraps → ⊥
   pub goes-on : MeetsCells goesOn → ⊥
   pub watches-outputs : MeetsCells watchesOutputs → ⊥
   pub holds-levels : MeetsCells holdsLevels → ⊥

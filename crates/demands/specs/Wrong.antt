@@ -1,12 +1,13 @@
 -- Wrong graders, each with its mistake and where that comes from, and the statement that it does not meet the promise of `grade`. Each is right in all else
--- (specs/Graders, `rightly`). 01's last paragraph names those of the first part, its "Slips my class makes" those of the second, README those of the third.
+-- (specs/Graders, `rightly`). 01's last paragraph names those of the first part, its "Slips my class makes" those of the second, README those of the third;
+-- those of the fourth break 01's rules on lent memory.
 -- The proofs, on small files, are in proofs/WrongProof.
 use Prim.Native.Nat.{ℕ, zero, suc, _+_, _*_, min}
 use mathlib.Core.Bool.{Bool, true, false, cond, not, _&&_, _||_, Bool·beq}
 use mathlib.Core.List.{List, [], _∷_, _++_, map}
 use lib.Dec.{eqb, leb, ltb}
-use lib.ListN.{length, getD}
-use Rattle.words.specs.Bits.{ofBool, pack}
+use lib.ListN.{length, getD, take, replicate}
+use Rattle.words.specs.Bits.{ofBool, pack, sumTo}
 use Rattle.words.specs.Tables.{table, upTo}
 use Rattle.words.specs.Rows.{rowOf}
 use Rattle.switch.specs.Conduction.{Value, at0, at1, atX, Link, anyOf, ground, supply}
@@ -24,7 +25,8 @@ use Rattle.grading.specs.Rows.{Row, rowsOf, rowValues, markOf}
 use Rattle.grading.specs.Classes.{sameClass}
 use Rattle.grading.specs.Grading.{Grading, graded, refused, gradingOf, afterReading}
 use Rattle.grading.specs.declared.Answer.{Answer}
-use Rattle.demands.specs.Graders.{Grader, MeetsPromise, refusing, outcomeOf, gradesBy, hasMarkBy, Packing, workBy, marksBy, rightWork}
+use Rattle.demands.specs.Calls.{isGraded}
+use Rattle.demands.specs.Graders.{Grader, MeetsPromise, refusing, Work, outcomeOf, gradesBy, hasMarkBy, Packing, workBy, marksBy, rightWork, rightly}
 
 -- only the marks are wrong
 abbrev pub marking : (Circuit → Row → ℕ → ℕ) → Grader
@@ -214,6 +216,16 @@ spills = gradesBy (workBy packed63 markOf sameClass)
 abbrev pub SpillsIsWrong : Type 0
 SpillsIsWrong = MeetsPromise spills → ⊥
 
+-- one whose 65th vector lands on bit 0 of word 0: all stand in the first word
+unfoldable pub packedFirst : Packing
+packedFirst vectors f = pack 64 (λ (v : ℕ). ofBool (ltb 0 (sumTo 4 (λ (w : ℕ). upTo vectors f (64 * w + v))))) ∷ 0 ∷ 0 ∷ 0 ∷ []
+
+unfoldable pub wraps : Grader
+wraps = gradesBy (workBy packedFirst markOf sameClass)
+
+abbrev pub WrapsIsWrong : Type 0
+WrapsIsWrong = MeetsPromise wraps → ⊥
+
 -- and one whose marks go on past the last vector, where every input is X: 0-1 is marked there too
 unfoldable pub goesOn : Grader
 goesOn = gradesBy (workBy (λ (vectors : ℕ). rowOf 256) markOf sameClass)
@@ -308,3 +320,27 @@ readsXAsZero = marking λ (c : Circuit). markOf (zeroed c)
 
 abbrev pub ReadsXAsZeroIsWrong : Type 0
 ReadsXAsZeroIsWrong = MeetsPromise readsXAsZero → ⊥
+
+-- ---- 01, on lent memory: past the end of an answer it keeps its contents, and a refusal leaves it unwritten
+
+-- clears the word past its last row, where there is one
+unfoldable pub clearingNext : Circuit → Work
+clearingNext c =
+    let w = rightWork c in record { words = w .words ++ (0 ∷ []); classes = w .classes; class-count = w .class-count; found = w .found }
+
+unfoldable pub writesPast : Grader
+writesPast file matrix classes =
+    let out = gradesBy clearingNext file matrix classes in
+    record { answer = out .answer; matrix = take (length matrix) (out .matrix); classes = out .classes }
+
+abbrev pub WritesPastIsWrong : Type 0
+WritesPastIsWrong = MeetsPromise writesPast → ⊥
+
+-- writes zeros into the matrix, then refuses
+unfoldable pub clearsFirst : Grader
+clearsFirst file matrix classes =
+    let out = rightly file matrix classes in
+    record { answer = out .answer; matrix = cond (isGraded (out .answer)) (out .matrix) (replicate (length matrix) 0); classes = out .classes }
+
+abbrev pub ClearsFirstIsWrong : Type 0
+ClearsFirstIsWrong = MeetsPromise clearsFirst → ⊥

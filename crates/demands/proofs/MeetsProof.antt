@@ -1,18 +1,20 @@
--- The right grader meets demands 1 and 2; every grader that refuses by the table meets demand 1, whatever it works out of a circuit.
+-- The right grader meets demands 1 and 2; every grader that refuses by the table meets demand 1, whatever it works out of a circuit, and one that works out
+-- the right words meets the cells of demand 2.
 use Prim.Native.Nat.{ℕ}
-use mathlib.Core.Path.{_≡_, refl, sym, _∙_}
+use mathlib.Core.Path.{_≡_, refl, sym, ap, _∙_}
 use mathlib.Core.List.{List}
 use lib.Dec.{T}
 use lib.ListN.{length}
 use Rattle.circuit.specs.Circuit.{Circuit}
 use Rattle.circuit.specs.Table.{refused}
 use Rattle.circuit.proofs.Tested.{never-passes}
-use Rattle.grading.specs.Grading.{Grading, graded, gradingOf}
+use Rattle.grading.specs.Grading.{Grading, graded, gradingOf, over}
 use Rattle.grading.specs.Grading.{refused as refusedGrading}
-use Rattle.demands.specs.Calls.{Accepts, GradedAs, isGraded}
-use Rattle.demands.specs.Graders.{Work, outcomeOf, gradesBy, rightWork, rightly, called}
-use Rattle.demands.specs.Wrong.{marksAll, marksNever}
-use Rattle.demands.specs.Breaks.{MeetsOne, RightlyMeetsAll, MeetDemandOne}
+use Rattle.demands.specs.Calls.{Call, Accepts, GradedAs, isGraded}
+use Rattle.demands.specs.Two.{CellsTell}
+use Rattle.demands.specs.Graders.{Work, outcomeOf, gradesBy, workBy, rightWork, rightly, called}
+use Rattle.demands.specs.Wrong.{marksAll, marksNever, inventsFound, countsRows, countsTwice, countsLabels}
+use Rattle.demands.specs.Breaks.{MeetsOne, MeetsCells, RightlyMeetsAll, MeetDemandOne, MeetCellClause}
 use Rattle.demands.proofs.GradingVerdicts.{answered, answer-is}
 use Rattle.demands.proofs.OneProof.{ByTheTable, one-by-the-table, one-holds, grading-keeps-the-rest}
 use Rattle.demands.proofs.Cells.{cell-is-path}
@@ -60,3 +62,43 @@ by-any-work work file matrix classes =
 pub meet-demand-one : MeetDemandOne
 unfolding marksAll marksNever
 meet-demand-one = record { by-any-work = by-any-work; marks-all = by-any-work _; marks-never = by-any-work _ }
+
+-- ---- the right words
+
+-- the clause on cells speaks of the matrix alone
+cells-carried : (one other : Call) (c : Circuit) → other .matrix-after ≡ one .matrix-after → CellsTell one c → CellsTell other c
+cells-carried one other c e tells = record {
+  marked = λ none r v h k. rw e (tells .marked none r v h k);
+  not-marked = λ none r v h k. rw e (tells .not-marked none r v h k);
+  by-ends = λ none r v h k. rw e (tells .by-ends none r v h k);
+  not-without-the-bridge = tells .not-without-the-bridge;
+  past-the-last-vector = λ r v h k l. rw e (tells .past-the-last-vector r v h k l);
+}
+
+module _ (work : Circuit → Work) (same : (c : Circuit) → work c .words ≡ rightWork c .words) where
+  same-matrix : (g : Grading) (matrix classes : List ℕ) → outcomeOf work g matrix classes .matrix ≡ outcomeOf rightWork g matrix classes .matrix
+  unfolding outcomeOf
+  same-matrix (graded c) matrix classes = ap (λ (words : List ℕ). over words matrix) (same c)
+  same-matrix (refusedGrading n p) matrix classes = refl
+
+  graded-too : (g : Grading) (matrix classes : List ℕ) → T (isGraded (outcomeOf work g matrix classes .answer))
+      → T (isGraded (outcomeOf rightWork g matrix classes .answer))
+  unfolding outcomeOf isGraded
+  graded-too (graded c) matrix classes t = tt
+  graded-too (refusedGrading n p) matrix classes t = t
+
+  by-right-words : MeetsCells (gradesBy work)
+  unfolding gradesBy rightly
+  by-right-words file matrix classes c e is-graded =
+      let g = gradingOf file (length matrix) (length classes) in
+      cells-carried (called rightly file matrix classes) (called (gradesBy work) file matrix classes) c (same-matrix g matrix classes)
+      (rightly-meets-all .cells file matrix classes c e (graded-too g matrix classes is-graded))
+
+pub meet-cell-clause : MeetCellClause
+unfolding inventsFound countsRows countsTwice countsLabels rightWork workBy
+meet-cell-clause = record {
+  invents-found = by-right-words _ (λ c. refl);
+  counts-rows = by-right-words _ (λ c. refl);
+  counts-twice = by-right-words _ (λ c. refl);
+  counts-labels = by-right-words _ (λ c. refl);
+}

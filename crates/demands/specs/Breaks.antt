@@ -46,6 +46,13 @@ pub record MeetDemandOne : Type 0 where
   pub marks-all : MeetsOne marksAll
   pub marks-never : MeetsOne marksNever
 
+-- those that break the class clause of demand 2 meet its clause on cells
+pub record MeetCellClause : Type 0 where
+  pub invents-found : MeetsCells inventsFound
+  pub counts-rows : MeetsCells countsRows
+  pub counts-twice : MeetsCells countsTwice
+  pub counts-labels : MeetsCells countsLabels
+
 pub record BreakDemandOne : Type 0 where
   pub refuses-every : MeetsOne refusesEvery → ⊥
   pub skips-nine : MeetsOne (skips 9) → ⊥

@@ -16,7 +16,7 @@ use Rattle.demands.specs.Graders.{Work, outcomeOf, gradesBy, workBy, rig
 use Rattle.demands.specs.Wrong.{marksAll, marksNever, inventsFound, countsRows, countsTwice, countsLabels}
 use Rattle.demands.specs.Breaks.{MeetsOne, MeetsCells, RightlyMeetsAll, MeetDemandOne, MeetCellClause}
 use Rattle.demands.proofs.GradingVerdicts.{answered, answer-is}
-use Rattle.demands.proofs.OneProof.{ByTheTable, one-by-the-table, one-holds, grading-keeps-the-rest}
+use Rattle.demands.proofs.OneProof.{one-by-the-table, one-holds, grading-keeps-the-rest}
 use Rattle.demands.proofs.Cells.{cell-is-path}
 use Rattle.demands.proofs.ClassCounts.{classes-count-once}
 use Rattle.demands.proofs.RightProof.{rightly-is-right}

@@ -16,7 +16,7 @@ use Rattle.demands.specs.Wrong.{watchesOutputs, holdsLevels, countsTwice
 abbrev pub MeetsOne : Grader → Type 0
 MeetsOne grader = (file matrix classes : List ℕ) → One (called grader file matrix classes)
 
--- and what it says of a grading: past the answer both buffers are as they were
+-- and `GradingKeepsTheRest`, which stands beside it: past the answer both buffers are as they were
 abbrev pub MeetsRest : Grader → Type 0
 MeetsRest grader =
     (file matrix classes : List ℕ) (c : Circuit) → Accepts file c → T (isGraded (grader file matrix classes .answer))

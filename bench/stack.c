@@ -1,0 +1,63 @@
+/* The stack that the proved grader uses: the call runs on a painted stack of its own, and what is no longer painted was used. */
+#include "inputs.h"
+#include "togyamiru.h"
+#include <stdio.h>
+#include <string.h>
+
+enum { STACK = 8 << 20, PAINT = 0x5C };
+
+static _Alignas(16) uint8_t stack[STACK];
+static uint64_t matrix[TOGYAMIRU_WORDS_A_FAULT * TOGYAMIRU_MOST_FAULTS];
+static uint16_t classes[TOGYAMIRU_MOST_FAULTS];
+static uint64_t answer[TOGYAMIRU_NUMBERS];
+static struct input input;
+
+static void grade(void)
+{
+    togyamiru_grade(input.file, input.length, matrix, sizeof matrix / sizeof *matrix, classes, TOGYAMIRU_MOST_FAULTS, answer);
+}
+
+/* Calls a function with the stack pointer at the end of the painted stack. */
+static void call_on_stack(void (*function)(void))
+{
+    __asm__ volatile("movq %%rsp, %%rbx\n\t"
+                     "movq %1, %%rsp\n\t"
+                     "call *%0\n\t"
+                     "movq %%rbx, %%rsp"
+                     :
+                     : "r"(function), "r"(stack + STACK)
+                     : "rax", "rbx", "rcx", "rdx", "rsi", "rdi", "r8", "r9", "r10", "r11", "xmm0", "xmm1", "xmm2", "xmm3", "xmm4", "xmm5", "xmm6", "xmm7",
+                       "xmm8", "xmm9", "xmm10", "xmm11", "xmm12", "xmm13", "xmm14", "xmm15", "memory", "cc");
+}
+
+/* Bytes from the end of the stack down to the lowest one that was written. */
+static size_t depth(void)
+{
+    size_t untouched = 0;
+    while (untouched < STACK && stack[untouched] == PAINT)
+        untouched++;
+    return STACK - untouched;
+}
+
+static void measure(void)
+{
+    memset(stack, PAINT, STACK);
+    call_on_stack(grade);
+    printf("%-14s %8zu   refusal %2d   %s\n", input.name, depth(), (int)answer[TOGYAMIRU_NUMBER], input.what);
+}
+
+int main(void)
+{
+    static uint8_t long_file[INPUT_MOST_BYTES + 1];
+    grade(); /* so that the loader has bound what the library calls, which takes stack too */
+    printf("stack used by togyamiru_grade, in bytes\n");
+    input = (struct input){"long", "one byte too long, refused at once", long_file, sizeof long_file};
+    measure();
+    input = make_judged_type();
+    measure();
+    for (unsigned i = 0; i < INPUTS_ALONE; i++) {
+        input = make_input(i);
+        measure();
+    }
+    return 0;
+}

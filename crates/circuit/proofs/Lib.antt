@@ -4,6 +4,7 @@
 --   the others                                      what the crates that read cite
 pub mod AnswerLaws
 pub mod Bodies
+mod Called
 pub mod CircuitLaws
 pub mod Cuts
 mod Examples

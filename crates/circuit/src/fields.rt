@@ -1,4 +1,6 @@
 // The file cut into fields, a step at a time.
+use crate::cursor::next;
+use crate::cursor::reader_at;
 ghost use mathlib.Core.Path.{_≡_};
 ghost use Prim.Native.Nat.{_+_, _≤_};
 ghost use lib.ListN.{length, getD};
@@ -26,28 +28,12 @@ pub enum Next {
     Other,
 }
 
+// What stands at a place of the file: a reader is made there and steps.
 pub fn step_at(file: &[u8], at: usize) -> Step
     requires { ⌜ at ≤ length (now file) ⌝ }
     ensures { λ r. ⌜ StepIs (now (file .entry)) at r ⌝ }
 {
-    let size = file.len();
-    if size <= at {
-        return Step::End;
-    }
-    let left = size - at;
-    if left < 3 {
-        return Step::Broken;
-    }
-    let len = (file[at + 1] as usize) * 256 + (file[at + 2] as usize);
-    if left - 3 < len {
-        return Step::Broken;
-    }
-    Step::Whole(Field {
-        at,
-        tag: file[at],
-        body: at + 3,
-        len,
-    })
+    next(reader_at(file, at))
 }
 
 pub fn field_of(file: &[u8], at: usize, tag: u8) -> Next

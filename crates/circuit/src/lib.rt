@@ -1,4 +1,5 @@
 // The circuit file: the circuit that it tells, its fields, and the refusals of the table.
+mod cursor;
 pub mod fields;
 pub mod limits;
 pub mod ranges;

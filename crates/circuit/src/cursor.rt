@@ -1,0 +1,52 @@
+// A reader: the file, and its place in it. No function over a struct that holds a slice is covered, so each is thin and proved by hand.
+use crate::fields::Field;
+use crate::fields::Step;
+ghost use mathlib.Core.Path.{_≡_};
+ghost use Prim.Native.Nat.{_≤_};
+ghost use lib.ListN.{length};
+ghost use Rattle.circuit.specs.Stages.{StepIs};
+
+pub struct Reader<'a> {
+    pub file: &'a [u8],
+    pub at: usize,
+}
+
+// A reader over a file, at a place of it.
+pub fn reader_at<'a>(file: &'a [u8], at: usize) -> Reader<'a>
+    ensures { λ r. ⌜ (r .file ≡ file .entry) × (r .at ≡ at) ⌝ }
+{
+    Reader { file, at }
+}
+
+// The step to the next field.
+pub fn next<'a>(reader: Reader<'a>) -> Step
+    requires { ⌜ reader .at ≤ length (now (reader .file)) ⌝ }
+    ensures { λ r. ⌜ StepIs (now (reader .entry .file)) (reader .entry .at) r ⌝ }
+{
+    cut_at(reader.file, reader.at)
+}
+
+// The work of a step, on the file's bytes.
+fn cut_at(file: &[u8], at: usize) -> Step
+    requires { ⌜ at ≤ length (now file) ⌝ }
+    ensures { λ r. ⌜ StepIs (now (file .entry)) at r ⌝ }
+{
+    let size = file.len();
+    if size <= at {
+        return Step::End;
+    }
+    let left = size - at;
+    if left < 3 {
+        return Step::Broken;
+    }
+    let len = (file[at + 1] as usize) * 256 + (file[at + 2] as usize);
+    if left - 3 < len {
+        return Step::Broken;
+    }
+    Step::Whole(Field {
+        at,
+        tag: file[at],
+        body: at + 3,
+        len,
+    })
+}

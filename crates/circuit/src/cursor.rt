@@ -2,9 +2,9 @@
 use crate::fields::Field;
 use crate::fields::Step;
 ghost use mathlib.Core.Path.{_≡_};
-ghost use Prim.Native.Nat.{_≤_};
+ghost use Prim.Native.Nat.{_<_, _≤_, _^_};
 ghost use lib.ListN.{length};
-ghost use Rattle.circuit.specs.Stages.{StepIs};
+ghost use Rattle.circuit.specs.Stages.{StepIs, behindStep};
 
 pub struct Reader<'a> {
     pub file: &'a [u8],
@@ -18,12 +18,26 @@ pub fn reader_at<'a>(file: &'a [u8], at: usize) -> Reader<'a>
     Reader { file, at }
 }
 
-// The step to the next field.
-pub fn next<'a>(reader: Reader<'a>) -> Step
-    requires { ⌜ reader .at ≤ length (now (reader .file)) ⌝ }
-    ensures { λ r. ⌜ StepIs (now (reader .entry .file)) (reader .entry .at) r ⌝ }
+// The step to the next field: it is told, and the reader's place moves behind it. Where no whole field stands, the place stays.
+pub fn next<'s, 'a>(reader: &'s mut Reader<'a>) -> Step
+    requires { ⌜ now reader .at ≤ length (now (now reader .file)) ⌝ }
+    ensures { λ r. ⌜ StepIs (now (now (reader .entry) .file)) (now (reader .entry) .at) r × (now (reader .exit) .file ≡ now (reader .entry) .file) × (now (reader .exit) .at ≡ behindStep r (now (reader .entry) .at)) ⌝ }
 {
-    cut_at(reader.file, reader.at)
+    let step = cut_at(reader.file, reader.at);
+    reader.at = behind(step, reader.at);
+    step
+}
+
+// The place behind a step that was made at a place.
+fn behind(step: Step, at: usize) -> usize
+    requires { ⌜ behindStep step at < 2 ^ 64 ⌝ }
+    ensures { λ r. ⌜ r ≡ behindStep step at ⌝ }
+{
+    match step {
+        Step::Whole(f) => f.body + f.len,
+        Step::Broken => at,
+        Step::End => at,
+    }
 }
 
 // The work of a step, on the file's bytes.

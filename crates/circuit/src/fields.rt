@@ -33,7 +33,8 @@ pub fn step_at(file: &[u8], at: usize) -> Step
     requires { ⌜ at ≤ length (now file) ⌝ }
     ensures { λ r. ⌜ StepIs (now (file .entry)) at r ⌝ }
 {
-    next(reader_at(file, at))
+    let mut reader = reader_at(file, at);
+    next(&mut reader)
 }
 
 pub fn field_of(file: &[u8], at: usize, tag: u8) -> Next

@@ -41,12 +41,6 @@ StepIs file at (Whole f) = FieldAt file at f
 StepIs file at Broken = cutFrom file at ≡ broken at
 StepIs file at End = cutFrom file at ≡ clean
 
--- the place behind a step: behind its field, or where it was made
-unfoldable pub behindStep : Step → ℕ → ℕ
-behindStep (Whole f) at = f .body + f .len
-behindStep Broken at = at
-behindStep End at = at
-
 unfoldable pub NextIs : List ℕ → ℕ → ℕ → Next → Type 0
 NextIs file at tag (Found f) = FieldAt file at f × (f .tag ≡ tag)
 NextIs file at tag Other = (f : Field) (rest : Cut) → cutFrom file at ≡ field f rest → f .tag ≡ tag → ⊥

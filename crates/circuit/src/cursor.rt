@@ -4,7 +4,8 @@ use crate::fields::Step;
 ghost use mathlib.Core.Path.{_≡_};
 ghost use Prim.Native.Nat.{_<_, _≤_, _^_};
 ghost use lib.ListN.{length};
-ghost use Rattle.circuit.specs.Stages.{StepIs, behindStep};
+ghost use Rattle.circuit.specs.Stages.{StepIs};
+ghost use Rattle.circuit.specs.Steps.{behindStep, Stepped};
 
 pub struct Reader<'a> {
     pub file: &'a [u8],
@@ -21,7 +22,7 @@ pub fn reader_at<'a>(file: &'a [u8], at: usize) -> Reader<'a>
 // The step to the next field: it is told, and the reader's place moves behind it. Where no whole field stands, the place stays.
 pub fn next<'s, 'a>(reader: &'s mut Reader<'a>) -> Step
     requires { ⌜ now reader .at ≤ length (now (now reader .file)) ⌝ }
-    ensures { λ r. ⌜ StepIs (now (now (reader .entry) .file)) (now (reader .entry) .at) r × (now (reader .exit) .file ≡ now (reader .entry) .file) × (now (reader .exit) .at ≡ behindStep r (now (reader .entry) .at)) ⌝ }
+    ensures { λ r. ⌜ Stepped (now (reader .entry)) (now (reader .exit)) r ⌝ }
 {
     let step = cut_at(reader.file, reader.at);
     reader.at = behind(step, reader.at);

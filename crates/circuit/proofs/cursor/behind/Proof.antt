@@ -1,8 +1,8 @@
 -- `circuit::cursor::behind` meets its contract: the place behind a field is where its body ends, and without one it stays. Assumes nothing.
 use Prim.Native.Nat.{ℕ, _+_, _<_, _^_}
-use mathlib.Core.Path.{_≡_, refl, sym, subst, ap, _∙_}
+use mathlib.Core.Path.{_≡_, refl, sym, subst}
 use borrow.Author.Needs.{needs}
-use Rattle.circuit.specs.Stages.{behindStep}
+use Rattle.circuit.specs.Steps.{behindStep}
 use Rattle.circuit.specs.declared.fields.Field.{Field as FieldRecord}
 use Rattle.circuit.specs.declared.fields.Step.{Step}
 use Rattle.circuit.specs.declared.fields.Step.the-variants.{Whole, Broken, End}

@@ -46,7 +46,8 @@ use denote.Triple.Spec.{Meets, tripleOf}
 use denote.Triple.Table.{entered, cited}
 use denote.Triple.Walked.{says, needs, Stays, stay-none, stay-none-slice, walkOf, goes-none, goes-none-slice, Walks, ends-at, walked, walk-meets}
 use denote.Exit.{yes}
-use Rattle.circuit.specs.Stages.{StepIs, behindStep}
+use Rattle.circuit.specs.Stages.{StepIs}
+use Rattle.circuit.specs.Steps.{Stepped}
 use Rattle.circuit.specs.declared.cursor.Reader.{Reader}
 use Rattle.circuit.specs.declared.fields.Step.{Step}
 use Rattle.circuit.proofs.cursor.Reader as T
@@ -109,12 +110,9 @@ module _ {M : Type 1} (𝓤 : URA M) (H : Heap 𝓤) (A : Atoms 𝓤) (W : Given
   abbrev Token : Item 𝓤
   Token = raw (alive 𝓤 H A step-at.signature (κ, tt) (q, tt))
 
-  -- what `reader_at` and `next` ensure
+  -- what `reader_at` ensures
   abbrev Made : Reader → Type 0
   Made r = (r .file ≡ s) × (r .at ≡ n)
-
-  abbrev Found : Reader → Step → Reader → Type 0
-  Found r t r′ = StepIs (now (r .file)) (r .at) t × (r′ .file ≡ r .file) × (r′ .at ≡ behindStep t (r .at))
 
   -- the call of `reader_at`: what it is passed, and what it asks
   abbrev to-made : ReaderAt 𝓤 H A mem run .Ghost
@@ -212,14 +210,14 @@ module _ {M : Type 1} (𝓤 : URA M) (H : Heap 𝓤) (A : Atoms 𝓤) (W : Given
         move ! (3 ∷ []) $ use1 W (later (some (λ (δ : GName). ‵ (Lent r l₃ ν δ) ⊛ ‵ (Lender r l₃ ν δ)))) (lends-ref 𝓤 H A W B′ (named 0) (ν ∷ κ) r l₃ 0) $ await ! tt $ pick ! (λ δ. split ! $
         -- [the borrow; the lender's part; the loan's token; the rest of ν's token; the right half; what s owns; _5; …; _4; …; …; _2; …; _1; …; room for _0; …]
         move ! (2 ∷ 4 ∷ 0 ∷ []) $ use3 W (raw (Next 𝓤 H A mem run .pre (to-next r l₃ ν δ))) (goes-next r l₃ ν δ (there r e)) $
-        called W next.ended (next.clauses 𝓤 H A mem run) (to-next r l₃ ν δ .0) tt fm known-next (λ t ws′. Found r t (ws′ .0)) (λ t ws′. id⊢ 𝓤 _) (and-then ! (load ! (from ! (stop !)) (look ! 4 refl)) (no-more !)) (λ t ws′ u′ e′ is′.
+        called W next.ended (next.clauses 𝓤 H A mem run) (to-next r l₃ ν δ .0) tt fm known-next (λ t ws′. Stepped r (ws′ .0) t) (λ t ws′. id⊢ 𝓤 _) (and-then ! (load ! (from ! (stop !)) (look ! 4 refl)) (no-more !)) (λ t ws′ u′ e′ is′.
         -- [the result; the tokens; the last value; the lender's part; the rest of ν's token; what s owns; _5; …; _4; …; …; _2; …; _1; …; room for _0; …]
         land ! (from ! (stop !)) (init ! 15 refl (EL.lawful S.the-type S′.the-laws 𝓤 H A W tt .typed t _ is′ .0)) $
         move ! (1 ∷ 2 ∷ 3 ∷ 4 ∷ []) $ join ! $ use3 W (later (‵ (fat fullShare (T′.mir erased) l₃ 0 (T′.lowered (ws′ .0))) ⊛ Token)) (back r l₃ ν δ (ws′ .0)) $ await ! tt $ split ! $
         -- [_3; the token; the result; what s owns; _5; …; _4; …; …; _2; …; _1; …; _0; …]
         returns ! (look ! 13 refl) $ forget ! 0 refl $ forget ! 4 refl $ forget ! 6 refl $ forget ! 9 refl $ forget ! 11 refl $ forget ! 13 refl $
         move ! (13 ∷ 14 ∷ []) $ free1 ! $ move ! (11 ∷ 12 ∷ []) $ free1 ! $ move ! (9 ∷ 10 ∷ []) $ free1 ! $ move ! (0 ∷ 8 ∷ []) $ free1 ! $ move ! (5 ∷ 6 ∷ []) $ free1 ! $ move ! (3 ∷ 4 ∷ []) $ free1 ! $ free0 ! $
-        move ! (1 ∷ 0 ∷ []) $ by ! (exits t u′ (found r t e (e′ .0)))))))))))))
+        move ! (1 ∷ 0 ∷ []) $ by ! (exits t u′ (found r t e (e′ .stands)))))))))))))
 
 module _ {M : Type 1} (𝓤 : URA M) (H : Heap 𝓤) (A : Atoms 𝓤) (W : Given 𝓤 H A) (mem : Memory → SProp 𝓤) (run : Routine → Fun 𝓤) where
   step-at-walks : (C : Calls 𝓤 H) (Λ : Loops 𝓤 H) → FmC 𝓤 H (W .laws) C → Triple 𝓤 (C #circuit·reader-at) (ReaderAt 𝓤 H A mem run) → Triple 𝓤 (C #circuit·next) (Next 𝓤 H A mem run)

@@ -1,6 +1,7 @@
 // Switch-level modules, 64 vectors to a word: edge records, which nodes are joined to each rail, and whether a type is complementary.
 pub mod complementary;
 mod conduction;
+mod edges;
 pub mod joining;
 mod rounds;
 mod settings;

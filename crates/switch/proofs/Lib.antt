@@ -17,3 +17,5 @@ pub mod RailWords
 pub mod Outputs
 pub mod SettingBlocks
 pub mod Check
+pub mod Copies
+pub mod Walks

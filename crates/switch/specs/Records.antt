@@ -1,5 +1,6 @@
 -- The code's records in the words of Conduction and Modules: an edge record, a module type, planes of labels, and what a record must be to be one of 01's.
 use Prim.Native.Nat.{ℕ, zero, suc, _≤_, _<_}
+use mathlib.Core.Path.{_≡_}
 use mathlib.Core.List.{List, [], map}
 use lib.Dec.{T, leb}
 use lib.ListN.{take, getD}
@@ -33,6 +34,14 @@ pub record LabelsFit (r : EdgeRecord) : Type 0 where
 pub record EdgesFit (rs : List EdgeRecord) (n : ℕ) : Type 0 where
   pub places : n ≤ mostEdges
   pub edges : (i : ℕ) → i < n → LabelsFit (getD rs i noEdge)
+
+-- a record that holds a type's three numbers and the edges of a slice
+pub record Spread (rs : List EdgeRecord) (h o k : ℕ) (r : TypeRecord) : Type 0 where
+  pub highest : r .highest ≡ h
+  pub output : r .output ≡ o
+  pub labels : r .labels ≡ k
+  pub places : r .count ≤ mostEdges
+  pub edges : take (r .count) (r .edges) ≡ rs
 
 -- counts within the places, numbers within 01's ranges; refusals 8 and 9 are not asked
 pub record Given (r : TypeRecord) : Type 0 where

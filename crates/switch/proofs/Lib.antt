@@ -19,3 +19,4 @@ pub mod SettingBlocks
 pub mod Check
 pub mod Copies
 pub mod Walks
+pub mod Spreading

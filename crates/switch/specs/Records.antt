@@ -3,7 +3,7 @@ use Prim.Native.Nat.{ℕ, zero, suc, _≤_, _<_}
 use mathlib.Core.Path.{_≡_}
 use mathlib.Core.List.{List, [], map}
 use lib.Dec.{T, leb}
-use lib.ListN.{take, getD}
+use lib.ListN.{length, take, getD}
 use Rattle.words.specs.Bits.{bit}
 use Rattle.switch.specs.Conduction.{Value, at0, at1, atX, Edge}
 use Rattle.switch.specs.Modules.{ModuleType, mostEdges, mostLabels, mostParallel, allOf, inRange}
@@ -24,6 +24,10 @@ edgesOf rs = map edgeOf rs
 -- the module type of a record: of its places for edges the first `count` are used
 unfoldable pub typeOf : TypeRecord → ModuleType
 typeOf r = record { highest = r .highest; output = r .output; labels = r .labels; edges = edgesOf (take (r .count) (r .edges)) }
+
+-- the module type of three numbers, highest node, output and labels, and of a list of edge records
+unfoldable pub typeWith : ℕ → ℕ → ℕ → List EdgeRecord → ModuleType
+typeWith h o k rs = record { highest = h; output = o; labels = k; edges = edgesOf rs }
 
 -- the labels of an edge record stand in its four places, each 0 to 11
 pub record LabelsFit (r : EdgeRecord) : Type 0 where
@@ -48,6 +52,12 @@ pub record Given (r : TypeRecord) : Type 0 where
   pub places : r .count ≤ mostEdges
   pub label-places : T (allOf (λ (e : EdgeRecord). leb (e .count) mostParallel) (take (r .count) (r .edges)))
   pub ranges : T (inRange (typeOf r))
+
+-- the same of three numbers and a list of edge records
+pub record EdgesGiven (h o k : ℕ) (rs : List EdgeRecord) : Type 0 where
+  pub places : length rs ≤ mostEdges
+  pub label-places : T (allOf (λ (e : EdgeRecord). leb (e .count) mostParallel) rs)
+  pub ranges : T (inRange (typeWith h o k rs))
 
 -- a label's value from its bit in the known-1 plane and in the known-0 plane. No file gives both; taken as 1, every pair of planes has a meaning
 unfoldable pub valueOf : ℕ → ℕ → Value

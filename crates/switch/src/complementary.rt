@@ -1,12 +1,14 @@
 // The complementary check: over all settings of a type's labels, 64 at a time, with only the running verdict kept.
+use crate::Edge;
 use crate::ModuleType;
-use crate::joining::joining;
+use crate::edges::spread;
+use crate::joining::joining_of;
 use crate::settings::setting_ones;
 use crate::settings::setting_zeros;
 use words::first_ones;
 ghost use mathlib.Core.Path.{_≡_};
 ghost use Prim.Native.Nat.{_<_, _≤_, _*_};
-ghost use Rattle.switch.specs.Records.{Given, typeOf};
+ghost use Rattle.switch.specs.Records.{Given, EdgesGiven, typeOf, typeWith};
 ghost use Rattle.switch.specs.Deciding.{isComplementary};
 ghost use Rattle.switch.specs.Model.{BlockVerdict};
 
@@ -19,7 +21,7 @@ fn block_holds(t: ModuleType, block: usize, settings: usize) -> bool
     let ones = setting_ones(block);
     let zeros = setting_zeros(block);
     let output = t.output as usize;
-    let rails = joining(t, &ones, &zeros);
+    let rails = joining_of(t, &ones, &zeros);
     let supply = rails.supply[output];
     let ground = rails.ground[output];
     let counted = first_ones(settings - 64 * block);
@@ -27,8 +29,8 @@ fn block_holds(t: ModuleType, block: usize, settings: usize) -> bool
     one & counted == counted
 }
 
-// Whether a type is complementary.
-pub fn complementary(t: ModuleType) -> bool
+// Whether a type is complementary: the work, on a type by value.
+fn complementary_of(t: ModuleType) -> bool
     requires { ⌜ Given t ⌝ }
     ensures { λ r. ⌜ r ≡ isComplementary (typeOf t) ⌝ }
 {
@@ -41,4 +43,20 @@ pub fn complementary(t: ModuleType) -> bool
         block += 1;
     }
     true
+}
+
+// The same, on a lent slice of edges and the type's three numbers.
+pub fn complementary(edges: &[Edge], highest: u8, output: u8, labels: u8) -> bool
+    requires { ⌜ EdgesGiven highest output labels (now edges) ⌝ }
+    ensures { λ r. ⌜ r ≡ isComplementary (typeWith highest output labels (now (edges .entry))) ⌝ }
+{
+    complementary_of(spread(edges, highest, output, labels))
+}
+
+// The same, on a type whose edges are lent.
+pub fn check_type(t: ModuleType) -> bool
+    requires { ⌜ Given t ⌝ }
+    ensures { λ r. ⌜ r ≡ isComplementary (typeOf t) ⌝ }
+{
+    complementary(&t.edges[..t.count], t.highest, t.output, t.labels)
 }

@@ -1,17 +1,19 @@
 // The joining of every node to each rail, and the output's planes, from a module type and its labels' planes.
+use crate::Edge;
 use crate::MOST_LABELS;
 use crate::ModuleType;
 use crate::Planes;
 use crate::Rails;
 use crate::conduction::ends_of;
 use crate::conduction::on_words;
+use crate::edges::spread;
 use crate::rounds::joined_to;
 ghost use mathlib.Core.Path.{_≡_};
-ghost use Rattle.switch.specs.Records.{Given, typeOf};
+ghost use Rattle.switch.specs.Records.{Given, EdgesGiven, typeOf, typeWith};
 ghost use Rattle.switch.specs.Promises.{railsOf, planesOf};
 
-// Under which of 64 vectors each node is joined to supply, and to ground.
-pub fn joining(t: ModuleType, ones: &[u64; MOST_LABELS], zeros: &[u64; MOST_LABELS]) -> Rails
+// Under which of 64 vectors each node is joined to supply, and to ground: the work, on a type by value.
+pub fn joining_of(t: ModuleType, ones: &[u64; MOST_LABELS], zeros: &[u64; MOST_LABELS]) -> Rails
     requires { ⌜ Given t ⌝ }
     ensures { λ r. ⌜ r ≡ railsOf (typeOf t) (now (ones .entry)) (now (zeros .entry)) ⌝ }
 {
@@ -25,6 +27,29 @@ pub fn joining(t: ModuleType, ones: &[u64; MOST_LABELS], zeros: &[u64; MOST_LABE
     let supply = joined_to(&firsts, &seconds, &on, count, 1);
     let ground = joined_to(&firsts, &seconds, &on, count, 0);
     Rails { supply, ground }
+}
+
+// The same, on a lent slice of edges and the type's three numbers.
+pub fn joining(
+    edges: &[Edge],
+    highest: u8,
+    output: u8,
+    labels: u8,
+    ones: &[u64; MOST_LABELS],
+    zeros: &[u64; MOST_LABELS],
+) -> Rails
+    requires { ⌜ EdgesGiven highest output labels (now edges) ⌝ }
+    ensures { λ r. ⌜ r ≡ railsOf (typeWith highest output labels (now (edges .entry))) (now (ones .entry)) (now (zeros .entry)) ⌝ }
+{
+    joining_of(spread(edges, highest, output, labels), ones, zeros)
+}
+
+// The same, on a type whose edges are lent.
+pub fn join_type(t: ModuleType, ones: &[u64; MOST_LABELS], zeros: &[u64; MOST_LABELS]) -> Rails
+    requires { ⌜ Given t ⌝ }
+    ensures { λ r. ⌜ r ≡ railsOf (typeOf t) (now (ones .entry)) (now (zeros .entry)) ⌝ }
+{
+    joining(&t.edges[..t.count], t.highest, t.output, t.labels, ones, zeros)
 }
 
 // The planes of an output, from its two words: 1 where it is joined to supply, 0 where it is joined to ground, X where it is joined to neither.

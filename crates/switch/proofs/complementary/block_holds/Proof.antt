@@ -13,8 +13,8 @@ setting-zeros-requires c κs = search needs
 cast-output : tie.Need-cast-output
 cast-output c = search needs
 
-joining-requires : tie.Need-joining-requires
-joining-requires c κs = search needs
+joining-of-requires : tie.Need-joining-of-requires
+joining-of-requires c κs = search needs
 
 mul-supply : tie.Need-mul-supply
 mul-supply c = search needs
@@ -51,10 +51,10 @@ returns c =
     (c .first-ones .result)
     (call .before .before .before .before .before .setting-ones .result)
     (call .before .before .before .before .setting-zeros .result)
-    (call .joining .result)
+    (call .joining-of .result)
     (call .before .before .before .before .before .setting-ones .ensures)
     (call .before .before .before .before .setting-zeros .ensures)
-    (call .joining .ensures)
+    (call .joining-of .ensures)
     (c .first-ones .ensures)
 
 pub block-holds-spec : {M : Type 1} → statement M
@@ -64,7 +64,7 @@ block-holds-spec =
     setting-ones-requires
     setting-zeros-requires
     cast-output
-    joining-requires
+    joining-of-requires
     mul-supply
     element-copy-out-supply
     mul-ground

@@ -1,11 +1,11 @@
--- `switch::joining::joining` meets its contract: the rounds' words over the type's columns are the type's. Assumes nothing.
+-- `switch::joining::joining_of` meets its contract: the rounds' words over the type's columns are the type's. Assumes nothing.
 use native.Mathlib.Omega.{arith}
 use borrow.Author.Needs.{needs}
 use denote.Ref.{now}
 use Rattle.switch.proofs.Ranges.{edges-fit, ends-in-range}
 use Rattle.switch.proofs.RailWords.{rails-are}
-use Rattle.switch.proofs.joining.joining.Statement.{statement}
-use Rattle.switch.proofs.joining.joining.Tie as tie
+use Rattle.switch.proofs.joining.joining_of.Statement.{statement}
+use Rattle.switch.proofs.joining.joining_of.Tie as tie
 
 on-words-requires : tie.Need-on-words-requires
 on-words-requires c κs = edges-fit (c .before .args .t) (c .before .pre)
@@ -44,7 +44,7 @@ returns c =
     (first .joined-to .ensures)
     (c .joined-to2 .ensures)
 
-pub joining-spec : {M : Type 1} → statement M
-joining-spec =
+pub joining-of-spec : {M : Type 1} → statement M
+joining-of-spec =
     tie.close
     (tie.spec on-words-requires ends-of-requires joined-to-requires joined-to-requires-2 returns)

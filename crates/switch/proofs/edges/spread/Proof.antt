@@ -247,7 +247,7 @@ module _ {M : Type 1} (𝓤 : URA M) (H : Heap 𝓤) (A : Atoms 𝓤) (W : Given
     leaves i e =
         let fits : i .0 < 2 ^ 64 = omega (arith, e, few) in
         forget ! 8 refl $ forget ! 10 refl $ move ! (16 ∷ []) $ feqI ! ℕ (length (i .1)) 64 (i .3 .places) $ fjoin ! $
-        use1 W (some (λ (va : Val). ‵ (fat fullShare array l₆ 0 va) ⊛ ‵ (E64 .own (i .1) (va ∷ [])))) (array-of 𝓤 H A W T.the-row 64 l₆ (i .1)) $ pick ! (λ va. split ! $ move ! (1 ∷ []) $
+        use1 W (some (λ (va : Val). ‵ (fat fullShare array l₆ 0 va) ⊛ ‵ (E64 .own (i .1) (va ∷ [])))) (array-of 𝓤 H A W T.the-row 64 l₆ 0 (i .1)) $ pick ! (λ va. split ! $ move ! (1 ∷ []) $
         peeks ! E64 (Is E64) (shows 𝓤 H A E64) (i .1) (va ∷ []) (λ is.
         -- [what the edges own; _6; _14; …]
         assigns ! (of-opd ! (load ! (from ! (stop !)) (look ! 1 refl))) (from ! (stop !)) (init ! 2 refl (array-lawful 𝓤 H A W T.the-row (LL.lawful T.the-type T′.the-laws 𝓤 H A W) 64 .typed (i .1) _ is .0)) $
@@ -275,7 +275,7 @@ module _ {M : Type 1} (𝓤 : URA M) (H : Heap 𝓤) (A : Atoms 𝓤) (W : Given
         → Sq W (‵ (E64 .own all (va ∷ [])) ∷ Locals (froom tyBool m₀ 0) (froom word l₉ 0) (fat fullShare (tyArray byte 4) l₈ 0 w) (froom word l₇ 0) (fat fullShare array l₆ 0 va) (fat fullShare T′.mir l₅ 0 z) (Token ∷ ‵ Owns ∷ [])) (runs C Λ En looping (atRet En Post))
     begins all va w z e =
         assigns ! (of-opd ! (lit ! tt)) (from ! (stop !)) (init ! 15 refl (tt, record { fits = lit< tt })) $ forget ! 13 refl $ forget ! 19 refl $
-        move ! (17 ∷ 0 ∷ []) $ use2 W (‵ (arr-parts (shares T.the-row) 64 .part fullShare all l₆ 0)) (elements-of 𝓤 H A W T.the-row 64 l₆ all tt va) $ fsplit ! $ drop ! $
+        move ! (17 ∷ 0 ∷ []) $ use2 W (‵ (arr-parts (shares T.the-row) 64 .part fullShare all l₆ 0)) (elements-of 𝓤 H A W T.the-row 64 l₆ 0 all tt va) $ fsplit ! $ drop ! $
         move ! (31 ∷ []) $ fsplit ! $ use1 W (‵ Own ⊛ ‵ Own) (shr-slice-copy 𝓤 H A W (named 0) κ T.the-row .twice s (v ∷ [])) $ split ! $ move ! (1 ∷ 2 ∷ []) $ fjoin ! $
         keep ! (3 ∷ 4 ∷ 5 ∷ 6 ∷ 7 ∷ 8 ∷ 9 ∷ 10 ∷ 11 ∷ 12 ∷ 13 ∷ 14 ∷ 15 ∷ 16 ∷ 17 ∷ 18 ∷ 2 ∷ 19 ∷ 20 ∷ 21 ∷ 22 ∷ 23 ∷ 24 ∷ 25 ∷ 26 ∷ 27 ∷ 28 ∷ 29 ∷ 30 ∷ 31 ∷ 1 ∷ 32 ∷ 0 ∷ []) $
         first ! $ blocks ! $ loops ! 𝓣 Nearer Nearer-wf At turns (0, all, omega arith, copied-none ys all e)

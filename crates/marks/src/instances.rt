@@ -1,7 +1,7 @@
 // Reading one instance: each label's planes, each node's words for each rail, four words each, and the planes of its output.
 use circuit::Instance;
 use switch::ModuleType;
-use switch::joining::joining;
+use switch::joining::join_type;
 use switch::joining::output_planes;
 ghost use mathlib.Core.Path.{_≡_};
 ghost use Prim.Native.Nat.{_+_, _*_, _<_, _≤_};
@@ -92,7 +92,7 @@ fn instance_words(
     while w < words {
         let label_ones = label_planes(one, k, signal_ones, w);
         let label_zeros = label_planes(one, k, signal_zeros, w);
-        let rails = joining(t, &label_ones, &label_zeros);
+        let rails = join_type(t, &label_ones, &label_zeros);
         let to_supply = rails.supply;
         let to_ground = rails.ground;
         put_nodes(to_supply, w, &mut supply);

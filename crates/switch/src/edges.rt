@@ -22,12 +22,23 @@ pub fn spread(edges: &[Edge], highest: u8, output: u8, labels: u8) -> ModuleType
     requires { ⌜ length (now edges) ≤ mostEdges ⌝ }
     ensures { λ r. ⌜ Spread (now (edges .entry)) highest output labels r ⌝ }
 {
-    let none = Edge { first: 0, second: 0, count: 0, labels: [0u8; MOST_PARALLEL] };
+    let none = Edge {
+        first: 0,
+        second: 0,
+        count: 0,
+        labels: [0u8; MOST_PARALLEL],
+    };
     let mut all = [none; MOST_EDGES];
     let mut i: usize = 0;
     while i < edges.len() {
         all[i] = edge_at(edges, i);
         i += 1;
     }
-    ModuleType { highest, output, labels, count: i, edges: all }
+    ModuleType {
+        highest,
+        output,
+        labels,
+        count: i,
+        edges: all,
+    }
 }

@@ -49,7 +49,14 @@ pub fn join_type(t: ModuleType, ones: &[u64; MOST_LABELS], zeros: &[u64; MOST_LA
     requires { ⌜ Given t ⌝ }
     ensures { λ r. ⌜ r ≡ railsOf (typeOf t) (now (ones .entry)) (now (zeros .entry)) ⌝ }
 {
-    joining(&t.edges[..t.count], t.highest, t.output, t.labels, ones, zeros)
+    joining(
+        &t.edges[..t.count],
+        t.highest,
+        t.output,
+        t.labels,
+        ones,
+        zeros,
+    )
 }
 
 // The planes of an output, from its two words: 1 where it is joined to supply, 0 where it is joined to ground, X where it is joined to neither.

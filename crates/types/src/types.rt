@@ -15,7 +15,7 @@ use circuit::refusal::Refusal;
 use circuit::refusal::or_if;
 use circuit::refusal::refuses;
 use switch::ModuleType;
-use switch::complementary::complementary;
+use switch::complementary::check_type;
 ghost use mathlib.Core.Path.{_≡_};
 ghost use Prim.Native.Nat.{_+_, _≤_};
 ghost use lib.Dec.{T};
@@ -115,7 +115,7 @@ fn read_type(file: &[u8], f: Field) -> OneType
         return one;
     }
     let module_type = one.module_type;
-    if complementary(module_type) {
+    if check_type(module_type) {
         return one;
     }
     OneType {

@@ -33,8 +33,8 @@ label-planes-requires c κs = (c .before .before .before .pre .1 .0, omega (arit
 label-planes-requires-2 : tie.Need-label-planes-requires-2 Inv-loop μ-loop
 label-planes-requires-2 c κs = (c .before .before .before .before .pre .1 .0, omega (arith, c .before .before .before .before .pre .1 .1))
 
-joining-requires : tie.Need-joining-requires Inv-loop μ-loop
-joining-requires c κs = c .before .before .before .before .before .before .before .pre .0
+join-type-requires : tie.Need-join-type-requires Inv-loop μ-loop
+join-type-requires c κs = c .before .before .before .before .before .before .before .pre .0
 
 put-nodes-requires : tie.Need-put-nodes-requires Inv-loop μ-loop
 put-nodes-requires c κs = omega arith
@@ -79,7 +79,7 @@ loop-again c =
           (record { supply = loop .supply; ground = loop .ground; ones = loop .ones; zeros = loop .zeros })
           (planes .before .label-planes .result)
           (planes .label-planes2 .result)
-          (joined .joining .result)
+          (joined .join-type .result)
           _
           _
           _
@@ -87,7 +87,7 @@ loop-again c =
           (loop .inv .1)
           (planes .before .label-planes .ensures)
           (planes .label-planes2 .ensures)
-          (joined .joining .ensures)
+          (joined .join-type .ensures)
           (first .put-nodes .ensures)
           (nodes .put-nodes2 .ensures)
           (c .before .before .put-labels .ensures)
@@ -109,7 +109,7 @@ instance-words-spec =
     loop-holds
     label-planes-requires
     label-planes-requires-2
-    joining-requires
+    join-type-requires
     put-nodes-requires
     put-nodes-requires-2
     put-labels-requires

@@ -168,7 +168,8 @@ module _ {M : Type 1} (𝓤 : URA M) (H : Heap 𝓤) (A : Atoms 𝓤) (W : Given
   made-is : (i : ℕ) (all : List Edge) (va : Val) → i < 2 ^ 64 → Is E64 all (va ∷ []) → Is R.the-row (made i all) (val i va ∷ [])
   made-is i all va g is = (
     (vint w8 hi ∷ [], (vint w8 ou ∷ [], (vint w8 la ∷ [], (vint w64 i ∷ [], (va ∷ [], tt))))),
-    (refl, ((refl, ghi), ((refl, gou), ((refl, gla), ((refl, g), (is-same (Struct (shape T.the-type)) Edge (T.the-type .to) (T.the-type .to-one) 64 all (va ∷ []) is, tt)))))))
+    (refl, ((refl, ghi), ((refl, gou), ((refl, gla), ((refl, g), (is-same (Struct (shape T.the-type)) Edge (T.the-type .to) (T.the-type .to-one) 64 all (va ∷ []) is, tt)))))),
+  )
 
   exits : (i : ℕ) (all : List Edge) (va : Val) → Is R.the-row (made i all) (val i va ∷ []) → Spread ys hi ou la (made i all) → ent 𝓤 (⋆ 𝓤 H A (Token ∷ ‵ Owns ∷ [])) (Post (val i va))
   exits i all va is e =

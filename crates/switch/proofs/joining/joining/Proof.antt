@@ -180,9 +180,19 @@ module _ {M : Type 1} (𝓤 : URA M) (H : Heap 𝓤) (A : Atoms 𝓤) (W : Model
 
 meets : {M : Type 1} (𝓤 : URA M) (H : Heap 𝓤) (A : Atoms 𝓤) (W : Model 𝓤 H A) (mem : Memory → SProp 𝓤) (run : Routine → Fun 𝓤) (𝓣 : Tables 𝓤 H) → Triple 𝓤 (𝓣 .C #spread) (Spreads 𝓤 H A mem run) → Triple 𝓤 (𝓣 .C #joining-of) (Work 𝓤 H A mem run)
     → Meets 𝓤 H A f.signature (WpFn 𝓤 H (𝓣 .C) (𝓣 .Λ) code.function) (f.spec 𝓤 H A mem run)
-meets 𝓤 H A W mem run 𝓣 known-spread known-work = walk-meets 𝓤 H A f.ended stayed W
-    (goes-none-slice 𝓤 H A W 3 (0 ∷ []) tt (plain (λ _. T.the-row)) yes, (goes-none 𝓤 H A W 3 (λ _. u8) yes (λ κs x f. refl), (goes-none 𝓤 H A W 3 (λ _. u8) yes (λ κs x f. refl), (goes-none 𝓤 H A W 3 (λ _. u8) yes (λ κs x f. refl),
-    (goes-none-ref 𝓤 H A W 3 (1 ∷ []) tt (plain (λ _. P)) yes, (goes-none-ref 𝓤 H A W 3 (2 ∷ []) tt (plain (λ _. P)) yes, tt))))))
+meets 𝓤 H A W mem run 𝓣 known-spread known-work = walk-meets 𝓤 H A f.ended stayed W (
+  goes-none-slice 𝓤 H A W 3 (0 ∷ []) tt (plain (λ _. T.the-row)) yes,
+  (
+    goes-none 𝓤 H A W 3 (λ _. u8) yes (λ κs x f. refl),
+    (
+      goes-none 𝓤 H A W 3 (λ _. u8) yes (λ κs x f. refl),
+      (
+        goes-none 𝓤 H A W 3 (λ _. u8) yes (λ κs x f. refl),
+        (goes-none-ref 𝓤 H A W 3 (1 ∷ []) tt (plain (λ _. P)) yes, (goes-none-ref 𝓤 H A W 3 (2 ∷ []) tt (plain (λ _. P)) yes, tt)),
+      ),
+    ),
+  ),
+)
     (f.clauses 𝓤 H A mem run) (WpFn 𝓤 H (𝓣 .C) (𝓣 .Λ) code.function) (WpFn-mono 𝓤 H (W .laws) 𝓣 code.function) (walks 𝓤 H A W mem run 𝓣 known-spread known-work)
 
 pub joining-spec : {M : Type 1} → stated.statement M

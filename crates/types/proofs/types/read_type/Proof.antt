@@ -29,8 +29,8 @@ returns c =
     type-refused (a .file .now) (a .f) (bare .result) (bare .ensures) (edges .read-edges .result) (edges .read-edges .ensures)
     (sym (c .before .refuses .ensures) ∙ c .if1 .taken)
 
-complementary-requires : tie.Need-complementary-requires
-complementary-requires c κs =
+check-type-requires : tie.Need-check-type-requires
+check-type-requires c κs =
     let edges = c .before .before .before in
     let bare = edges .before .before .type-in in
     let a = edges .before .before .before .before .args in
@@ -41,7 +41,7 @@ returns-2 c =
     let edges = c .before .before .before .before .before in
     let bare = edges .before .before .type-in in
     let a = edges .before .before .before .before .args in
-    let test = c .before .complementary in
+    let test = c .before .check-type in
     type-complementary
     (a .file .now)
     (a .f)
@@ -62,7 +62,7 @@ returns-3 c =
     let edges = out .before .before in
     let bare = edges .before .before .type-in in
     let a = edges .before .before .before .before .args in
-    let test = c .before .before .complementary in
+    let test = c .before .before .check-type in
     type-failing
     (a .file .now)
     (a .f)
@@ -86,7 +86,7 @@ read-type-spec =
     read-edges-requires
     refuses-requires
     returns
-    complementary-requires
+    check-type-requires
     returns-2
     failing-requires
     returns-3)

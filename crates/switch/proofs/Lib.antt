@@ -2,6 +2,7 @@
 --   Paths, Channels, Deciding, Apart, Marks, Refinement, KnownOutputs      the statements of specs/Statements on paths
 --   Examples                                                               01's known results on the NAND and the inverter, computed
 --   Ranges, OnWords, RoundLaws, RailWords, Outputs, SettingBlocks, Check   what ties the code's words to the meaning; in Outputs the statements on planes
+--   Copies, Walks, Spreading                                               what the walks by hand over a lent slice of edges share
 pub mod Paths
 pub mod Channels
 pub mod Deciding

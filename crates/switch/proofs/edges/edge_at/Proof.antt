@@ -1,6 +1,6 @@
 -- `switch::edges::edge_at` meets its contract: a walk of its MIR, by hand. The place of `edges[i]` is 7 i past the slice's pointer, and the edge is read there.
 -- Assumes nothing.
-use mathlib.Core.Path.{_≡_, refl, sym}
+use mathlib.Core.Path.{refl, sym}
 use Prim.Native.Nat.{ℕ, _*_, _<_, _^_}
 use native.Mathlib.Omega.{arith}
 use mathlib.Core.List.{List, [], _∷_}

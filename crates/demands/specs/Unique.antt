@@ -13,7 +13,8 @@ use Rattle.text.specs.Decimal.{decimal}
 use Rattle.switch.specs.Conduction.{between}
 use Rattle.switch.specs.Deciding.{isComplementary}
 use Rattle.switch.specs.Promises.{planesOf, railsOf}
-use Rattle.switch.specs.Records.{typeOf}
+use Rattle.switch.specs.Records.{typeOf, typeWith}
+use Rattle.switch.specs.declared.Edge.{Edge}
 use Rattle.switch.specs.declared.ModuleType.{ModuleType}
 use Rattle.switch.specs.declared.Planes.{Planes}
 use Rattle.switch.specs.declared.Rails.{Rails}
@@ -76,9 +77,16 @@ pub record Unique : Type 0 where
   -- text::put_number
   pub text-put-number : (out : List ℕ) (at n : ℕ) → OneAndBuffer λ (r : ℕ) (out′ : List ℕ). (r ≡ at + length (decimal n)) × (out′ ≡ written out at (decimal n))
   -- switch::complementary::complementary
-  pub switch-complementary : (t : ModuleType) → One λ (r : Bool). r ≡ isComplementary (typeOf t)
+  pub switch-complementary : (edges : List Edge) (highest output labels : ℕ) → One λ (r : Bool). r ≡ isComplementary (typeWith highest output labels edges)
+  -- switch::complementary::check_type
+  pub switch-check-type : (t : ModuleType) → One λ (r : Bool). r ≡ isComplementary (typeOf t)
   -- switch::joining::joining
-  pub switch-joining : (t : ModuleType) (ones zeros : List ℕ) → One λ (r : Rails). r ≡ railsOf (typeOf t) ones zeros
+  pub switch-joining : (edges : List Edge) (highest output labels : ℕ) (ones zeros : List ℕ)
+      → One λ (r : Rails). r ≡ railsOf (typeWith highest output labels edges) ones zeros
+  -- switch::joining::joining_of
+  pub switch-joining-of : (t : ModuleType) (ones zeros : List ℕ) → One λ (r : Rails). r ≡ railsOf (typeOf t) ones zeros
+  -- switch::joining::join_type
+  pub switch-join-type : (t : ModuleType) (ones zeros : List ℕ) → One λ (r : Rails). r ≡ railsOf (typeOf t) ones zeros
   -- switch::joining::output_planes
   pub switch-output-planes : (supply ground : ℕ) → One λ (r : Planes). r ≡ planesOf supply ground
   -- circuit::fields::step_at

@@ -9,7 +9,10 @@ use crate::input::unread;
 use crate::output::Output;
 use crate::output::heading;
 
-pub fn input_count() -> usize {
+// How many there are. Where no file is named, standard input is one.
+pub fn input_count() -> usize
+    ensures { λ r. ⌜ 1 ≤ r ⌝ }
+{
     let arguments = os::arg_count();
     if arguments < 2 {
         return 1;

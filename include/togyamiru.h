@@ -20,7 +20,8 @@ enum {
     TOGYAMIRU_NUMBERS
 };
 
-/* No file has more faults than this; buffers for it are never refused. */
+/* No file that is longer is graded, and none has more faults; buffers for these are never refused. */
+#define TOGYAMIRU_MOST_BYTES 32768
 #define TOGYAMIRU_MOST_FAULTS 2048
 #define TOGYAMIRU_WORDS_A_FAULT 4
 

@@ -41,13 +41,15 @@ fn reconvergent() -> FileBuilder {
         .vectors(&["0", "1", "X"])
 }
 
+/// Two of three rows are found, but one of two classes.
 fn both_ends() -> FileBuilder {
-    listed_nand(&[(2, 3), (3, 2), (0, 3)], &["00", "01", "10", "11"])
+    listed_nand(&[(2, 3), (3, 2), (0, 3)], &["00", "01", "11"])
 }
 
-/// Under 00 both n-channel transistors are off, so node 3 is joined to no rail.
+/// Node 3 is joined to supply under 10 and to ground under 01; under 00, after
+/// each, it is joined to no rail.
 fn floating() -> FileBuilder {
-    listed_nand(&[(2, 3), (0, 3), (1, 3)], &["00"])
+    listed_nand(&[(2, 3), (0, 3), (1, 3)], &["10", "00", "01", "00"])
 }
 
 /// The second input is fixed by nobody: each vector as it is, then guessed.

@@ -44,16 +44,26 @@ fn reconvergent() {
     assert_eq!(digits(&graded, 2, Kind::Nodes, 0, 2), "110");
 }
 
+/// Rows with a mark over rows is more than found classes over classes.
 #[test]
 fn both_ends() {
-    let line = "vectors 4 faults 3 classes 2 found 2";
+    let line = "vectors 3 faults 3 classes 2 found 1";
     assert_eq!(first_line("both_ends"), line);
+    let rows = graded("both_ends").rows;
+    let is_marked = |row: &&Row| row.marks.contains(&true);
+    assert_eq!(rows.iter().filter(is_marked).count(), 2);
 }
 
+/// Node 3 is joined to supply, then to neither rail, then to ground, then to
+/// neither: only the vectors that join it mark its bridges.
 #[test]
 fn floating() {
-    let line = "vectors 1 faults 3 classes 3 found 0";
+    let line = "vectors 4 faults 3 classes 3 found 3";
     assert_eq!(first_line("floating"), line);
+    let graded = graded("floating");
+    assert_eq!(digits(&graded, 1, Kind::Nodes, 0, 3), "1000");
+    assert_eq!(digits(&graded, 1, Kind::Nodes, 2, 3), "0010");
+    assert_eq!(digits(&graded, 1, Kind::Nodes, 1, 3), "0010");
 }
 
 /// The odd vectors have X, the even ones the guess: it adds marks, and four of

@@ -20,7 +20,10 @@ enum {
     TOGYAMIRU_NUMBERS
 };
 
-/* No file that is longer is graded, and none has more faults; buffers for these are never refused. */
+/*
+ * The longest file that is graded, and the most faults that a file can have. A matrix of MOST_FAULTS * WORDS_A_FAULT words and a class
+ * buffer of MOST_FAULTS entries are long enough for every file. The refusal numbers are in docs/FORMAT.md.
+ */
 #define TOGYAMIRU_MOST_BYTES 32768
 #define TOGYAMIRU_MOST_FAULTS 2048
 #define TOGYAMIRU_WORDS_A_FAULT 4

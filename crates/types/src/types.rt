@@ -90,7 +90,7 @@ fn failing_before(tag: u8, at: usize, type_at: usize) -> Refusal
     Refusal::NotComplementary(type_at)
 }
 
-// The refusal of a type that is not complementary: 9 once the next tag has passed 3 and 4, or at the end of the file.
+// The refusal of a type that is not complementary: 9 once the next field has passed 2, 3 and 4, or at the end of the file.
 fn failing(file: &[u8], at: usize, type_at: usize) -> Refusal
     requires { ⌜ at ≤ length (now file) ⌝ }
     ensures { λ r. ⌜ verdictOf r ≡ failingVerdict «type_at» (cutFrom (now (file .entry)) at) ⌝ }

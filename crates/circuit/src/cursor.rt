@@ -19,13 +19,21 @@ pub fn reader_at<'a>(file: &'a [u8], at: usize) -> Reader<'a>
     Reader { file, at }
 }
 
+// The reader's place.
+pub fn place<'a>(reader: Reader<'a>) -> usize
+    ensures { λ r. ⌜ r ≡ reader .entry .at ⌝ }
+{
+    reader.at
+}
+
 // The step to the next field: it is told, and the reader's place moves behind it. Where no whole field stands, the place stays.
 pub fn next<'s, 'a>(reader: &'s mut Reader<'a>) -> Step
     requires { ⌜ now reader .at ≤ length (now (now reader .file)) ⌝ }
     ensures { λ r. ⌜ Stepped (now (reader .entry)) (now (reader .exit)) r ⌝ }
 {
-    let step = cut_at(reader.file, reader.at);
-    reader.at = behind(step, reader.at);
+    let at = place(*reader);
+    let step = cut_at(reader.file, at);
+    reader.at = behind(step, at);
     step
 }
 

@@ -1,8 +1,7 @@
 -- The laws of vectors: letters looked at one by one, the planes of a vector set bit by bit, and the vectors read so far.
 use Prim.Native.Nat.{ℕ, zero, suc, _+_, _*_, _%_, _^_, _<_, _≤_}
 use mathlib.Core.Path.{_≡_, refl, sym, ap, _∙_}
-use mathlib.Core.Bool.{Bool, true, false, cond, not}
-use mathlib.Core.Logic.{_⊎_, ⊎-elim}
+use mathlib.Core.Bool.{Bool, true, false, cond, not, _&&_}
 use mathlib.Core.List.{List, [], _∷_, _++_}
 use native.Mathlib.Nat.{pow-suc}
 use native.Mathlib.Omega.{arith}
@@ -35,26 +34,25 @@ use Rattle.circuit.proofs.Gathering.{SoFar, none-yet, stops, fails, one-more}
 
 -- ---- letters
 
-module _ (body : List ℕ) (i : ℕ) (h : i < length body) where
-  pub letters-on : isLetter (getD body i 0) ≡ true → allOf isLetter (drop i body) ≡ allOf isLetter (drop (suc i) body)
-  unfolding allOf
-  letters-on e = rw (drop-cons body i 0, e)
-
-  pub letters-stop : isLetter (getD body i 0) ≡ false → allOf isLetter (drop i body) ≡ false
-  unfolding allOf
-  letters-stop e = rw (drop-cons body i 0, e)
-
-pub letters-end : (body : List ℕ) (n : ℕ) → n ≡ length body → allOf isLetter (drop n body) ≡ true
+-- the letter at i is looked at
+pub letters-next : (body : List ℕ) (i : ℕ) → i < length body → (only : Bool)
+    → (only && allOf isLetter (drop i body)) ≡ ((only && isLetter (getD body i 0)) && allOf isLetter (drop (suc i) body))
 unfolding allOf
-letters-end body n e = rw (e, drop-length)
+letters-next body i h true = rw (drop-cons body i 0 h)
+letters-next body i h false = refl
 
-pub no-letter : (b : ℕ) → (b ≡ 48 → ⊥) → (b ≡ 49 → ⊥) → (b ≡ 88 → ⊥) → isLetter b ≡ false
-unfolding isLetter
-no-letter b x y z = rw (ne-eqb b 48 x, ne-eqb b 49 y, ne-eqb b 88 z)
+pub letter-kept : (only b : Bool) → b ≡ true → only ≡ (only && b)
+letter-kept true b e = sym e
+letter-kept false b e = refl
 
-pub is-letter : (b : ℕ) → (b ≡ 48) ⊎ ((b ≡ 49) ⊎ (b ≡ 88)) → isLetter b ≡ true
-unfolding isLetter
-is-letter b = ⊎-elim (λ e. rw e) (⊎-elim (λ e. rw e) (λ e. rw e))
+pub letter-lost : (only b : Bool) → b ≡ false → false ≡ (only && b)
+letter-lost true b e = sym e
+letter-lost false b e = refl
+
+pub letters-end : (body : List ℕ) (n : ℕ) (only : Bool) → n ≡ length body → (only && allOf isLetter (drop n body)) ≡ only
+unfolding allOf
+letters-end body n true e = rw (e, drop-length)
+letters-end body n false e = refl
 
 -- ---- the value of a letter
 

@@ -26,20 +26,33 @@ pub struct Vectors {
     pub all: [Vector; MOST_VECTORS],
 }
 
+fn is_letter(b: u8) -> bool
+    ensures { λ r. ⌜ r ≡ isLetter b ⌝ }
+{
+    if b == 48 {
+        return true;
+    }
+    if b == 49 {
+        return true;
+    }
+    b == 88
+}
+
+// Goes on past a byte that is no letter: without a way out of the loop the compiler takes many bytes at a time.
 fn letters_only(file: &[u8], f: Field) -> bool
     requires { ⌜ f .body + f .len ≤ length (now file) ⌝ }
     ensures { λ r. ⌜ r ≡ allOf isLetter (bodyOf (now (file .entry)) f) ⌝ }
 {
     let len = f.len;
+    let mut only = true;
     let mut i: usize = 0;
     while i < len {
-        let b = byte(file, f, i);
-        if b != 48 && b != 49 && b != 88 {
-            return false;
+        if !is_letter(byte(file, f, i)) {
+            only = false;
         }
         i += 1;
     }
-    true
+    only
 }
 
 // The first test of a vector field that refuses, with this many inputs and after `count` vectors.

@@ -1,26 +1,27 @@
--- `reader::vectors::letters_only` meets its contract. The loop's invariant: whether the whole body is letters is whether the rest from `i` on is.
--- Assumes nothing.
+-- `reader::vectors::letters_only` meets its contract. The loop's invariant: the whole body is letters exactly when those before `i` are and the rest
+-- from `i` on is. Assumes nothing.
 use Prim.Native.Nat.{_≤_, _-_}
-use mathlib.Core.Path.{_≡_, refl, sym, _∙_}
-use mathlib.Core.Bool.{true}
-use mathlib.Core.Logic.{inl, inr, ⊎-elim}
+use mathlib.Core.Path.{_≡_, refl, sym, ap, _∙_}
+use mathlib.Core.Bool.{_&&_}
+use mathlib.Core.Logic.{⊎-elim}
 use native.Mathlib.Numerals.{add-one}
 use native.Mathlib.Omega.{arith}
-use borrow.Author.Tests.{eqb-true, eqb-false, not-true, not-false}
-use lib.ListN.{drop}
+use borrow.Author.Needs.{needs}
+use borrow.Author.Tests.{not-true, not-false}
+use lib.ListN.{drop, getD}
 use Rattle.switch.specs.Modules.{allOf}
 use Rattle.circuit.specs.Table.{isLetter}
 use Rattle.circuit.specs.Stages.{bodyOf}
 use Rattle.circuit.proofs.Bodies.{length-body}
-use Rattle.reader.proofs.VectorLaws.{letters-on, letters-stop, letters-end, no-letter, is-letter}
+use Rattle.reader.proofs.VectorLaws.{letter-kept, letter-lost, letters-next, letters-end}
 use Rattle.reader.proofs.vectors.letters_only.Statement.{statement}
 use Rattle.reader.proofs.vectors.letters_only.Tie as tie
 
 abbrev Inv-loop : tie.InvT-loop
-Inv-loop file f len i₀ i = (i ≤ len) × (allOf isLetter (bodyOf file f) ≡ allOf isLetter (drop i (bodyOf file f)))
+Inv-loop file f len only₀ i₀ only i = (i ≤ len) × (allOf isLetter (bodyOf file f) ≡ (only && allOf isLetter (drop i (bodyOf file f))))
 
 abbrev μ-loop : tie.MeasureT-loop
-μ-loop file f len i₀ i = len - i
+μ-loop file f len only₀ i₀ only i = len - i
 
 loop-holds : tie.Need-loop-holds Inv-loop μ-loop
 loop-holds c = (omega arith, refl)
@@ -28,24 +29,8 @@ loop-holds c = (omega arith, refl)
 byte-requires : tie.Need-byte-requires Inv-loop μ-loop
 byte-requires c κs = c .before .before .before .pre
 
-returns : tie.Need-returns Inv-loop μ-loop
-returns c =
-    let called = c .before .before .before in
-    let loop = called .before .before in
-    let start = loop .before .before in
-    let end = length-body (start .args .file .now) (start .args .f) (start .pre) in
-    let none =
-    no-letter (called .byte .result) (c .before .before .if1 .taken) (eqb-false _ _ (not-true _ (c .before .if2 .taken)))
-    (eqb-false _ _ (not-true _ (c .if3 .taken))) in
-    let stop = letters-stop (bodyOf (start .args .file .now) (start .args .f)) (loop .loop .i) (omega arith) (rw (called .byte .ensures) at none) in
-    sym (loop .loop .inv .1 ∙ stop)
-
--- a byte that did not end the loop is a letter
-passed : (c : tie.Joined1 Inv-loop μ-loop) → isLetter (c .before .byte .result) ≡ true
-passed c =
-    is-letter (c .before .byte .result)
-    (⊎-elim (λ w. inr (inr (eqb-true _ _ (not-false _ (w .2 .left)))))
-    (⊎-elim (λ w. inr (inl (eqb-true _ _ (not-false _ (w .1 .left))))) (λ w. inl (w .left))) (c .if1 .came))
+is-letter-requires : tie.Need-is-letter-requires Inv-loop μ-loop
+is-letter-requires c κs = search needs
 
 add-i : tie.Need-add-i Inv-loop μ-loop
 add-i c = omega arith
@@ -55,18 +40,37 @@ loop-less c = omega arith
 
 loop-again : tie.Need-loop-again Inv-loop μ-loop
 loop-again c =
-    let loop = c .before .before .before in
+    let judged = c .before in
+    let read = judged .before .before in
+    let loop = read .before in
     let start = loop .before .before in
+    let body = bodyOf (start .args .file .now) (start .args .f) in
     let end = length-body (start .args .file .now) (start .args .f) (start .pre) in
-    let on = letters-on (bodyOf (start .args .file .now) (start .args .f)) (loop .loop .i) (omega arith) (rw (c .before .byte .ensures) at (passed c)) in
-    (omega arith, rw add-one (loop .loop .inv .1 ∙ on))
+    let only = loop .loop .only in
+    let letter = isLetter (getD body (loop .loop .i) 0) in
+    let is : judged .is-letter .result ≡ letter = judged .is-letter .ensures ∙ ap isLetter (judged .before .byte .ensures) in
+    let now : c .if1 .only ≡ (only && letter) =
+    ⊎-elim (λ w. w .1 ∙ letter-lost only letter (sym is ∙ not-true _ (w .0 .taken))) (λ w. w .1 ∙ letter-kept only letter (sym is ∙ not-false _ (w .0 .left)))
+    (c .if1 .came) in
+    (omega arith, rw (add-one, now) (loop .loop .inv .1 ∙ letters-next body (loop .loop .i) (omega arith) only))
 
-returns-2 : tie.Need-returns-2 Inv-loop μ-loop
-returns-2 c =
+returns : tie.Need-returns Inv-loop μ-loop
+returns c =
     let start = c .before .before .before in
+    let body = bodyOf (start .args .file .now) (start .args .f) in
     let end = length-body (start .args .file .now) (start .args .f) (start .pre) in
-    sym (c .before .loop .inv .1 ∙ letters-end (bodyOf (start .args .file .now) (start .args .f)) (c .before .loop .i) (omega arith))
+    sym (c .before .loop .inv .1 ∙ letters-end body (c .before .loop .i) (c .before .loop .only) (omega arith))
 
 pub letters-only-spec : {M : Type 1} → statement M
 letters-only-spec =
-    tie.close (tie.spec Inv-loop μ-loop loop-holds byte-requires returns add-i loop-less loop-again returns-2)
+    tie.close
+    (tie.spec
+    Inv-loop
+    μ-loop
+    loop-holds
+    byte-requires
+    is-letter-requires
+    add-i
+    loop-less
+    loop-again
+    returns)

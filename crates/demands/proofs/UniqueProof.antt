@@ -4,7 +4,6 @@ use mathlib.Core.Path.{_≡_, refl, sym, _∙_}
 use mathlib.Core.List.{List}
 use Rattle.switch.specs.declared.ModuleType.{ModuleType}
 use Rattle.circuit.specs.Answers.{verdictOf}
-use Rattle.circuit.specs.Circuit.{Circuit as CircuitMeant}
 use Rattle.circuit.specs.Reading.{readingOf}
 use Rattle.circuit.specs.Table.{Verdict}
 use Rattle.circuit.specs.declared.Reading.{Reading}
@@ -16,10 +15,8 @@ use Rattle.grading.specs.Given.{Read}
 use Rattle.grading.specs.Promise.{countsMeant, Promise, PromiseOfRead}
 use Rattle.grading.specs.declared.Answer.{Answer}
 use Rattle.grading.specs.declared.Counts.{Counts}
-use Rattle.rows.specs.Model.{RowsAre}
-use Rattle.rows.specs.declared.Rows.{Rows}
-use Rattle.marks.specs.Model.{InstanceRead}
-use Rattle.marks.specs.declared.instances.InstanceWords.{InstanceWords}
+use Rattle.rows.specs.Model.{RowsListed}
+use Rattle.marks.specs.Model.{InstanceMarked}
 use Rattle.classes.specs.Model.{InstanceClassed}
 use Rattle.classes.specs.declared.Classed.{Classed}
 use Rattle.report.specs.Given.{Given}
@@ -48,14 +45,12 @@ by-counts r s p q = same-counts r s (p ∙ sym q)
 given-once : {line out : List ℕ} → OneAndBuffer (λ (r : ℕ) (out′ : List ℕ). Given line out r out′)
 given-once r s x y g h = (g .count-is ∙ sym (h .count-is), g .after-is ∙ sym (h .after-is))
 
-rows-once : {c : CircuitMeant} → One (λ (r : Rows). RowsAre c r)
-rows-once r s g h = λ i. record { codes = (g .codes-are ∙ sym (h .codes-are)) i; ends = (g .ends-are ∙ sym (h .ends-are)) i }
+listed-once : {codes new : List ℕ} {from : ℕ} → OneAndBuffer (λ (r : ℕ) (codes′ : List ℕ). RowsListed codes from new r codes′)
+listed-once r s x y g h = (g .end ∙ sym (h .end), g .listed ∙ sym (h .listed))
 
-read-once : {t : ModuleType} {references : List Reference} {place vectors : ℕ} {ones zeros : List ℕ}
-    → OneAndBuffers (λ (r : InstanceWords) (ones′ zeros′ : List ℕ). InstanceRead t references place vectors ones zeros r ones′ zeros′)
-read-once r s x y u v g h =
-    let same : r ≡ s = g .words-are ∙ sym (h .words-are) in
-    (same, g .ones-are ∙ rw same (sym (h .ones-are)), g .zeros-are ∙ rw same (sym (h .zeros-are)))
+marked-once : {t : ModuleType} {references : List Reference} {place vectors from to : ℕ} {rows ones zeros matrix : List ℕ}
+    → OneAndBuffers (λ (ones′ zeros′ matrix′ : List ℕ). InstanceMarked t references place vectors rows from to ones zeros matrix ones′ zeros′ matrix′)
+marked-once r s x y u v g h = (g .ones-are ∙ sym (h .ones-are), g .zeros-are ∙ sym (h .zeros-are), g .rows-are ∙ sym (h .rows-are))
 
 classed-once : {rows matrix keys classes : List ℕ} {references : List Reference} {from to count : ℕ}
     → OneAndBuffers (λ (r : Classed) (keys′ classes′ : List ℕ). InstanceClassed rows references from to count matrix keys classes r keys′ classes′)
@@ -120,11 +115,10 @@ unique = record {
   grading-number-of = λ answer. by-equation;
   grading-place-of = λ answer. by-equation;
   grading-counts-of = λ answer. by-counts;
-  rows-rows-of = λ c given r s p q.
-      rows-once r s (p (given .circuit) (given .is) (given .good)) (q (given .circuit) (given .is) (given .good));
-  marks-signals-of = λ vectors. by-equation;
-  marks-read-instance = λ t one place vectors ones zeros. read-once;
-  marks-write-rows = λ rows from to vectors read matrix. by-equation;
+  rows-list-rows = λ one t bridges count place codes from. listed-once;
+  rows-rows-of = λ c given r s p q. p (given .circuit) (given .is) (given .good) ∙ sym (q (given .circuit) (given .is) (given .good));
+  marks-put-signals = λ vectors words. by-equations;
+  marks-mark-instance = λ t one place vectors rows from to ones zeros matrix. marked-once;
   classes-class-instance = λ rows from to one matrix keys classes count. classed-once;
   grader-grade-read = grade-read-once;
   grader-grade = grade-once;

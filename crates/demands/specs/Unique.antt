@@ -1,11 +1,11 @@
 -- Two outcomes that meet the promise of a public function are equal: its answer, and what it was lent as it is at exit. A field for each public function of each
 -- library, save those that docs/OPEN.md lists with what their clauses leave open, under its name, with its `ensures` clause word for word;
 -- .ci/parts/7-statements holds the two together.
-use Prim.Native.Nat.{ℕ, _+_, _*_, _≤_, min}
+use Prim.Native.Nat.{ℕ, _+_, _≤_, min}
 use mathlib.Core.Path.{_≡_}
 use mathlib.Core.Bool.{Bool}
 use mathlib.Core.List.{List, [], _∷_}
-use lib.ListN.{length, getD}
+use lib.ListN.{length, getD, take}
 use Rattle.words.specs.Bits.{firstOnes}
 use Rattle.words.specs.Rows.{marksOf, firstMarkOf}
 use Rattle.words.specs.Written.{written}
@@ -24,7 +24,7 @@ use Rattle.circuit.specs.Circuit.{Circuit as CircuitMeant}
 use Rattle.circuit.specs.Fields.{twoBytes}
 use Rattle.circuit.specs.Laws.{CircuitGood}
 use Rattle.circuit.specs.Reading.{readingOf}
-use Rattle.circuit.specs.Records.{circuitRecord, unusedType, unusedBridge, unusedInstance}
+use Rattle.circuit.specs.Records.{circuitRecord, unusedType, unusedBridge, unusedInstance, padded}
 use Rattle.circuit.specs.Stages.{bodyOf, StepIs, NextIs}
 use Rattle.circuit.specs.declared.Bridge.{Bridge}
 use Rattle.circuit.specs.declared.Circuit.{Circuit}
@@ -41,11 +41,9 @@ use Rattle.grading.specs.Given.{CircuitGiven, Read}
 use Rattle.grading.specs.Promise.{numberOf, placeOf, countsOf, countsMeant, Promise, PromiseOfRead}
 use Rattle.grading.specs.declared.Answer.{Answer}
 use Rattle.grading.specs.declared.Counts.{Counts}
-use Rattle.rows.specs.Model.{RowsAre}
-use Rattle.rows.specs.declared.Rows.{Rows}
-use Rattle.marks.specs.Model.{signalsOf, InstanceRead, rowsWords}
-use Rattle.marks.specs.declared.instances.InstanceWords.{InstanceWords}
-use Rattle.marks.specs.declared.signals.Signals.{Signals}
+use Rattle.grading.specs.Rows.{rowsOf}
+use Rattle.rows.specs.Model.{instanceCodes, codesOf, RowsListed}
+use Rattle.marks.specs.Model.{onesOf, zerosOf, inputWords, InstanceMarked}
 use Rattle.classes.specs.Model.{InstanceClassed}
 use Rattle.classes.specs.declared.Classed.{Classed}
 use Rattle.report.specs.Lines.{firstLine, rowLine, refusalLine}
@@ -123,16 +121,17 @@ pub record Unique : Type 0 where
   pub grading-place-of : (answer : Answer) → One λ (p : ℕ). p ≡ placeOf answer
   -- grading::answers::counts_of
   pub grading-counts-of : (answer : Answer) → One λ (r : Counts). countsMeant r ≡ countsOf answer
+  -- rows::list_rows
+  pub rows-list-rows : (one : Instance) (t : ModuleType) (bridges : List Bridge) («bridge_count» place : ℕ) (codes : List ℕ) (from : ℕ)
+      → OneAndBuffer λ (r : ℕ) (codes′ : List ℕ). RowsListed codes from (instanceCodes place (one .choice) (t .highest) (t .labels) (take «bridge_count» bridges)) r codes′
   -- rows::rows_of
-  pub rows-rows-of : (c : Circuit) → CircuitGiven c → One λ (r : Rows). ((meant : CircuitMeant) → c ≡ circuitRecord meant → CircuitGood meant → RowsAre meant r)
-  -- marks::signals::signals_of
-  pub marks-signals-of : (vectors : List Vector) → One λ (r : Signals). r ≡ signalsOf vectors
-  -- marks::instances::read_instance
-  pub marks-read-instance : (t : ModuleType) (one : Instance) (place vectors : ℕ) (ones zeros : List ℕ)
-      → OneAndBuffers λ (r : InstanceWords) (ones′ zeros′ : List ℕ). InstanceRead t (one .references) place vectors ones zeros r ones′ zeros′
-  -- marks::marks::write_rows
-  pub marks-write-rows : (rows : List ℕ) (from to vectors : ℕ) (read : InstanceWords) (matrix : List ℕ)
-      → One λ (matrix′ : List ℕ). matrix′ ≡ written matrix (4 * from) (rowsWords rows read vectors from to)
+  pub rows-rows-of : (c : Circuit) → CircuitGiven c → One λ (r : List ℕ). ((meant : CircuitMeant) → c ≡ circuitRecord meant → CircuitGood meant → r ≡ padded 2048 0 (codesOf (rowsOf meant)))
+  -- marks::signals::put_signals
+  pub marks-put-signals : (vectors : List Vector) (words : ℕ)
+      → OneAndBuffer λ (ones′ zeros′ : List ℕ). (ones′ ≡ inputWords (onesOf vectors) words) × (zeros′ ≡ inputWords (zerosOf vectors) words)
+  -- marks::instance::mark_instance
+  pub marks-mark-instance : (t : ModuleType) (one : Instance) (place vectors : ℕ) (rows : List ℕ) (from to : ℕ) (ones zeros matrix : List ℕ)
+      → OneAndBuffers λ (ones′ zeros′ matrix′ : List ℕ). InstanceMarked t (one .references) place vectors rows from to ones zeros matrix ones′ zeros′ matrix′
   -- classes::class_instance
   pub classes-class-instance : (rows : List ℕ) (from to : ℕ) (one : Instance) (matrix keys classes : List ℕ) (count : ℕ)
       → OneAndBuffers λ (r : Classed) (keys′ classes′ : List ℕ). InstanceClassed rows (one .references) from to count matrix keys classes r keys′ classes′

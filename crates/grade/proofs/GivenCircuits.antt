@@ -4,7 +4,6 @@ use mathlib.Core.Path.{_≡_, refl, sym, ap, _∙_}
 use mathlib.Core.List.{List}
 use lib.ListN.{length}
 use native.Mathlib.Omega.{arith}
-use Rattle.circuit.specs.Circuit.{Circuit}
 use Rattle.circuit.specs.Reading.{Reading, accepted, refusal, readingOf}
 use Rattle.circuit.specs.Answers.{Answers}
 use Rattle.circuit.specs.Records.{circuitRecord}

@@ -1,6 +1,5 @@
 -- A line given into the part of a buffer behind what waits: what waits then is within the buffer.
 use Prim.Native.Nat.{ℕ, _+_, _-_, _≤_}
-use mathlib.Core.Path.{_≡_}
 use mathlib.Core.List.{List}
 use lib.ListN.{length}
 use native.Mathlib.Omega.{arith}

@@ -76,8 +76,7 @@ pub fn row_lines(
     requires { ⌜ (8192 ≤ length (now matrix)) × (2048 ≤ length (now classes)) ⌝ }
     ensures { λ r. ⌜ r .at ≤ length (now (out .exit)) ⌝ }
 {
-    let rows = rows_of(circuit);
-    let codes = rows.codes;
+    let codes = rows_of(circuit);
     let faults = circuit.faults;
     let vectors = circuit.vector_count;
     let mut output = output;

@@ -1,13 +1,13 @@
 -- Grading a circuit instance by instance: what stands in signals, matrix, classes and counts after the first instances, that one turn of the loop
 -- goes from one instance to the next, given what each call answers, and that after the last the circuit is graded. Assumes nothing.
-use Prim.Native.Nat.{ℕ, suc, _+_, _-_, _*_, _<_, _≤_}
+use Prim.Native.Nat.{ℕ, suc, _+_, _-_, _*_, _/_, _<_, _≤_}
 use mathlib.Core.Path.{_≡_, refl, sym, ap, _∙_}
 use mathlib.Core.List.{List, _++_, map}
 use native.Mathlib.Nat.{zero-add}
 use native.Mathlib.Numerals.{add-one}
 use native.Mathlib.Omega.{arith}
 use lib.Dec.{T}
-use lib.ListN.{length, getD}
+use lib.ListN.{length, getD, take}
 use Rattle.words.specs.Bits.{ofBool, sumTo}
 use Rattle.words.specs.Written.{written}
 use Rattle.words.proofs.Laws.{ofBool-le-one}
@@ -20,9 +20,9 @@ use Rattle.switch.specs.Promises.{isAt0, isAt1}
 use Rattle.switch.specs.Records.{Given, typeOf}
 use Rattle.switch.specs.declared.ModuleType.{ModuleType as TypeRecord}
 use Rattle.switch.proofs.Deciding.{all-of}
-use Rattle.circuit.specs.Circuit.{Circuit, Instance, Reference, primary, outputOf, typeOfInstance, joinLists, faultsOf}
+use Rattle.circuit.specs.Circuit.{Circuit, Instance, Reference, primary, outputOf, typeOfInstance, joinLists}
 use Rattle.circuit.specs.Numbers.{referenceGood}
-use Rattle.circuit.specs.Records.{padded, typeRecord, instanceRecord, referenceRecord, unusedReference, circuitRecord}
+use Rattle.circuit.specs.Records.{typeRecord, instanceRecord, referenceRecord, unusedReference, circuitRecord}
 use Rattle.circuit.specs.Laws.{TypeSound, CircuitGood}
 use Rattle.circuit.specs.declared.Circuit.{Circuit as CircuitRecord}
 use Rattle.circuit.specs.declared.Instance.{Instance as InstanceRecord}
@@ -32,19 +32,17 @@ use Rattle.circuit.proofs.TypeLaws.{type-back, type-given}
 use Rattle.grading.specs.Rows.{Row, rowsOfInstance, rowsFrom, rowsOf, rowWords, matrixOf}
 use Rattle.grading.specs.Classes.{largest, classesAfter, classesOf, classFound, foundAmong, classCount, foundCount}
 use Rattle.grading.specs.Grading.{over, countsOf}
-use Rattle.grading.specs.Codes.{codeOf, CodesFit}
+use Rattle.grading.specs.Codes.{codeOf}
 use Rattle.grading.proofs.ValueLaws.{InstanceAt, good-at, type-at, type-ranges}
 use Rattle.grading.proofs.RecordReads.{referencesOf, instance-is, type-read}
-use Rattle.grading.proofs.RowLaws.{rowsBefore, grown as rows-grown, rows-all, noInstance, length-rows, length-of-instance, rows-grow, rows-within, few-rows}
+use Rattle.grading.proofs.RowLaws.{rowsBefore, grown as rows-grown, rows-all, noInstance, length-rows, length-of-instance, rows-grow, rows-few, rows-within, few-rows, faultsAt}
 use Rattle.grading.proofs.ClassLists.{length-classes, largest-most}
 use Rattle.grading.proofs.Lists.{getD-map}
 use Rattle.grading.proofs.MatrixLaws.{length-matrix, matrix-append}
-use Rattle.rows.specs.Model.{codes, RowsAre}
-use Rattle.rows.specs.declared.Rows.{Rows}
-use Rattle.rows.proofs.CodeLaws.{end-is, codes-at, codes-fit, ends-at}
-use Rattle.marks.specs.Model.{signalWords, ReferencesFit, rowsWords, signalsOf, InstanceRead}
-use Rattle.marks.specs.declared.signals.Signals.{Signals}
-use Rattle.marks.specs.declared.instances.InstanceWords.{InstanceWords}
+use Rattle.rows.specs.Model.{instanceCodes, RowsListed}
+use Rattle.rows.proofs.InstanceCodes.{codes-long as length-codes, listed-to, listed-long, listed-at, listed-fit}
+use Rattle.marks.specs.Model.{signalWords, ReferencesFit, InstanceWords, instanceWords, outputOnes, outputZeros, rowsWords, InstanceMarked}
+use Rattle.marks.specs.Model.{onesOf, zerosOf, inputWords, InstanceGiven}
 use Rattle.marks.proofs.SignalMeaning.{wordsOf, signals-start, signals-more}
 use Rattle.marks.proofs.RowMeaning.{rows-words}
 use Rattle.classes.specs.Model.{numbersOf, InstanceClassed, firstLabels, keysOf, numbers, foundFrom}
@@ -88,14 +86,12 @@ found-few c good i =
       few-rows c good,
     )
 
--- the rows from one place to another have their places, in the codes and in all that is written
-pub record TurnFits (codes ones zeros matrix classes : List ℕ) (count from to : ℕ) : Type 0 where
-  pub order : (from ≤ to) × (to ≤ 2048)
-  pub signals : (length ones ≡ 768) × (length zeros ≡ 768)
-  pub words : 4 * to ≤ length matrix
-  pub entries : to ≤ length classes
-  pub codes-fit : CodesFit codes from to
+-- what the calls of a turn ask of an instance of type t whose codes are listed from one place to another
+pub record TurnFits (t : TypeRecord) (one : InstanceRecord) (place : ℕ) (codes ones zeros matrix classes : List ℕ) (count from to : ℕ) : Type 0 where
+  pub codes-long : length codes ≡ 2048
+  pub marks : InstanceGiven t (one .references) place codes from to ones zeros matrix
   pub count-few : count ≤ from
+  pub entries : to ≤ length classes
 
 -- the buffers are long enough
 pub record Room (m : CircuitRecord) (matrix classes : List ℕ) : Type 0 where
@@ -121,25 +117,19 @@ module _ (c : Circuit) (m : CircuitRecord) (is : m ≡ circuitRecord c) where
   unfolding circuitRecord rowsOf
   faults-are = ap (λ (x : CircuitRecord). x .faults) is ∙ sym (length-rows (c .types) (c .bridges) 1 (c .instances))
 
-  pub turned-none : (matrix classes : List ℕ) (signals : Signals) → signals ≡ signalsOf (m .vectors)
-      → Turned c matrix classes (signals .ones) (signals .zeros) matrix classes 0 0 0 0
+  pub turned-none : (matrix classes ones zeros : List ℕ) → ones ≡ inputWords (onesOf (m .vectors)) ((m .«vector_count» + 63) / 64)
+      → zeros ≡ inputWords (zerosOf (m .vectors)) ((m .«vector_count» + 63) / 64) → Turned c matrix classes ones zeros matrix classes 0 0 0 0
   unfolding circuitRecord joinLists rowsFrom classesOf classesAfter largest foundAmong sumTo
-  turned-none matrix classes signals e =
-      let all : signals ≡ signalsOf (circuitRecord c .vectors) = e ∙ ap (λ (x : CircuitRecord). signalsOf (x .vectors)) is in
-      record {
-        inside = omega arith;
-        ones-are = ap (λ (x : Signals). x .ones) all ∙ signals-start c .0;
-        zeros-are = ap (λ (x : Signals). x .zeros) all ∙ signals-start c .1;
-        from-is = refl;
-        matrix-is = sym (written-nothing matrix 0);
-        classes-are = sym (written-nothing classes 0);
-        count-is = refl;
-        found-is = refl;
-      }
-
-  pub classes-few : CircuitGood c → {matrix₀ classes₀ ones zeros matrix classes : List ℕ} {count found from i : ℕ}
-      → Turned c matrix₀ classes₀ ones zeros matrix classes count found from i → count ≤ 2048
-  classes-few good {i = i} so-far = omega (arith, so-far .count-is, largest-most (rowsBefore c i), rows-within c i, few-rows c good)
+  turned-none matrix classes ones zeros e g = record {
+    inside = omega arith;
+    ones-are = e ∙ ap (λ (x : CircuitRecord). inputWords (onesOf (x .vectors)) ((x .«vector_count» + 63) / 64)) is ∙ signals-start c .0;
+    zeros-are = g ∙ ap (λ (x : CircuitRecord). inputWords (zerosOf (x .vectors)) ((x .«vector_count» + 63) / 64)) is ∙ signals-start c .1;
+    from-is = refl;
+    matrix-is = sym (written-nothing matrix 0);
+    classes-are = sym (written-nothing classes 0);
+    count-is = refl;
+    found-is = refl;
+  }
 
   -- the buffers keep their lengths
   module _ {matrix₀ classes₀ ones zeros matrix classes : List ℕ} {count found from i : ℕ}
@@ -193,9 +183,6 @@ module _ (c : Circuit) (good : CircuitGood c) (m : CircuitRecord) (is : m ≡ ci
   pub place-few : i < 128
   place-few = omega (arith, good .few-instances)
 
-  pub vectors-few : m .«vector_count» ≤ 256
-  vectors-few = omega (arith, vectors-are c m is, good .few-vectors)
-
   -- e and u are what stands past the places for instances and types
   module _ (e : InstanceRecord) where
     references-are : getD (m .instances) i e .references ≡ referencesOf inst
@@ -212,7 +199,7 @@ module _ (c : Circuit) (good : CircuitGood c) (m : CircuitRecord) (is : m ≡ ci
       t-is : t ≡ typeRecord type
       t-is = type-read c good m is i noInstance h e u
 
-      pub type-there : Given t
+      type-there : Given t
       type-there = rw t-is (type-given type (sound .ranges) (sound .few))
 
       type-meant : typeOf t ≡ type
@@ -226,7 +213,7 @@ module _ (c : Circuit) (good : CircuitGood c) (m : CircuitRecord) (is : m ≡ ci
       unfolding typeRecord
       output-is = ap (λ (x : TypeRecord). x .output) t-is
 
-      pub references-fit : ReferencesFit (one .references) (t .labels)
+      references-fit : ReferencesFit (one .references) (t .labels)
       references-fit =
           rw (references-are, labels-are)
           record { few = few; some = λ l q. range l q .0; most = λ l q. range l q .1 }
@@ -247,137 +234,159 @@ module _ (c : Circuit) (good : CircuitGood c) (m : CircuitRecord) (is : m ≡ ci
 
       -- ---- one turn
 
-      module _ (rows : Rows) (are : RowsAre c rows) (matrix₀ classes₀ ones zeros matrix classes : List ℕ) (count found from : ℕ)
-          (room : Room m matrix₀ classes₀) (so-far : Turned c matrix₀ classes₀ ones zeros matrix classes count found from i) where
-        abbrev to : ℕ
-        to = getD (rows .ends) i 0
+      abbrev faults : List Bridge
+      faults = faultsAt c noInstance i
 
-        abbrev faults : List Bridge
-        faults = faultsOf (c .types) (c .bridges) inst
+      abbrev given : List ℕ
+      given = instanceCodes i (one .choice) (t .highest) (t .labels) (take (m .«bridge_count») (m .bridges))
 
-        abbrev new : List Row
-        new = rowsOfInstance (c .types) (c .bridges) (suc i) inst
+      module _ (matrix₀ classes₀ ones zeros matrix classes : List ℕ) (count found from : ℕ) (room : Room m matrix₀ classes₀)
+          (so-far : Turned c matrix₀ classes₀ ones zeros matrix classes count found from i) (codes₀ : List ℕ) (codes-long : length codes₀ ≡ 2048) where
+        few-faults : from + length faults ≤ length codes₀
+        few-faults = omega (arith, so-far .from-is, rows-few c good i noInstance h)
 
-        to-is : to ≡ length (rowsBefore c (suc i))
-        to-is = ends-at c good rows are i h ∙ end-is c i
+        -- there is room for the instance's codes
+        pub codes-room : from + length given ≤ length codes₀
+        codes-room = omega (arith, few-faults, length-codes c good m is i noInstance h e u)
 
-        long : to ≡ from + length faults
-        long = omega (arith, to-is, so-far .from-is, rows-grow c i noInstance h)
+        -- its codes listed
+        module _ (codes : List ℕ) (to : ℕ) (listed : RowsListed codes₀ from given to codes) where
+          abbrev new : List Row
+          new = rowsOfInstance (c .types) (c .bridges) (suc i) inst
 
-        within : to ≤ length (rowsOf c)
-        within = omega (arith, to-is, rows-within c (suc i))
+          long : to ≡ from + length faults
+          long = listed-to c good m is i noInstance h e u codes₀ from to codes listed few-faults
 
-        order : (from ≤ to) × (to ≤ 2048)
-        order = (omega (arith, long), omega (arith, within, few-rows c good))
+          to-is : to ≡ length (rowsBefore c (suc i))
+          to-is = omega (arith, long, so-far .from-is, rows-grow c i noInstance h)
 
-        signals-long : (length ones ≡ 768) × (length zeros ≡ 768)
-        unfolding signalWords
-        signals-long = (ap length (so-far .ones-are) ∙ length-table 768 _, ap length (so-far .zeros-are) ∙ length-table 768 _)
+          within : to ≤ length (rowsOf c)
+          within = omega (arith, to-is, rows-within c (suc i))
 
-        -- what the calls of a turn ask
-        pub turn-fits : TurnFits (rows .codes) ones zeros matrix classes count from to
-        turn-fits = record {
-          order = order;
-          signals = signals-long;
-          words = omega (arith, turned-long c m is room so-far .0, within, room .words, faults-are c m is);
-          entries = omega (arith, turned-long c m is room so-far .1, within, room .entries, faults-are c m is);
-          codes-fit = rw (are .codes-are) (codes-fit c good from to within);
-          count-few = omega (arith, so-far .count-is, so-far .from-is, largest-most (rowsBefore c i));
-        }
+          order : (from ≤ to) × (to ≤ 2048)
+          order = (omega (arith, long), omega (arith, within, few-rows c good))
 
-        pub keys-kept : {matrix′ keys keys′ classes′ : List ℕ} {r : Classed} → length keys ≡ 2048
-            → InstanceClassed (rows .codes) (one .references) from to count matrix′ keys classes r keys′ classes′ → length keys′ ≡ 2048
-        keys-kept {keys = keys} {keys′ = keys′} long classed =
-            keys-long (rows .codes) (one .references) from to count order keys keys′ long (classed .keys-are)
+          signals-long : (length ones ≡ 768) × (length zeros ≡ 768)
+          unfolding signalWords
+          signals-long = (ap length (so-far .ones-are) ∙ length-table 768 _, ap length (so-far .zeros-are) ∙ length-table 768 _)
 
-        -- what the calls of a turn answer
-        module _ (read : InstanceWords) (ones′ zeros′ : List ℕ)
-            (reads : InstanceRead t (one .references) i (m .«vector_count») ones zeros read ones′ zeros′)
-            (matrix′ : List ℕ) (rows-put : matrix′ ≡ written matrix (4 * from) (rowsWords (rows .codes) read (m .«vector_count») from to))
-            (keys keys′ classes′ : List ℕ) (r : Classed)
-            (classed : InstanceClassed (rows .codes) (one .references) from to count matrix′ keys classes r keys′ classes′) where
-          stand : Bridge
-          stand = nodes 0 0
+          -- what the calls of a turn ask
+          pub turn-fits : TurnFits t one i codes ones zeros matrix classes count from to
+          turn-fits = record {
+            codes-long = listed-long c good m is i noInstance h e u codes₀ from to codes listed few-faults ∙ codes-long;
+            marks = record {
+              sound = type-there;
+              tied = references-fit;
+              placed = place-few;
+              ones-long = signals-long .0;
+              zeros-long = signals-long .1;
+              order = order .0;
+              most = order .1;
+              room = omega (arith, turned-long c m is room so-far .0, within, room .words, faults-are c m is);
+              codes = listed-fit c good m is i noInstance h e u codes₀ from to codes listed few-faults;
+            };
+            count-few = omega (arith, so-far .count-is, so-far .from-is, largest-most (rowsBefore c i));
+            entries = omega (arith, turned-long c m is room so-far .1, within, room .entries, faults-are c m is);
+          }
 
-          words-here : read ≡ wordsOf c i inst
-          words-here = reads .words-are ∙ rw (type-meant, references-are, so-far .ones-are, so-far .zeros-are, vectors-are c m is)
+          pub keys-kept : {matrix′ keys keys′ classes′ : List ℕ} {r : Classed} → length keys ≡ 2048
+              → InstanceClassed codes (one .references) from to count matrix′ keys classes r keys′ classes′ → length keys′ ≡ 2048
+          keys-kept {keys = keys} {keys′ = keys′} long classed =
+              keys-long codes (one .references) from to count order keys keys′ long (classed .keys-are)
 
-          codes-here : (j : ℕ) → j < to - from → getD (rows .codes) (from + j) 0 ≡ codeOf (suc i) (getD faults j stand)
-          codes-here j q =
-              ap (λ (l : List ℕ). getD l (from + j) 0) (are .codes-are)
-              ∙ ap (λ (n : ℕ). getD (padded 2048 0 (codes (rowsOf c))) (n + j) 0) (so-far .from-is)
-              ∙ codes-at c good i noInstance h j (omega (arith, long)) stand
+          -- what the calls of a turn answer
+          module _ (ones′ zeros′ matrix′ : List ℕ)
+              (marked : InstanceMarked t (one .references) i (m .«vector_count») codes from to ones zeros matrix ones′ zeros′ matrix′)
+              (keys keys′ classes′ : List ℕ) (r : Classed)
+              (classed : InstanceClassed codes (one .references) from to count matrix′ keys classes r keys′ classes′) where
+            stand : Bridge
+            stand = nodes 0 0
 
-          grown : rowsBefore c (suc i) ≡ rowsBefore c i ++ new
-          grown = rows-grown c i h noInstance inst refl
+            abbrev read : InstanceWords
+            read = instanceWords (typeOf t) (one .references) ones zeros
 
-          -- the matrix
-          texts : rowsWords (rows .codes) read (m .«vector_count») from to
-              ≡ joinLists (map (rowWords c) new)
-          texts = rw (words-here, vectors-are c m is) (rows-words c i inst at (rows .codes) from to stand (omega (arith, long)) codes-here)
+            words-here : read ≡ wordsOf c i inst
+            words-here = rw (type-meant, references-are, so-far .ones-are, so-far .zeros-are)
 
-          matrix-next : matrix′ ≡ written matrix₀ 0 (matrixTo c (suc i))
-          matrix-next =
-              let added : List ℕ = joinLists (map (rowWords c) new) in
-              let whole : matrixTo c (suc i) ≡ matrixTo c i ++ added
-              = ap (λ (l : List Row). joinLists (map (rowWords c) l)) grown ∙ matrix-append c (rowsBefore c i) new in
-              let place : 4 * from ≡ 0 + length (matrixTo c i) = omega (arith, so-far .from-is, length-matrix c (rowsBefore c i)) in
-              let fits : 0 + length (matrixTo c i ++ added) ≤ length matrix₀
-              = rw (← whole) (omega (arith, length-matrix c (rowsBefore c (suc i)), rows-within c (suc i), room .words, faults-are c m is)) in
-              rows-put
-              ∙ rw (texts, so-far .matrix-is, place)
-              (written-written matrix₀ 0 (matrixTo c i) added fits ∙ ap (written matrix₀ 0) (sym whole))
+            codes-here : (j : ℕ) → j < to - from → getD codes (from + j) 0 ≡ codeOf (suc i) (getD faults j stand)
+            codes-here j q = listed-at c good m is i noInstance h e u codes₀ from to codes listed few-faults j (omega (arith, long)) stand
 
-          -- the keys
-          keys-here : keysOf (rows .codes) (firstLabels (one .references)) from to ≡ faultKeys c (suc i) inst
-          keys-here = rw references-are (keys-are c (suc i) inst (rows .codes) from to stand (omega (arith, long)) codes-here)
+            grown : rowsBefore c (suc i) ≡ rowsBefore c i ++ new
+            grown = rows-grown c i h noInstance inst refl
 
-          -- the classes
-          numbers-here : numbersOf (rows .codes) (one .references) from to count
-              ≡ numbers (largest (classesOf (rowsBefore c i))) (faultKeys c (suc i) inst)
-          numbers-here = rw (keys-here, so-far .count-is)
+            -- the matrix
+            texts : rowsWords codes (read .supply) (read .ground) (read .ones) (read .zeros) (m .«vector_count») from to
+                ≡ joinLists (map (rowWords c) new)
+            texts =
+                ap (λ (r : InstanceWords). rowsWords codes (r .supply) (r .ground) (r .ones) (r .zeros) (m .«vector_count») from to) words-here
+                ∙ rw (vectors-are c m is) (rows-words c i inst at codes from to stand (omega (arith, long)) codes-here)
 
-          stepped : classesOf (rowsBefore c (suc i))
-              ≡ classesOf (rowsBefore c i) ++ numbers (largest (classesOf (rowsBefore c i))) (faultKeys c (suc i) inst)
-          stepped = class-next c good i h noInstance inst refl
+            matrix-next : matrix′ ≡ written matrix₀ 0 (matrixTo c (suc i))
+            matrix-next =
+                let added : List ℕ = joinLists (map (rowWords c) new) in
+                let whole : matrixTo c (suc i) ≡ matrixTo c i ++ added
+                = ap (λ (l : List Row). joinLists (map (rowWords c) l)) grown ∙ matrix-append c (rowsBefore c i) new in
+                let place : 4 * from ≡ 0 + length (matrixTo c i) = omega (arith, so-far .from-is, length-matrix c (rowsBefore c i)) in
+                let fits : 0 + length (matrixTo c i ++ added) ≤ length matrix₀
+                = rw (← whole) (omega (arith, length-matrix c (rowsBefore c (suc i)), rows-within c (suc i), room .words, faults-are c m is)) in
+                marked .rows-are
+                ∙ rw (texts, so-far .matrix-is, place)
+                (written-written matrix₀ 0 (matrixTo c i) added fits ∙ ap (written matrix₀ 0) (sym whole))
 
-          classes-next : classes′ ≡ written classes₀ 0 (classesOf (rowsBefore c (suc i)))
-          classes-next =
-              let old : List ℕ = classesOf (rowsBefore c i) in
-              let added : List ℕ = numbers (largest old) (faultKeys c (suc i) inst) in
-              let place : from ≡ 0 + length old = omega (arith, so-far .from-is, length-classes (rowsBefore c i)) in
-              let fits : 0 + length (old ++ added) ≤ length classes₀
-              = rw (← stepped) (omega (arith, length-classes (rowsBefore c (suc i)), rows-within c (suc i), room .entries, faults-are c m is)) in
-              classed .classes-are
-              ∙ rw (numbers-here, so-far .classes-are, place) (written-written classes₀ 0 old added fits ∙ ap (written classes₀ 0) (sym stepped))
+            -- the keys
+            keys-here : keysOf codes (firstLabels (one .references)) from to ≡ faultKeys c (suc i) inst
+            keys-here = rw references-are (keys-are c (suc i) inst codes from to stand (omega (arith, long)) codes-here)
 
-          count-here : r .count ≡ largest (classesOf (rowsBefore c (suc i)))
-          count-here = classed .count-is ∙ rw (numbers-here, so-far .count-is) (count-next c good i h noInstance inst refl)
+            -- the classes
+            numbers-here : numbersOf codes (one .references) from to count
+                ≡ numbers (largest (classesOf (rowsBefore c i))) (faultKeys c (suc i) inst)
+            numbers-here = rw (keys-here, so-far .count-is)
 
-          -- the found classes
-          found-next : found + r .found ≡ foundBefore c (suc i)
-          unfolding written
-          found-next =
-              let size : to - from ≡ length new = omega (arith, long, length-of-instance (c .types) (c .bridges) (suc i) inst) in
-              let step = found-step c good i h noInstance inst refl matrix′ classes′
-              (rw matrix-next (words-are c (rowsBefore c (suc i)) _)) (rw classes-next (numbers-are (rowsBefore c (suc i)) _)) in
-              let added : r .found ≡ foundFrom matrix′ classes′ (length (rowsBefore c i)) (length new) (largest (classesOf (rowsBefore c i)))
-              = classed .found-is ∙ found-same matrix′ classes′ (so-far .from-is) size (so-far .count-is) in
-              omega (arith, so-far .found-is, step, added)
+            stepped : classesOf (rowsBefore c (suc i))
+                ≡ classesOf (rowsBefore c i) ++ numbers (largest (classesOf (rowsBefore c i))) (faultKeys c (suc i) inst)
+            stepped = class-next c good i h noInstance inst refl
 
-          turned : Turned c matrix₀ classes₀ ones′ zeros′ matrix′ classes′ (r .count) (found + r .found) to (suc i)
-          turned =
-              let signals = signals-more c i inst at in
-              record {
-                inside = h;
-                ones-are = reads .ones-are ∙ rw (words-here, so-far .ones-are, output-is) (signals .0);
-                zeros-are = reads .zeros-are ∙ rw (words-here, so-far .zeros-are, output-is) (signals .1);
-                from-is = to-is;
-                matrix-is = matrix-next;
-                classes-are = classes-next;
-                count-is = count-here;
-                found-is = found-next;
-              }
+            classes-next : classes′ ≡ written classes₀ 0 (classesOf (rowsBefore c (suc i)))
+            classes-next =
+                let old : List ℕ = classesOf (rowsBefore c i) in
+                let added : List ℕ = numbers (largest old) (faultKeys c (suc i) inst) in
+                let place : from ≡ 0 + length old = omega (arith, so-far .from-is, length-classes (rowsBefore c i)) in
+                let fits : 0 + length (old ++ added) ≤ length classes₀
+                = rw (← stepped) (omega (arith, length-classes (rowsBefore c (suc i)), rows-within c (suc i), room .entries, faults-are c m is)) in
+                classed .classes-are
+                ∙ rw (numbers-here, so-far .classes-are, place) (written-written classes₀ 0 old added fits ∙ ap (written classes₀ 0) (sym stepped))
 
-          pub turn : Turned c matrix₀ classes₀ ones′ zeros′ matrix′ classes′ (r .count) (found + r .found) to (i + 1)
-          turn = rw (add-one i) turned
+            count-here : r .count ≡ largest (classesOf (rowsBefore c (suc i)))
+            count-here = classed .count-is ∙ rw (numbers-here, so-far .count-is) (count-next c good i h noInstance inst refl)
+
+            -- the found classes
+            found-next : found + r .found ≡ foundBefore c (suc i)
+            unfolding written
+            found-next =
+                let size : to - from ≡ length new = omega (arith, long, length-of-instance (c .types) (c .bridges) (suc i) inst) in
+                let step = found-step c good i h noInstance inst refl matrix′ classes′
+                (rw matrix-next (words-are c (rowsBefore c (suc i)) _)) (rw classes-next (numbers-are (rowsBefore c (suc i)) _)) in
+                let added : r .found ≡ foundFrom matrix′ classes′ (length (rowsBefore c i)) (length new) (largest (classesOf (rowsBefore c i)))
+                = classed .found-is ∙ found-same matrix′ classes′ (so-far .from-is) size (so-far .count-is) in
+                omega (arith, so-far .found-is, step, added)
+
+            turned : Turned c matrix₀ classes₀ ones′ zeros′ matrix′ classes′ (r .count) (found + r .found) to (suc i)
+            turned =
+                let signals = signals-more c i inst at in
+                record {
+                  inside = h;
+                  ones-are = marked .ones-are
+                      ∙ ap (λ (r : InstanceWords). written ones (4 * (64 + i)) (outputOnes (r .supply) (r .ground) (t .output))) words-here
+                      ∙ rw (so-far .ones-are, output-is) (signals .0);
+                  zeros-are = marked .zeros-are
+                      ∙ ap (λ (r : InstanceWords). written zeros (4 * (64 + i)) (outputZeros (r .supply) (r .ground) (t .output))) words-here
+                      ∙ rw (so-far .zeros-are, output-is) (signals .1);
+                  from-is = to-is;
+                  matrix-is = matrix-next;
+                  classes-are = classes-next;
+                  count-is = count-here;
+                  found-is = found-next;
+                }
+
+            pub turn : Turned c matrix₀ classes₀ ones′ zeros′ matrix′ classes′ (r .count) (found + r .found) to (i + 1)
+            turn = rw (add-one i) turned

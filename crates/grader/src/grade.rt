@@ -6,11 +6,10 @@ use circuit::refusal::refuses;
 use classes::class_instance;
 use grading::Answer;
 use grading::Counts;
-use marks::instances::read_instance;
-use marks::marks::write_rows;
-use marks::signals::signals_of;
+use marks::instance::mark_instance;
+use marks::signals::put_signals;
 use reader::read::read;
-use rows::rows_of;
+use rows::list_rows;
 ghost use Prim.Native.Nat.{_*_, _≤_};
 ghost use mathlib.Core.Path.{_≡_};
 ghost use lib.ListN.{length};
@@ -21,18 +20,28 @@ ghost use Rattle.grading.specs.Given.{CircuitGiven, Read};
 ghost use Rattle.grading.specs.Promise.{Promise, PromiseOfRead};
 ghost use Rattle.grader.specs.Model.{Graded};
 
+fn counted(vectors: usize, faults: usize, classes: u16, found: usize) -> Counts
+    ensures { λ r. ⌜ r ≡ record { vectors = vectors; faults = faults; classes = classes; found = found } ⌝ }
+{
+    Counts {
+        vectors,
+        faults,
+        classes: classes as usize,
+        found,
+    }
+}
+
 // The counts of a circuit whose buffers are long enough, with its rows and classes written.
 fn grade_circuit(c: Circuit, matrix: &mut [u64], classes: &mut [u16]) -> Counts
-    requires { ⌜ CircuitGiven c ⌝ }
-    requires { ⌜ (4 * (c .faults) ≤ length (now matrix)) × (c .faults ≤ length (now classes)) ⌝ }
+    requires { ⌜ CircuitGiven c × (4 * (c .faults) ≤ length (now matrix)) × (c .faults ≤ length (now classes)) ⌝ }
     ensures { λ r. ⌜ ((meant : CircuitMeant) → c ≡ circuitRecord meant → CircuitGood meant → Graded meant r (now (matrix .entry)) (now (classes .entry)) (now (matrix .exit)) (now (classes .exit))) ⌝ }
 {
-    let rows = rows_of(c);
-    let codes = rows.codes;
-    let signals = signals_of(c.vectors);
-    let mut ones = signals.ones;
-    let mut zeros = signals.zeros;
     let vectors = c.vector_count;
+    let bridges = c.bridges;
+    let mut ones = [0u64; 768];
+    let mut zeros = [0u64; 768];
+    put_signals(c.vectors, (vectors + 63) / 64, &mut ones, &mut zeros);
+    let mut codes = [0u32; MOST_FAULTS];
     let mut keys = [0u16; MOST_FAULTS];
     let mut count: u16 = 0;
     let mut found: usize = 0;
@@ -41,21 +50,26 @@ fn grade_circuit(c: Circuit, matrix: &mut [u64], classes: &mut [u16]) -> Counts
     while i < c.instance_count {
         let one = c.instances[i];
         let t = c.types[(one.type_number as usize) - 1];
-        let to = rows.ends[i] as usize;
-        let read = read_instance(t, one, i, vectors, &mut ones, &mut zeros);
-        write_rows(&codes, from, to, vectors, read, matrix);
+        let to = list_rows(one, t, bridges, c.bridge_count, i, &mut codes, from);
+        mark_instance(
+            t,
+            one,
+            i,
+            vectors,
+            &codes,
+            from,
+            to,
+            &mut ones,
+            &mut zeros,
+            matrix,
+        );
         let new = class_instance(&codes, from, to, one, matrix, &mut keys, classes, count);
         count = new.count;
         found += new.found;
         from = to;
         i += 1;
     }
-    Counts {
-        vectors,
-        faults: c.faults,
-        classes: count as usize,
-        found,
-    }
+    counted(vectors, c.faults, count, found)
 }
 
 // A file as it was read, for a caller that keeps its circuit: the counts, with the matrix and the classes written, or a refusal, with both as they were.

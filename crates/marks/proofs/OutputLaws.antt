@@ -1,25 +1,22 @@
 -- The outputs of the instances. Outputs of earlier instances stay as later ones are added, and a good instance refers to earlier ones only, so its
--- labels have the same values whether the outputs before it are given or all. Where every input is X, every output is X. Assumes nothing.
+-- labels have the same values whether the outputs before it are given or all. Assumes nothing.
 use Prim.Native.Nat.{ℕ, zero, suc, _+_, _<_, _≤_}
 use mathlib.Core.Path.{_≡_, refl, sym, ap, _∙_}
-use mathlib.Core.Bool.{false}
 use mathlib.Core.List.{List, [], _∷_, _++_}
 use native.Mathlib.Decide.{decLt}
 use native.Mathlib.Omega.{arith}
-use borrow.Author.Tests.{ne-eqb}
 use lib.Dec.{T}
-use lib.ListN.{length, getD, take, drop, length-append, take-append-drop, List·getD-append, List·getD-eq-default}
+use lib.ListN.{length, getD, take, drop, length-append, take-append-drop, List·getD-append}
 use lib.Seq.{take-suc, length-take-le}
-use Rattle.switch.specs.Conduction.{Value, atX, Channel, p-channel, n-channel, Edge, channelOf, transistorOn, anyOf, edgeOn, links}
-use Rattle.switch.specs.Modules.{ModuleType, linksOf}
+use Rattle.switch.specs.Conduction.{Value, atX}
+use Rattle.switch.specs.Modules.{ModuleType}
 use Rattle.switch.specs.Deciding as deciding
 use Rattle.switch.proofs.Channels.{in-between}
 use Rattle.switch.proofs.Deciding.{all-of}
 use Rattle.circuit.specs.Circuit.{Circuit, Reference, primary, outputOf, Instance, numbered, typeOfInstance}
 use Rattle.circuit.specs.Numbers.{referenceGood}
-use Rattle.circuit.specs.Laws.{CircuitGood}
 use Rattle.grading.specs.Values.{valueAt, labelValues, outputsAfter, outputsOf}
-use Rattle.grading.proofs.ValueLaws.{InstanceAt, type-ranges, good-at, type-at, label-value, label-past}
+use Rattle.grading.proofs.ValueLaws.{InstanceAt, good-at, label-value, label-past}
 use Rattle.marks.specs.Model.{vectorAt, outputsAt}
 
 module _ (types : List ModuleType) (vector : List Value) where
@@ -96,69 +93,3 @@ module _ (c : Circuit) (i : ℕ) (inst : Instance) (at : InstanceAt c i inst) (u
           ∙ sees (getD (inst .references) l (primary 0)) tied
           ∙ sym (label-value (vectorAt c u) before inst l)
       go (no h) = label-past (vectorAt c u) allOutputs inst l (omega arith) ∙ sym (label-past (vectorAt c u) before inst l (omega arith))
-
--- ---- where every input is X
-
-module _ (values : ℕ → Value) (unknown : (l : ℕ) → values l ≡ atX) where
-  off : (ch : Channel) → transistorOn ch atX ≡ false
-  unfolding transistorOn
-  off p-channel = refl
-  off n-channel = refl
-
-  none-on : (ch : Channel) (ls : List ℕ) → anyOf (λ (l : ℕ). transistorOn ch (values l)) ls ≡ false
-  unfolding anyOf
-  none-on ch [] = refl
-  none-on ch (l ∷ ls) = rw (unknown l, off ch, none-on ch ls)
-
-  no-links : (o : ℕ) (es : List Edge) → links o values es ≡ []
-  unfolding links edgeOn
-  no-links o [] = refl
-  no-links o (e ∷ es) = rw (none-on (channelOf o e) (e .labels)) (no-links o es)
-
-  output-unknown : (t : ModuleType) → 2 ≤ t .output → deciding.outputOf t values ≡ atX
-  unfolding deciding.outputOf linksOf deciding.joins deciding.renamings deciding.partIn
-  output-unknown t h =
-      rw (no-links (t .output) (t .edges), ne-eqb (t .output) 1 (λ e. omega arith), ne-eqb (t .output) 0 (λ e. omega arith))
-
--- every place of a list is X, and so with one X more
-snoc-unknown : (xs : List Value) (x : Value) → ((s : ℕ) → getD xs s atX ≡ atX) → x ≡ atX → (s : ℕ) → getD (xs ++ (x ∷ [])) s atX ≡ atX
-snoc-unknown [] x each e zero = e
-snoc-unknown [] x each e (suc s) = refl
-snoc-unknown (y ∷ xs) x each e zero = each 0
-snoc-unknown (y ∷ xs) x each e (suc s) = snoc-unknown xs x (λ j. each (suc j)) e s
-
-module _ (outputs : List Value) (unknown : (s : ℕ) → getD outputs s atX ≡ atX) where
-  value-unknown : (r : Reference) → valueAt [] outputs r ≡ atX
-  unfolding valueAt numbered
-  value-unknown (primary zero) = refl
-  value-unknown (primary (suc n)) = refl
-  value-unknown (outputOf zero) = refl
-  value-unknown (outputOf (suc j)) = unknown j
-
-  label-unknown : (inst : Instance) (l : ℕ) → labelValues [] outputs inst l ≡ atX
-  label-unknown inst l = label-value [] outputs inst l ∙ value-unknown (getD (inst .references) l (primary 0))
-
-module _ (c : Circuit) (good : CircuitGood c) (u : ℕ) (past : length (c .vectors) ≤ u) where
-  no-vector : vectorAt c u ≡ []
-  unfolding vectorAt
-  no-vector = List·getD-eq-default (c .vectors) [] past
-
-  new-unknown : (i : ℕ) (inst : Instance) → InstanceAt c i inst → ((s : ℕ) → getD (outputsAt c i u) s atX ≡ atX) → newOutput c i inst u ≡ atX
-  new-unknown i inst at unknown =
-      let t = typeOfInstance (c .types) inst in
-      rw no-vector
-      (output-unknown (labelValues [] (outputsAt c i u) inst) (label-unknown (outputsAt c i u) unknown inst) t
-      (type-ranges t (type-at c i inst at .sound) .output-low))
-
-  outputs-unknown : (i : ℕ) → i ≤ length (c .instances) → (none : Instance) (s : ℕ) → getD (outputsAt c i u) s atX ≡ atX
-  unfolding outputsAt outputsOf outputsAfter
-  outputs-unknown zero h none s = refl
-  outputs-unknown (suc i) h none s =
-      let inst = getD (c .instances) i none in
-      let at : InstanceAt c i inst = record { good = good; within = h; none = none; is = refl } in
-      let before = outputs-unknown i (omega arith) none in
-      rw (outputs-more c i inst at u) (snoc-unknown (outputsAt c i u) (newOutput c i inst u) before (new-unknown i inst at before) s)
-
-  -- past the last vector every instance's output is X
-  pub output-past : (i : ℕ) (inst : Instance) → InstanceAt c i inst → newOutput c i inst u ≡ atX
-  output-past i inst at = new-unknown i inst at (outputs-unknown i (omega (arith, at .within)) (at .none))

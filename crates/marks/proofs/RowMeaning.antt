@@ -39,10 +39,9 @@ use Rattle.grading.proofs.MatrixLaws.{matrix-table}
 use Rattle.grading.proofs.SameClass.{in-first, in-second, or-cases}
 use Rattle.grading.proofs.Everywhere.{Every, every-append, every-at, every-table, every-join}
 use Rattle.grading.proofs.ValueLaws.{InstanceAt, type-ranges, type-accepted, good-at, type-at}
-use Rattle.marks.specs.Model.{vectorAt, outputsAt, nodeWords, pairWord, inputMarkWord, markWord, vectorsIn, rowsWords}
-use Rattle.marks.specs.declared.instances.InstanceWords.{InstanceWords}
+use Rattle.marks.specs.Model.{vectorAt, outputsAt, InstanceWords, pairWord, inputMarkWord, markWord, vectorsIn, rowsWords}
 use Rattle.marks.proofs.OutputLaws.{label-sees}
-use Rattle.marks.proofs.SignalMeaning.{labelsOf, wordCount, wordsOf, four-at, label-ones, label-zeros, label-values}
+use Rattle.marks.proofs.SignalMeaning.{labelsOf, wordsOf, label-at, node-at, label-ones, label-zeros, label-values}
 
 -- ---- a bridge of an instance has nodes and labels of its type
 
@@ -196,36 +195,32 @@ abbrev pub rowAt : ℕ → Instance → Bridge → Row
 rowAt i inst b = record { number = suc i; instance = inst; bridge = b }
 
 module _ (c : Circuit) (i : ℕ) (inst : Instance) (at : InstanceAt c i inst) where
-  module _ (w v : ℕ) (hw : w < 4) (hv : v < 64) (before : 64 * w + v < length (c .vectors)) where
+  module _ (w v : ℕ) (hw : w < 4) (hv : v < 64) where
     -- the values of the labels under this vector
     abbrev values : ℕ → Value
     values = labelValues (vectorAt c (64 * w + v)) (outputsAt c i (64 * w + v)) inst
 
-    used : ltb w (wordCount c) ≡ true
-    used = lt-ltb w (wordCount c) (omega arith)
-
     rail-bit : (rail m : ℕ) → m < 32
         → let t = typeOfInstance (c .types) inst in
-        bit (getD (nodeWords t (wordCount c) (labelsOf isAt1 c i inst) (labelsOf isAt0 c i inst) rail) (4 * m + w) 0) v
-        ≡ ofBool (joins (linksOf t values) m rail)
-    unfolding nodeWords
+        bit (getD (railWords t (labelsOf isAt1 c i inst w) (labelsOf isAt0 c i inst w) rail) m 0) v ≡ ofBool (joins (linksOf t values) m rail)
     rail-bit rail m h =
         let t : ModuleType = typeOfInstance (c .types) inst in
-        let ones : ℕ → List ℕ = labelsOf isAt1 c i inst in
-        let zeros : ℕ → List ℕ = labelsOf isAt0 c i inst in
-        rw (four-at 32 (wordCount c) (λ (x : ℕ). railWords t (ones x) (zeros x) rail) m w h hw, used)
-        (bit-railWords t (ones w) (zeros w) rail m v h hv
-        ∙ ap (λ (x : ℕ → Value). ofBool (joins (linksOf t x) m rail)) (fun-ext (λ l. label-values c i inst at w v l hw hv)))
+        bit-railWords t (labelsOf isAt1 c i inst w) (labelsOf isAt0 c i inst w) rail m v h hv
+        ∙ ap (λ (x : ℕ → Value). ofBool (joins (linksOf t x) m rail)) (fun-ext (λ l. label-values c i inst at w v l hw hv))
+
+    supply-bit : (m : ℕ) → m < 32
+        → bit (getD (wordsOf c i inst .supply) (4 * m + w) 0) v ≡ ofBool (joins (linksOf (typeOfInstance (c .types) inst) values) m supply)
+    supply-bit m h = rw (node-at c i inst supply m w h hw) (rail-bit supply m h)
+
+    ground-bit : (m : ℕ) → m < 32
+        → bit (getD (wordsOf c i inst .ground) (4 * m + w) 0) v ≡ ofBool (joins (linksOf (typeOfInstance (c .types) inst) values) m ground)
+    ground-bit m h = rw (node-at c i inst ground m w h hw) (rail-bit ground m h)
 
     ones-bit : (l : ℕ) → l < 12 → bit (getD (wordsOf c i inst .ones) (4 * l + w) 0) v ≡ isAt1 (values l)
-    ones-bit l h =
-        rw (four-at 12 (wordCount c) (labelsOf isAt1 c i inst) l w h hw, used)
-        (label-ones c i inst at w v l hw hv)
+    ones-bit l h = rw (label-at c i inst isAt1 l w h hw) (label-ones c i inst at w v l hw hv)
 
     zeros-bit : (l : ℕ) → l < 12 → bit (getD (wordsOf c i inst .zeros) (4 * l + w) 0) v ≡ isAt0 (values l)
-    zeros-bit l h =
-        rw (four-at 12 (wordCount c) (labelsOf isAt0 c i inst) l w h hw, used)
-        (label-zeros c i inst at w v l hw hv)
+    zeros-bit l h = rw (label-at c i inst isAt0 l w h hw) (label-zeros c i inst at w v l hw hv)
 
     -- the bit of a row's code is its mark
     mark-bit : (b : Bridge) → T (bridgeSuits (typeOfInstance (c .types) inst) b)
@@ -242,7 +237,7 @@ module _ (c : Circuit) (i : ℕ) (inst : Instance) (at : InstanceAt c i inst) wh
         let ha : a < 32 = omega (arith, leb→le a (t .highest) (ends .0)) in
         let hb : b < 32 = omega (arith, leb→le b (t .highest) (ends .1)) in
         rw (nodes-word (words .supply) (words .ground) (words .ones) (words .zeros) w (suc i) a b ha hb, bit-or)
-        (simp (bit-and, rail-bit supply a ha, rail-bit ground b hb, rail-bit ground a ha, rail-bit supply b hb)
+        (simp (bit-and, supply-bit a ha, ground-bit b hb, ground-bit a ha, supply-bit b hb)
         (pair-mark t (type-accepted t tg) values a b))
     mark-bit (input m l) suits =
         let t : ModuleType = typeOfInstance (c .types) inst in
@@ -253,7 +248,7 @@ module _ (c : Circuit) (i : ℕ) (inst : Instance) (at : InstanceAt c i inst) wh
         let hm : m < 32 = omega (arith, leb→le m (t .highest) (ends .0), ranges .highest) in
         let hl : l < 12 = omega (arith, ltb→lt l (t .labels) (ends .1), ranges .labels-high) in
         rw (input-word (words .supply) (words .ground) (words .ones) (words .zeros) w (suc i) m l hm hl, bit-or)
-        (simp (bit-and, rail-bit supply m hm, rail-bit ground m hm, ones-bit l hl, zeros-bit l hl)
+        (simp (bit-and, supply-bit m hm, ground-bit m hm, ones-bit l hl, zeros-bit l hl)
         (input-mark t (type-accepted t tg) values m l (values l) refl))
 
     -- under every vector the row's values are those that the instance has when its turn comes
@@ -289,7 +284,7 @@ module _ (c : Circuit) (i : ℕ) (inst : Instance) (at : InstanceAt c i inst) wh
       same : (v : ℕ) → v < 64 → Dec (64 * w + v < count) → bit (bitAnd mark ones) v ≡ bits v
       same v hv (yes h) =
           let here : ltb v (count - 64 * w) ≡ true = lt-ltb v (count - 64 * w) (omega arith) in
-          let meant = mark-bit w v hw hv h b suits ∙ sym (mark-is w v hw hv h b) in
+          let meant = mark-bit w v hw hv b suits ∙ sym (mark-is w v hw hv b) in
           rw (bit-and, bit-firstOnes (count - 64 * w) v hv, here, up-below count (markOf c (rowAt i inst b)) (64 * w + v) h)
           (omega (arith, meant, bit-le-one mark v))
       same v hv (no h) =
@@ -300,7 +295,8 @@ module _ (c : Circuit) (i : ℕ) (inst : Instance) (at : InstanceAt c i inst) wh
   pub rows-words : (codes : List ℕ) (from to : ℕ) (d : Bridge)
       → let faults = faultsOf (c .types) (c .bridges) inst in
       to - from ≡ length faults → ((j : ℕ) → j < to - from → getD codes (from + j) 0 ≡ codeOf (suc i) (getD faults j d))
-      → rowsWords codes (wordsOf c i inst) (length (c .vectors)) from to
+      → let words = wordsOf c i inst in
+      rowsWords codes (words .supply) (words .ground) (words .ones) (words .zeros) (length (c .vectors)) from to
       ≡ joinLists (map (rowWords c) (rowsOfInstance (c .types) (c .bridges) (suc i) inst))
   unfolding rowsWords rowsOfInstance
   rows-words codes from to d long are =

@@ -2,25 +2,26 @@
 -- planes of its value; the output's planes written behind the signals are the signals with one instance more. Each law is over a plane. Assumes nothing.
 use Prim.Native.Nat.{ℕ, zero, suc, _+_, _-_, _*_, _/_, _%_, _<_, _≤_}
 use mathlib.Core.Path.{_≡_, refl, sym, ap, fun-ext, _∙_}
-use mathlib.Core.Bool.{Bool, true, false, cond}
 use mathlib.Core.List.{List, [], _∷_, _++_, map}
 use native.Mathlib.Decide.{decLt}
 use native.Mathlib.Omega.{arith}
-use borrow.Author.Tests.{ltb-false, lt-ltb, le-ltb}
-use lib.Dec.{T, ltb}
-use lib.ListN.{length, getD, take, drop, length-append, List·getD-append, List·getD-eq-default, List·getD-map}
-use lib.Seq.{length-take-le, getD-take, getD-drop, getD-append-seam, getD-append-add}
+use borrow.Author.Tests.{lt-ltb, le-ltb}
+use lib.Dec.{T}
+use lib.ListN.{length, getD, length-append, List·getD-append, List·getD-eq-default, List·getD-map}
+use lib.Seq.{getD-append-seam}
 use Rattle.words.specs.Bits.{bit, pack, word}
+use Rattle.words.specs.Each.{wordOfEach}
 use Rattle.words.specs.Tables.{table, upTo}
 use Rattle.words.specs.Written.{written}
 use Rattle.words.proofs.Laws.{bit-zero, bit-past, bit-pack, pack-lt, pack-cong, pack-zero, bit-word}
 use Rattle.words.proofs.Tables.{length-table, getD-table, is-table, table-cong, up-below, up-past}
-use Rattle.words.proofs.WrittenLaws.{length-written}
+use Rattle.words.proofs.EachLaws.{four-at, word-of-four}
+use Rattle.words.proofs.WrittenLaws.{length-written, written-before, written-here, written-after}
 use Rattle.switch.specs.Conduction.{Value, at0, at1, atX, supply, ground}
 use Rattle.switch.specs.Modules.{ModuleType}
 use Rattle.switch.specs.Deciding as deciding
 use Rattle.switch.specs.Records.{valueOf, valuesAt}
-use Rattle.switch.specs.Promises.{railWords, isAt0, isAt1, planes, planesOf}
+use Rattle.switch.specs.Promises.{railWords, fourRailWords, isAt0, isAt1, planes, planesOf}
 use Rattle.switch.specs.declared.Planes.{Planes}
 use Rattle.switch.proofs.Channels.{in-between}
 use Rattle.switch.proofs.Deciding.{all-of}
@@ -34,10 +35,9 @@ use Rattle.circuit.proofs.Padding.{getD-padded}
 use Rattle.grading.specs.Values.{valueAt, labelValues, outputsOf, outputsAfter}
 use Rattle.grading.proofs.RecordReads.{referencesOf}
 use Rattle.grading.proofs.ValueLaws.{InstanceAt, type-ranges, good-at, type-at, label-value, label-past}
-use Rattle.marks.specs.Model.{vectorAt, outputsAt, signalAt, signalWord, signalWords, columnsOf, inputWord, inputWords, placeOfSignal, signalOf}
-use Rattle.marks.specs.Model.{labelWords, fourEach, nodeWords, instanceWords, outputOnes, outputZeros}
-use Rattle.marks.specs.declared.instances.InstanceWords.{InstanceWords}
-use Rattle.marks.proofs.OutputLaws.{newOutput, length-outputsAt, outputs-more, output-past}
+use Rattle.marks.specs.Model.{vectorAt, outputsAt, signalAt, signalWord, signalWords, onesOf, zerosOf, inputWord, inputWords, placeOfSignal, signalOf}
+use Rattle.marks.specs.Model.{labelWords, labelPlanes, InstanceWords, instanceWords, outputOnes, outputZeros}
+use Rattle.marks.proofs.OutputLaws.{newOutput, length-outputsAt, outputs-more}
 
 -- word w of its labels, in a plane
 abbrev pub labelsOf : (Value → ℕ) → Circuit → ℕ → Instance → ℕ → List ℕ
@@ -49,7 +49,7 @@ wordCount c = (length (c .vectors) + 63) / 64
 
 -- what the rows of the instance at i are read from
 abbrev pub wordsOf : Circuit → ℕ → Instance → InstanceWords
-wordsOf c i inst = instanceWords (typeOfInstance (c .types) inst) (referencesOf inst) (signalWords isAt1 c i) (signalWords isAt0 c i) (wordCount c)
+wordsOf c i inst = instanceWords (typeOfInstance (c .types) inst) (referencesOf inst) (signalWords isAt1 c i) (signalWords isAt0 c i)
 
 -- ---- planes
 
@@ -79,38 +79,6 @@ unfolding valueOf isAt1 isAt0
 value-again at0 = refl
 value-again at1 = refl
 value-again atX = refl
-
--- ---- what stands in a buffer after a list is written into it
-
-module _ (buffer : List ℕ) (at : ℕ) (text : List ℕ) (fits : at + length text ≤ length buffer) where
-  length-front : length (take at buffer) ≡ at
-  length-front = length-take-le at buffer (omega arith)
-
-  length-texted : length (take at buffer ++ text) ≡ at + length text
-  length-texted = omega (arith, length-append (take at buffer) text, length-front)
-
-  written-before : (j : ℕ) → j < at → getD (written buffer at text) j 0 ≡ getD buffer j 0
-  unfolding written
-  written-before j h =
-      List·getD-append (take at buffer ++ text) (drop (at + length text) buffer) 0 j (omega (arith, length-texted))
-      ∙ List·getD-append (take at buffer) text 0 j (omega (arith, length-front))
-      ∙ getD-take at buffer j 0 h
-
-  written-here : (j : ℕ) → j < length text → getD (written buffer at text) (at + j) 0 ≡ getD text j 0
-  unfolding written
-  written-here j h =
-      List·getD-append (take at buffer ++ text) (drop (at + length text) buffer) 0 (at + j) (omega (arith, length-texted))
-      ∙ ap (λ (n : ℕ). getD (take at buffer ++ text) n 0) (omega (arith, length-front))
-      ∙ getD-append-add (take at buffer) text j 0
-
-  written-after : (j : ℕ) → at + length text ≤ j → getD (written buffer at text) j 0 ≡ getD buffer j 0
-  unfolding written
-  written-after j h =
-      let more : ℕ = j - (at + length text) in
-      ap (λ (n : ℕ). getD ((take at buffer ++ text) ++ drop (at + length text) buffer) n 0) (omega (arith, length-texted))
-      ∙ getD-append-add (take at buffer ++ text) (drop (at + length text) buffer) more 0
-      ∙ getD-drop (at + length text) buffer more 0
-      ∙ ap (λ (n : ℕ). getD buffer n 0) (omega arith)
 
 -- a plane gives a bit to each value, and 0 to X
 module _ (plane : Value → ℕ) (small : (x : Value) → plane x ≤ 1) (off : plane atX ≡ 0) (c : Circuit) where
@@ -151,6 +119,16 @@ module _ (plane : Value → ℕ) (small : (x : Value) → plane x ≤ 1) (off : 
         ∙ vector-bit (vectorAt c u) (j / 4)
         ∙ ap plane (sym (signal-input 0 u (j / 4) (omega arith))))
 
+    -- a vector that is not there is X at each input
+    missing-plane : (j : ℕ) → j < 256 → wordCount c ≤ j % 4 → 0 ≡ signalWord plane c 0 j
+    unfolding signalWord vectorAt
+    missing-plane j h past =
+        sym (word-zero (λ (v : ℕ). plane (signalAt c 0 (64 * (j % 4) + v) (j / 4))) (λ v.
+        let u : ℕ = 64 * (j % 4) + v in
+        ap plane (signal-input 0 u (j / 4) (omega arith)
+        ∙ ap (λ (vector : List Value). getD vector (j / 4) atX) (List·getD-eq-default (c .vectors) [] (omega arith)))
+        ∙ off))
+
     -- there is no output yet
     output-plane : (j : ℕ) → 256 ≤ j → 0 ≡ signalWord plane c 0 j
     unfolding signalWord outputsAt outputsOf outputsAfter
@@ -158,16 +136,18 @@ module _ (plane : Value → ℕ) (small : (x : Value) → plane x ≤ 1) (off : 
         sym (word-zero (λ (v : ℕ). plane (signalAt c 0 (64 * (j % 4) + v) (j / 4))) (λ v.
         ap plane (signal-output 0 (64 * (j % 4) + v) (j / 4) (omega arith)) ∙ off))
 
-    start-plane : inputWords column ≡ signalWords plane c 0
+    start-plane : inputWords column (wordCount c) ≡ signalWords plane c 0
     unfolding inputWords signalWords
-    start-plane = table-cong 768 (upTo 256 words) (signalWord plane c 0) (λ j h. at j (decLt j 256))
+    start-plane = table-cong 768 (upTo 256 words) (signalWord plane c 0) (λ j h. at j (decLt j 256) (decLt (j % 4) (wordCount c)))
       where
         words : ℕ → ℕ
-        words j = inputWord column (j / 4) (j % 4)
+        words j = upTo (wordCount c) (inputWord column (j / 4)) (j % 4)
 
-        at : (j : ℕ) → Dec (j < 256) → upTo 256 words j ≡ signalWord plane c 0 j
-        at j (yes h) = up-below 256 words j h ∙ input-plane j h
-        at j (no h) = up-past 256 words j (omega arith) ∙ output-plane j (omega arith)
+        at : (j : ℕ) → Dec (j < 256) → Dec (j % 4 < wordCount c) → upTo 256 words j ≡ signalWord plane c 0 j
+        at j (yes h) (yes q) = up-below 256 words j h ∙ up-below (wordCount c) (inputWord column (j / 4)) (j % 4) q ∙ input-plane j h
+        at j (yes h) (no q) =
+            up-below 256 words j h ∙ up-past (wordCount c) (inputWord column (j / 4)) (j % 4) (omega arith) ∙ missing-plane j h (omega arith)
+        at j (no h) q = up-past 256 words j (omega arith) ∙ output-plane j (omega arith)
 
   -- ---- a label
 
@@ -330,13 +310,28 @@ module _ (plane : Value → ℕ) (small : (x : Value) → plane x ≤ 1) (off : 
 
 -- ---- the laws
 
--- of four words each, word w of what stands at m
-pub four-at : (n words : ℕ) (f : ℕ → List ℕ) (m w : ℕ) → m < n → w < 4 → getD (fourEach n words f) (4 * m + w) 0 ≡ cond (ltb w words) (getD (f w) m 0) 0
-unfolding fourEach
-four-at n words f m w h k =
-    let high : (4 * m + w) / 4 ≡ m = omega arith in
-    let low : (4 * m + w) % 4 ≡ w = omega arith in
-    rw (getD-table (4 * n) (λ (j : ℕ). cond (ltb (j % 4) words) (getD (f (j % 4)) (j / 4) 0) 0) 0 (4 * m + w) (omega arith), high, low)
+-- word w of a label, and of a node for a rail
+module _ (c : Circuit) (i : ℕ) (inst : Instance) where
+  abbrev planesOfLabels : (Value → ℕ) → List ℕ
+  planesOfLabels plane = labelPlanes (referencesOf inst) (typeOfInstance (c .types) inst .labels) (signalWords plane c i)
+
+  pub label-at : (plane : Value → ℕ) (l w : ℕ) → l < 12 → w < 4 → getD (planesOfLabels plane) (4 * l + w) 0 ≡ getD (labelsOf plane c i inst w) l 0
+  unfolding labelPlanes
+  label-at plane l w h k = four-at 12 (labelsOf plane c i inst) l w h k
+
+  labels-again : (plane : Value → ℕ) (w : ℕ) → w < 4 → wordOfEach 4 w 12 (planesOfLabels plane) ≡ labelsOf plane c i inst w
+  unfolding labelPlanes labelWords
+  labels-again plane w k = word-of-four 12 (labelsOf plane c i inst) w k (length-table 12 _)
+
+  pub node-at : (rail m w : ℕ) → m < 32 → w < 4
+      → let t = typeOfInstance (c .types) inst in
+      getD (fourRailWords t (planesOfLabels isAt1) (planesOfLabels isAt0) rail) (4 * m + w) 0
+      ≡ getD (railWords t (labelsOf isAt1 c i inst w) (labelsOf isAt0 c i inst w) rail) m 0
+  unfolding fourRailWords
+  node-at rail m w h k =
+      let t : ModuleType = typeOfInstance (c .types) inst in
+      four-at 32 (λ (x : ℕ). railWords t (wordOfEach 4 x 12 (planesOfLabels isAt1)) (wordOfEach 4 x 12 (planesOfLabels isAt0)) rail) m w h k
+      ∙ rw (labels-again isAt1 w k, labels-again isAt0 w k)
 
 module _ (c : Circuit) where
   -- a column of the vectors' records
@@ -349,13 +344,13 @@ module _ (c : Circuit) where
       ∙ List·getD-map field records u unusedVector
       ∙ ap field (getD-padded unusedVector 256 (map vectorRecord (c .vectors)) unusedVector u h ∙ List·getD-map vectorRecord (c .vectors) u [])
 
-  pub signals-start : let columns = columnsOf (padded 256 unusedVector (map vectorRecord (c .vectors))) in
-      (inputWords (columns .ones) ≡ signalWords isAt1 c 0) × (inputWords (columns .zeros) ≡ signalWords isAt0 c 0)
-  unfolding vectorRecord isAt1 isAt0 pack
+  pub signals-start : let vectors = padded 256 unusedVector (map vectorRecord (c .vectors)) in
+      (inputWords (onesOf vectors) (wordCount c) ≡ signalWords isAt1 c 0) × (inputWords (zerosOf vectors) (wordCount c) ≡ signalWords isAt0 c 0)
+  unfolding onesOf zerosOf vectorRecord isAt1 isAt0 pack
   signals-start =
-      let columns = columnsOf (padded 256 unusedVector (map vectorRecord (c .vectors))) in (
-        start-plane isAt1 at1-small refl c (columns .ones) (λ u h. column-at (λ (v : VectorRecord). v .ones) u h refl),
-        start-plane isAt0 at0-small refl c (columns .zeros) (λ u h. column-at (λ (v : VectorRecord). v .zeros) u h refl),
+      let vectors = padded 256 unusedVector (map vectorRecord (c .vectors)) in (
+        start-plane isAt1 at1-small refl c (onesOf vectors) (λ u h. column-at (λ (v : VectorRecord). v .ones) u h refl),
+        start-plane isAt0 at0-small refl c (zerosOf vectors) (λ u h. column-at (λ (v : VectorRecord). v .zeros) u h refl),
       )
 
   module _ (i : ℕ) (inst : Instance) (at : InstanceAt c i inst) where
@@ -380,46 +375,27 @@ module _ (c : Circuit) where
         rw (label-ones w v l hw hv, label-zeros w v l hw hv)
         (value-again (labelValues (vectorAt c (64 * w + v)) (outputsAt c i (64 * w + v)) inst l))
 
-    -- the planes of the instance's output, word by word: those of its value, and past the last vector those of X
+    -- the planes of the instance's output, word by word
     module _ (plane : Value → ℕ) (column : Planes → ℕ) (column-is : (f : ℕ → Value) → column (planes f) ≡ word (λ (v : ℕ). plane (f v))) where
       output-word : (w : ℕ) → w < 4
           → let output = typeOfInstance (c .types) inst .output in
           column (planesOf (getD (wordsOf c i inst .supply) (4 * output + w) 0) (getD (wordsOf c i inst .ground) (4 * output + w) 0))
           ≡ word (λ (v : ℕ). plane (newOutput c i inst (64 * w + v)))
-      unfolding nodeWords valueOf
       output-word w h =
-          rw (four-at 32 (wordCount c) (joined supply) (t .output) w inside h, four-at 32 (wordCount c) (joined ground) (t .output) w inside h)
-          (go (ltb w (wordCount c)) refl)
+          rw (node-at c i inst supply (t .output) w inside h, node-at c i inst ground (t .output) w inside h)
+          (ap column (output-planes t (labelsOf isAt1 c i inst w) (labelsOf isAt0 c i inst w) inside)
+          ∙ column-is (λ (v : ℕ). deciding.outputOf t (values v))
+          ∙ word-cong (λ (v : ℕ). plane (deciding.outputOf t (values v))) (λ (v : ℕ). plane (newOutput c i inst (64 * w + v)))
+          (λ v k. ap (λ (x : ℕ → Value). plane (deciding.outputOf t x)) (fun-ext (λ l. label-values w v l h k))))
         where
           t : ModuleType
           t = typeOfInstance (c .types) inst
-
-          joined : ℕ → ℕ → List ℕ
-          joined rail x = railWords t (labelsOf isAt1 c i inst x) (labelsOf isAt0 c i inst x) rail
 
           values : ℕ → ℕ → Value
           values v = valuesAt (labelsOf isAt1 c i inst w) (labelsOf isAt0 c i inst w) v
 
           inside : t .output < 32
           inside = let ranges = type-ranges t (type-at c i inst at .sound) in omega (arith, ranges .output-high, ranges .highest)
-
-          new : ℕ → ℕ
-          new v = plane (newOutput c i inst (64 * w + v))
-
-          nothing : (v : ℕ) → valueOf (bit 0 v) (bit 0 v) ≡ atX
-          nothing v = rw (bit-zero v)
-
-          go : (b : Bool) → ltb w (wordCount c) ≡ b
-              → column (planesOf (cond b (getD (joined supply w) (t .output) 0) 0) (cond b (getD (joined ground w) (t .output) 0) 0)) ≡ word new
-          go true e =
-              ap column (output-planes t (labelsOf isAt1 c i inst w) (labelsOf isAt0 c i inst w) inside)
-              ∙ column-is (λ (v : ℕ). deciding.outputOf t (values v))
-              ∙ word-cong (λ (v : ℕ). plane (deciding.outputOf t (values v))) new
-              (λ v k. ap (λ (x : ℕ → Value). plane (deciding.outputOf t x)) (fun-ext (λ l. label-values w v l h k)))
-          go false e =
-              column-is (λ (v : ℕ). valueOf (bit 0 v) (bit 0 v))
-              ∙ word-cong (λ (v : ℕ). plane (valueOf (bit 0 v) (bit 0 v))) new
-              (λ v k. ap plane (nothing v ∙ sym (output-past c (at .good) (64 * w + v) (omega (arith, ltb-false w (wordCount c) e)) i inst at)))
 
     pub signals-more : let supply = wordsOf c i inst .supply in
         let ground = wordsOf c i inst .ground in

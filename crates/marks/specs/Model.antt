@@ -1,27 +1,27 @@
 -- What the code computes, as lists of words: signals' planes, an instance's words, mark words.
-use Prim.Native.Nat.{ℕ, zero, suc, _+_, _-_, _*_, _/_, _%_, _<_, _≤_}
+use Prim.Native.Nat.{ℕ, _+_, _-_, _*_, _/_, _%_, _^_, _<_, _≤_}
 use mathlib.Core.Bool.{Bool, true, false, cond}
 use mathlib.Core.List.{List, [], map}
 use lib.Bits.{bitAnd, bitOr}
 use lib.Dec.{eqb, ltb}
-use lib.ListN.{getD, take, set}
+use lib.ListN.{length, getD, take}
 use mathlib.Core.Path.{_≡_}
 use Rattle.words.specs.Bits.{bit, word, firstOnes}
+use Rattle.words.specs.Each.{fourEach}
 use Rattle.words.specs.Tables.{table, upTo}
 use Rattle.words.specs.Written.{written}
 use Rattle.switch.specs.Conduction.{Value, atX, supply, ground}
 use Rattle.switch.specs.Modules.{ModuleType}
-use Rattle.switch.specs.Promises.{railWords, planesOf}
-use Rattle.switch.specs.Records.{typeOf}
+use Rattle.switch.specs.Promises.{fourRailWords, planesOf}
+use Rattle.switch.specs.Records.{Given, typeOf}
 use Rattle.switch.specs.declared.ModuleType.{ModuleType as TypeRecord}
 use Rattle.circuit.specs.Circuit.{Circuit}
 use Rattle.circuit.specs.Records.{unusedReference}
 use Rattle.circuit.specs.declared.Reference.{Reference as ReferenceRecord}
 use Rattle.circuit.specs.declared.Vector.{Vector as VectorRecord}
+use Rattle.grading.specs.Codes.{CodesFit}
 use Rattle.grading.specs.Values.{outputsOf}
-use Rattle.marks.specs.declared.signals.Columns.{Columns}
-use Rattle.marks.specs.declared.signals.Signals.{Signals}
-use Rattle.marks.specs.declared.instances.InstanceWords.{InstanceWords}
+use Rattle.marks.specs.declared.signals.Block.{Block}
 
 -- ---- signals: primary inputs at 0 to 63, the outputs of instances from 64 on
 
@@ -42,20 +42,51 @@ signalWord plane c n j = word (λ (v : ℕ). plane (signalAt c n (64 * (j % 4) +
 unfoldable pub signalWords : (Value → ℕ) → Circuit → ℕ → List ℕ
 signalWords plane c n = table 768 (signalWord plane c n)
 
--- the vectors' words in two columns
-abbrev pub columnsOf : List VectorRecord → Columns
-columnsOf vectors = record { ones = map (λ (v : VectorRecord). v .ones) vectors; zeros = map (λ (v : VectorRecord). v .zeros) vectors }
+-- the vectors' words in two columns: the inputs that are 1, and those that are 0
+unfoldable pub onesOf : List VectorRecord → List ℕ
+onesOf vectors = map (λ (v : VectorRecord). v .ones) vectors
 
--- the same from a column of the vectors' words, for the inputs alone
+unfoldable pub zerosOf : List VectorRecord → List ℕ
+zerosOf vectors = map (λ (v : VectorRecord). v .zeros) vectors
+
+-- word w of input i, from a column: bit i of 64 vectors' words
 unfoldable pub inputWord : List ℕ → ℕ → ℕ → ℕ
 inputWord column i w = word (λ (v : ℕ). bit (getD column (64 * w + v) 0) i)
 
-unfoldable pub inputWords : List ℕ → List ℕ
-inputWords column = table 768 (upTo 256 (λ (j : ℕ). inputWord column (j / 4) (j % 4)))
+-- the planes of the inputs in the first `words` words, and 0 in all other places
+unfoldable pub inputWords : List ℕ → ℕ → List ℕ
+inputWords column words = table 768 (upTo 256 (λ (j : ℕ). upTo words (inputWord column (j / 4)) (j % 4)))
 
--- both planes of all signals, before the first instance
-abbrev pub signalsOf : List VectorRecord → Signals
-signalsOf vectors = record { ones = inputWords (columnsOf vectors .ones); zeros = inputWords (columnsOf vectors .zeros) }
+-- the words of the 64 vectors from 64 w on
+unfoldable pub wordsFrom : List ℕ → ℕ → List ℕ
+wordsFrom column w = table 64 (λ (v : ℕ). getD column (64 * w + v) 0)
+
+abbrev pub blockOf : List VectorRecord → ℕ → Block
+blockOf vectors w = record { ones = wordsFrom (onesOf vectors) w; zeros = wordsFrom (zerosOf vectors) w }
+
+-- a square of bits turned over: bit v of word i is bit i of word v
+unfoldable pub transposed : List ℕ → List ℕ
+transposed block = table 64 (λ (i : ℕ). word (λ (v : ℕ). bit (getD block v 0) i))
+
+-- r with its bit of value `by` taken from v
+unfoldable pub taken : ℕ → ℕ → ℕ → ℕ
+taken by r v = r - r / by % 2 * by + v / by % 2 * by
+
+-- one step of turning over: a bit's word and its position exchange their bits of value `by`
+unfoldable pub stepped : ℕ → List ℕ → List ℕ
+stepped by block = table 64 (λ (r : ℕ). word (λ (v : ℕ). bit (getD block (taken by r v) 0) (taken by v r)))
+
+-- a step's value, and its mask: the positions that do not have the bit of that value
+pub record Step (by low : ℕ) : Type 0 where
+  pub place : ℕ
+  pub few : place < 6
+  pub value : by ≡ 2 ^ place
+  pub mask : low ≡ word (λ (v : ℕ). 1 - v / by % 2)
+
+-- word w of the first n inputs put among the signals
+unfoldable pub inputsPut : ℕ → List ℕ → ℕ → List ℕ → List ℕ
+inputsPut n block w signals =
+    table 768 (λ (j : ℕ). cond (eqb (j % 4) w) (cond (ltb (j / 4) n) (getD block (j / 4) 0) (getD signals j 0)) (getD signals j 0))
 
 -- the place of a reference's signal
 unfoldable pub placeOfSignal : Bool → ℕ → ℕ
@@ -75,29 +106,23 @@ unfoldable pub labelWords : List ReferenceRecord → ℕ → List ℕ → ℕ �
 labelWords references k signals w =
     table 12 (upTo k (λ (l : ℕ). getD signals (4 * signalOf (getD references l unusedReference) + w) 0))
 
--- ---- an instance's words, four for each node and each label: those of the first `words`, and 0 in the others
+unfoldable pub labelPlanes : List ReferenceRecord → ℕ → List ℕ → List ℕ
+labelPlanes references k signals = fourEach 12 (labelWords references k signals)
 
-unfoldable pub fourEach : ℕ → ℕ → (ℕ → List ℕ) → List ℕ
-fourEach n words f = table (4 * n) (λ (j : ℕ). cond (ltb (j % 4) words) (getD (f (j % 4)) (j / 4) 0) 0)
+-- ---- an instance's words, four for each node and each label
 
-unfoldable pub nodeWords : ModuleType → ℕ → (ℕ → List ℕ) → (ℕ → List ℕ) → ℕ → List ℕ
-nodeWords t words ones zeros rail = fourEach 32 words (λ (w : ℕ). railWords t (ones w) (zeros w) rail)
+-- what the rows of an instance are read from: each node's words for each rail, and each label's planes
+pub record InstanceWords : Type 0 where
+  pub supply : List ℕ
+  pub ground : List ℕ
+  pub ones : List ℕ
+  pub zeros : List ℕ
 
--- what the rows of an instance are read from
-abbrev pub instanceWords : ModuleType → List ReferenceRecord → List ℕ → List ℕ → ℕ → InstanceWords
-instanceWords t references signalOnes signalZeros words =
-    let ones : ℕ → List ℕ = labelWords references (t .labels) signalOnes in
-    let zeros : ℕ → List ℕ = labelWords references (t .labels) signalZeros in record {
-      supply = nodeWords t words ones zeros supply;
-      ground = nodeWords t words ones zeros ground;
-      ones = fourEach 12 words ones;
-      zeros = fourEach 12 words zeros;
-    }
-
--- word w of each of the first n, every fourth place from w on
-unfoldable pub strideTo : List ℕ → ℕ → List ℕ → ℕ → List ℕ
-strideTo words w out zero = out
-strideTo words w out (suc m) = set (strideTo words w out m) (4 * m + w) (getD words m 0)
+abbrev pub instanceWords : ModuleType → List ReferenceRecord → List ℕ → List ℕ → InstanceWords
+instanceWords t references signalOnes signalZeros =
+    let ones = labelPlanes references (t .labels) signalOnes in
+    let zeros = labelPlanes references (t .labels) signalZeros in
+    record { supply = fourRailWords t ones zeros supply; ground = fourRailWords t ones zeros ground; ones = ones; zeros = zeros }
 
 -- the output's planes, four words each
 unfoldable pub outputOnes : List ℕ → List ℕ → ℕ → List ℕ
@@ -105,12 +130,6 @@ outputOnes toSupply toGround node = table 4 (λ (w : ℕ). planesOf (getD toSupp
 
 unfoldable pub outputZeros : List ℕ → List ℕ → ℕ → List ℕ
 outputZeros toSupply toGround node = table 4 (λ (w : ℕ). planesOf (getD toSupply (4 * node + w) 0) (getD toGround (4 * node + w) 0) .zeros)
-
--- an instance read, with t its type's record: its words, and its output's planes put behind the signals
-pub record InstanceRead (t : TypeRecord) (references : List ReferenceRecord) (place vectors : ℕ) (ones zeros : List ℕ) (read : InstanceWords) (ones′ zeros′ : List ℕ) : Type 0 where
-  pub words-are : read ≡ instanceWords (typeOf t) references ones zeros ((vectors + 63) / 64)
-  pub ones-are : ones′ ≡ written ones (4 * (64 + place)) (outputOnes (read .supply) (read .ground) (t .output))
-  pub zeros-are : zeros′ ≡ written zeros (4 * (64 + place)) (outputZeros (read .supply) (read .ground) (t .output))
 
 -- ---- mark words
 
@@ -133,8 +152,34 @@ markWord toSupply toGround ones zeros row w =
 unfoldable pub vectorsIn : ℕ → ℕ → ℕ
 vectorsIn vectors w = firstOnes (vectors - 64 * w)
 
+-- the four words of a row, under masks
+unfoldable pub rowWords : List ℕ → List ℕ → List ℕ → List ℕ → List ℕ → ℕ → List ℕ
+rowWords toSupply toGround ones zeros masks row = table 4 (λ (w : ℕ). bitAnd (markWord toSupply toGround ones zeros row w) (getD masks w 0))
+
 -- the words of an instance's rows, from one place to another
-unfoldable pub rowsWords : List ℕ → InstanceWords → ℕ → ℕ → ℕ → List ℕ
-rowsWords rows read vectors from to =
+unfoldable pub rowsWords : List ℕ → List ℕ → List ℕ → List ℕ → List ℕ → ℕ → ℕ → ℕ → List ℕ
+rowsWords rows toSupply toGround ones zeros vectors from to =
     table (4 * (to - from)) (λ (i : ℕ).
-    bitAnd (markWord (read .supply) (read .ground) (read .ones) (read .zeros) (getD rows (from + i / 4) 0) (i % 4)) (vectorsIn vectors (i % 4)))
+    bitAnd (markWord toSupply toGround ones zeros (getD rows (from + i / 4) 0) (i % 4)) (vectorsIn vectors (i % 4)))
+
+-- what marking an instance asks, with t its type's record: its type and references are in range, and there is room for its rows and its output
+pub record InstanceGiven (t : TypeRecord) (references : List ReferenceRecord) (place : ℕ) (rows : List ℕ) (from to : ℕ) (ones zeros matrix : List ℕ) : Type 0 where
+  pub sound : Given t
+  pub tied : ReferencesFit references (t .labels)
+  pub placed : place < 128
+  pub ones-long : length ones ≡ 768
+  pub zeros-long : length zeros ≡ 768
+  pub order : from ≤ to
+  pub most : to ≤ 2048
+  pub room : 4 * to ≤ length matrix
+  pub codes : CodesFit rows from to
+
+-- an instance marked, with t its type's record: its rows in the matrix, and its output's planes put behind the signals
+pub record InstanceMarked (t : TypeRecord) (references : List ReferenceRecord) (place vectors : ℕ) (rows : List ℕ) (from to : ℕ)
+    (ones zeros matrix ones′ zeros′ matrix′ : List ℕ) : Type 0 where
+  pub rows-are : let read = instanceWords (typeOf t) references ones zeros in
+      matrix′ ≡ written matrix (4 * from) (rowsWords rows (read .supply) (read .ground) (read .ones) (read .zeros) vectors from to)
+  pub ones-are : let read = instanceWords (typeOf t) references ones zeros in
+      ones′ ≡ written ones (4 * (64 + place)) (outputOnes (read .supply) (read .ground) (t .output))
+  pub zeros-are : let read = instanceWords (typeOf t) references ones zeros in
+      zeros′ ≡ written zeros (4 * (64 + place)) (outputZeros (read .supply) (read .ground) (t .output))

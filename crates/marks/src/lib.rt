@@ -1,4 +1,4 @@
 // The signals of a circuit, and the rows of the matrix: which vectors mark each fault.
-pub mod instances;
-pub mod marks;
+pub mod instance;
+mod marks;
 pub mod signals;

@@ -1,12 +1,11 @@
 // The rows of the matrix: four words for each fault, from both rails' words of its nodes and both planes of its label.
-use crate::instances::InstanceWords;
 use words::first_ones;
 ghost use mathlib.Core.Path.{_≡_};
-ghost use Prim.Native.Nat.{_*_, _<_, _≤_};
+ghost use Prim.Native.Nat.{_+_, _*_, _<_, _≤_};
 ghost use lib.ListN.{length};
 ghost use Rattle.words.specs.Written.{written};
 ghost use Rattle.grading.specs.Codes.{CodeFits, CodesFit};
-ghost use Rattle.marks.specs.Model.{markWord, vectorsIn, rowsWords};
+ghost use Rattle.marks.specs.Model.{markWord, vectorsIn, rowWords, rowsWords};
 
 // Word w of a row: kind 0 where one end is joined to supply and the other to ground; kind 1 where the label is 1 and the node joined to ground, or the label 0 and the node joined to supply.
 fn mark_word(
@@ -41,34 +40,54 @@ fn vectors_in(vectors: usize, w: usize) -> u64
     first_ones(vectors - 64 * w)
 }
 
+// The four words of one row, from a place on.
+fn write_row(
+    row: u32,
+    masks: [u64; 4],
+    supply: &[u64; 128],
+    ground: &[u64; 128],
+    ones: &[u64; 48],
+    zeros: &[u64; 48],
+    matrix: &mut [u64],
+    at: usize,
+)
+    requires { ⌜ CodeFits row ⌝ }
+    requires { ⌜ at + 4 ≤ length (now matrix) ⌝ }
+    ensures { λ _. ⌜ now (matrix .exit) ≡ written (now (matrix .entry)) at (rowWords (now (supply .entry)) (now (ground .entry)) (now (ones .entry)) (now (zeros .entry)) masks row) ⌝ }
+{
+    let mut w: usize = 0;
+    while w < 4 {
+        matrix[at + w] = mark_word(row, w, supply, ground, ones, zeros) & masks[w];
+        w += 1;
+    }
+}
+
 // The rows of an instance, from one place to another.
 pub fn write_rows(
     rows: &[u32; 2048],
     from: usize,
     to: usize,
     vectors: usize,
-    read: InstanceWords,
+    supply: &[u64; 128],
+    ground: &[u64; 128],
+    ones: &[u64; 48],
+    zeros: &[u64; 48],
     matrix: &mut [u64],
 )
     requires { ⌜ (from ≤ to) × (to ≤ 2048) ⌝ }
     requires { ⌜ 4 * to ≤ length (now matrix) ⌝ }
     requires { ⌜ CodesFit (now rows) from to ⌝ }
-    ensures { λ _. ⌜ now (matrix .exit) ≡ written (now (matrix .entry)) (4 * from) (rowsWords (now (rows .entry)) read vectors from to) ⌝ }
+    ensures { λ _. ⌜ now (matrix .exit) ≡ written (now (matrix .entry)) (4 * from) (rowsWords (now (rows .entry)) (now (supply .entry)) (now (ground .entry)) (now (ones .entry)) (now (zeros .entry)) vectors from to) ⌝ }
 {
-    let supply = read.supply;
-    let ground = read.ground;
-    let ones = read.ones;
-    let zeros = read.zeros;
     let masks = [
         vectors_in(vectors, 0),
         vectors_in(vectors, 1),
         vectors_in(vectors, 2),
         vectors_in(vectors, 3),
     ];
-    let mut i = 4 * from;
-    while i < 4 * to {
-        let w = i % 4;
-        matrix[i] = mark_word(rows[i / 4], w, &supply, &ground, &ones, &zeros) & masks[w];
-        i += 1;
+    let mut r = from;
+    while r < to {
+        write_row(rows[r], masks, supply, ground, ones, zeros, matrix, 4 * r);
+        r += 1;
     }
 }

@@ -2,71 +2,95 @@
 use circuit::Vector;
 use circuit::limits::MOST_VECTORS;
 ghost use mathlib.Core.Path.{_≡_};
-ghost use Prim.Native.Nat.{_<_};
-ghost use Rattle.marks.specs.Model.{columnsOf, inputWord, inputWords, signalsOf};
+ghost use Prim.Native.Nat.{_<_, _≤_};
+ghost use lib.ListN.{length, replicate};
+ghost use Rattle.marks.specs.Model.{blockOf, Step, stepped, transposed, inputsPut, onesOf, zerosOf, inputWords};
 
-// The vectors' words in two columns: the inputs that are 1, and those that are 0.
-struct Columns {
-    ones: [u64; MOST_VECTORS],
-    zeros: [u64; MOST_VECTORS],
+// The words of 64 vectors: the inputs that are 1, and those that are 0.
+struct Block {
+    ones: [u64; 64],
+    zeros: [u64; 64],
 }
 
-fn columns_of(vectors: [Vector; MOST_VECTORS]) -> Columns
-    ensures { λ r. ⌜ r ≡ columnsOf vectors ⌝ }
+fn block_of(vectors: [Vector; MOST_VECTORS], w: usize) -> Block
+    requires { ⌜ w < 4 ⌝ }
+    ensures { λ r. ⌜ r ≡ blockOf vectors w ⌝ }
 {
-    let mut ones = [0u64; MOST_VECTORS];
-    let mut zeros = [0u64; MOST_VECTORS];
+    let mut ones = [0u64; 64];
+    let mut zeros = [0u64; 64];
     let mut v: usize = 0;
-    while v < MOST_VECTORS {
-        let one = vectors[v];
+    while v < 64 {
+        let one = vectors[64 * w + v];
         ones[v] = one.ones;
         zeros[v] = one.zeros;
         v += 1;
     }
-    Columns { ones, zeros }
+    Block { ones, zeros }
 }
 
-// The bits of one input in 64 vectors, as a word.
-fn input_word(column: &[u64; 256], input: usize, w: usize) -> u64
-    requires { ⌜ (input < 64) × (w < 4) ⌝ }
-    ensures { λ r. ⌜ r ≡ inputWord (now (column .entry)) input w ⌝ }
+// One step of turning a square of bits over: of each two words that stand `by` apart, the part of the first that `low` does not name and the part of the second that it names change places.
+fn exchange(block: &mut [u64; 64], by: usize, low: u64)
+    requires { ⌜ length (now block) ≡ 64 ⌝ }
+    requires { ⌜ Step by low ⌝ }
+    ensures { λ _. ⌜ now (block .exit) ≡ stepped by (now (block .entry)) ⌝ }
 {
-    let mut word: u64 = 0;
-    let mut v: usize = 0;
-    while v < 64 {
-        word = word | (((column[64 * w + v] >> input) % 2) << v);
-        v += 1;
+    let mut i: usize = 0;
+    while i < 32 {
+        let k = i + (i & (64 - by));
+        let first = block[k];
+        let second = block[k + by];
+        block[k] = (first & low) | ((second & low) << by);
+        block[k + by] = ((first >> by) & low) | (second & !low);
+        i += 1;
     }
-    word
 }
 
-// The planes of all inputs, and zeros for all outputs.
-fn input_planes(column: &[u64; 256]) -> [u64; 768]
-    ensures { λ r. ⌜ r ≡ inputWords (now (column .entry)) ⌝ }
+// Turns a square of bits over: bit v of word i becomes bit i of word v.
+fn transpose(block: &mut [u64; 64])
+    requires { ⌜ length (now block) ≡ 64 ⌝ }
+    ensures { λ _. ⌜ now (block .exit) ≡ transposed (now (block .entry)) ⌝ }
 {
-    let mut signals = [0u64; 768];
-    let mut j: usize = 0;
-    while j < 256 {
-        signals[j] = input_word(column, j / 4, j % 4);
-        j += 1;
+    exchange(block, 32, 0x0000_0000_ffff_ffff);
+    exchange(block, 16, 0x0000_ffff_0000_ffff);
+    exchange(block, 8, 0x00ff_00ff_00ff_00ff);
+    exchange(block, 4, 0x0f0f_0f0f_0f0f_0f0f);
+    exchange(block, 2, 0x3333_3333_3333_3333);
+    exchange(block, 1, 0x5555_5555_5555_5555);
+}
+
+// Word w of each input.
+fn put_inputs(block: &[u64; 64], w: usize, signals: &mut [u64; 768])
+    requires { ⌜ w < 4 ⌝ }
+    requires { ⌜ length (now signals) ≡ 768 ⌝ }
+    ensures { λ _. ⌜ now (signals .exit) ≡ inputsPut 64 (now (block .entry)) w (now (signals .entry)) ⌝ }
+{
+    let mut i: usize = 0;
+    while i < 64 {
+        signals[4 * i + w] = block[i];
+        i += 1;
     }
-    signals
 }
 
-// Both planes of all signals before the first instance: the inputs that are 1, and those that are 0.
-pub struct Signals {
-    pub ones: [u64; 768],
-    pub zeros: [u64; 768],
-}
-
-pub fn signals_of(vectors: [Vector; MOST_VECTORS]) -> Signals
-    ensures { λ r. ⌜ r ≡ signalsOf vectors ⌝ }
+// The first `words` words of each input, in both planes, into lists of zeros.
+pub fn put_signals(
+    vectors: [Vector; MOST_VECTORS],
+    words: usize,
+    ones: &mut [u64; 768],
+    zeros: &mut [u64; 768],
+)
+    requires { ⌜ words ≤ 4 ⌝ }
+    requires { ⌜ (now ones ≡ replicate 768 0) × (now zeros ≡ replicate 768 0) ⌝ }
+    ensures { λ _. ⌜ (now (ones .exit) ≡ inputWords (onesOf vectors) words) × (now (zeros .exit) ≡ inputWords (zerosOf vectors) words) ⌝ }
 {
-    let columns = columns_of(vectors);
-    let column_ones = columns.ones;
-    let column_zeros = columns.zeros;
-    Signals {
-        ones: input_planes(&column_ones),
-        zeros: input_planes(&column_zeros),
+    let mut w: usize = 0;
+    while w < words {
+        let block = block_of(vectors, w);
+        let mut block_ones = block.ones;
+        let mut block_zeros = block.zeros;
+        transpose(&mut block_ones);
+        transpose(&mut block_zeros);
+        put_inputs(&block_ones, w, ones);
+        put_inputs(&block_zeros, w, zeros);
+        w += 1;
     }
 }

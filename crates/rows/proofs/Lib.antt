@@ -1,4 +1,4 @@
--- The laws of rows as numbers: their codes, written piece by piece and instance by instance.
-pub mod CodeLaws
+-- The laws of rows as numbers: written piece by piece, those of one instance, and those of a circuit.
 pub mod RowWriting
+pub mod InstanceCodes
 pub mod RowSteps

@@ -1,17 +1,16 @@
--- What the code computes: the rows as numbers, and where those of each instance end.
-use Prim.Native.Nat.{ℕ, suc, _+_, _-_, _*_}
+-- What the code computes: the rows as numbers, instance by instance.
+use Prim.Native.Nat.{ℕ, _+_, _-_, _*_}
 use mathlib.Core.Path.{_≡_}
 use mathlib.Core.Bool.{cond}
-use mathlib.Core.List.{List, [], _∷_, map}
+use mathlib.Core.List.{List, [], _∷_, _++_, map}
 use lib.Dec.{eqb}
-use lib.ListN.{length, take}
+use lib.ListN.{length}
 use Rattle.words.specs.Tables.{table}
-use Rattle.circuit.specs.Circuit.{Circuit}
-use Rattle.circuit.specs.Records.{padded}
+use Rattle.words.specs.Written.{written}
+use Rattle.circuit.specs.Circuit.{nodePairs, nodeInputs}
 use Rattle.circuit.specs.declared.Bridge.{Bridge as BridgeRecord}
-use Rattle.grading.specs.Rows.{Row, rowsFrom, rowsOf}
+use Rattle.grading.specs.Rows.{Row}
 use Rattle.grading.specs.Codes.{codeOf}
-use Rattle.rows.specs.declared.Rows.{Rows}
 
 -- the codes of one kind and one first, with each second from one number to below another
 unfoldable pub codesFrom : ℕ → ℕ → ℕ → ℕ → ℕ → List ℕ
@@ -24,13 +23,15 @@ listedCodes n listNumber (b ∷ bs) =
     let rest = listedCodes n listNumber bs in
     cond (eqb (b .list) listNumber) ((((n * 256 + b .kind) * 256 + b .first) * 256 + b .second) ∷ rest) rest
 
-unfoldable pub codes : List Row → List ℕ
-codes rows = map (λ (r : Row). codeOf (r .number) (r .bridge)) rows
+-- the codes of the rows of the instance at a place, from its choice, its type's h and k, and the bridges' records
+unfoldable pub instanceCodes : ℕ → ℕ → ℕ → ℕ → List BridgeRecord → List ℕ
+instanceCodes place choice h k bridges =
+    cond (eqb choice 255) (map (codeOf (place + 1)) (nodePairs h ++ nodeInputs h k)) (cond (eqb choice 0) [] (listedCodes (place + 1) choice bridges))
 
--- where the rows of each instance end
-unfoldable pub endOf : Circuit → ℕ → ℕ
-endOf c i = length (rowsFrom (c .types) (c .bridges) 1 (take (suc i) (c .instances)))
+unfoldable pub codesOf : List Row → List ℕ
+codesOf rows = map (λ (r : Row). codeOf (r .number) (r .bridge)) rows
 
-pub record RowsAre (c : Circuit) (r : Rows) : Type 0 where
-  pub codes-are : r .codes ≡ padded 2048 0 (codes (rowsOf c))
-  pub ends-are : r .ends ≡ padded 128 0 (table (length (c .instances)) (endOf c))
+-- codes listed from a place on: where they end, and all else as it was
+pub record RowsListed (codes : List ℕ) (from : ℕ) (new : List ℕ) (to : ℕ) (codes′ : List ℕ) : Type 0 where
+  pub end : to ≡ from + length new
+  pub listed : codes′ ≡ written codes from new

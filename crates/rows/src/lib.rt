@@ -1,19 +1,22 @@
 // The rows of a circuit, a number each: instance, kind, first and second, a byte each, highest first.
 use circuit::Bridge;
 use circuit::Circuit;
+use circuit::Instance;
 use circuit::limits::MOST_BRIDGES;
 use circuit::limits::MOST_FAULTS;
+use switch::ModuleType;
 ghost use mathlib.Core.Path.{_≡_};
 ghost use mathlib.Core.List.{map};
 ghost use Prim.Native.Nat.{_+_, _*_, _<_, _≤_};
 ghost use lib.ListN.{length, take};
 ghost use Rattle.words.specs.Written.{written};
 ghost use Rattle.circuit.specs.Circuit.{Circuit as CircuitMeant, nodePairs, nodeInputs};
-ghost use Rattle.circuit.specs.Records.{circuitRecord};
+ghost use Rattle.circuit.specs.Records.{padded, circuitRecord};
 ghost use Rattle.circuit.specs.Laws.{CircuitGood};
 ghost use Rattle.grading.specs.Codes.{codeOf};
+ghost use Rattle.grading.specs.Rows.{rowsOf};
 ghost use Rattle.grading.specs.Given.{CircuitGiven};
-ghost use Rattle.rows.specs.Model.{codesFrom, listedCodes, RowsAre};
+ghost use Rattle.rows.specs.Model.{codesFrom, listedCodes, instanceCodes, codesOf, RowsListed};
 
 fn code(instance: u32, kind: u32, first: u32, second: u32) -> u32
     requires { ⌜ (instance < 256) × (kind < 256) × (first < 256) × (second < 256) ⌝ }
@@ -102,35 +105,46 @@ fn listed(
     next
 }
 
-// The rows of a circuit in instance order, and where those of each instance end.
-pub struct Rows {
-    pub codes: [u32; MOST_FAULTS],
-    pub ends: [u16; 128],
+// The rows of the instance at a place, with t its type, from a place among the codes on; answers where they end.
+pub fn list_rows(
+    one: Instance,
+    t: ModuleType,
+    bridges: [Bridge; MOST_BRIDGES],
+    bridge_count: usize,
+    place: usize,
+    codes: &mut [u32; MOST_FAULTS],
+    from: usize,
+) -> usize
+    requires { ⌜ (place < 128) × (t .highest < 32) × (t .labels ≤ 12) × («bridge_count» ≤ 256) ⌝ }
+    requires { ⌜ from + length (instanceCodes place (one .choice) (t .highest) (t .labels) (take «bridge_count» bridges)) ≤ length (now codes) ⌝ }
+    ensures { λ r. ⌜ RowsListed (now (codes .entry)) from (instanceCodes place (one .choice) (t .highest) (t .labels) (take «bridge_count» bridges)) r (now (codes .exit)) ⌝ }
+{
+    let number = (place as u32) + 1;
+    let h = t.highest as u32;
+    if one.choice == 255 {
+        let at = all_pairs(codes, from, number, h);
+        return all_inputs(codes, at, number, h, t.labels as u32);
+    }
+    if one.choice == 0 {
+        return from;
+    }
+    listed(codes, from, number, one.choice, bridges, bridge_count)
 }
 
-pub fn rows_of(c: Circuit) -> Rows
+// The rows of a circuit, in instance order.
+pub fn rows_of(c: Circuit) -> [u32; MOST_FAULTS]
     requires { ⌜ CircuitGiven c ⌝ }
-    ensures { λ r. ⌜ ((meant : CircuitMeant) → c ≡ circuitRecord meant → CircuitGood meant → RowsAre meant r) ⌝ }
+    ensures { λ r. ⌜ ((meant : CircuitMeant) → c ≡ circuitRecord meant → CircuitGood meant → r ≡ padded 2048 0 (codesOf (rowsOf meant))) ⌝ }
 {
-    let mut codes = [0u32; MOST_FAULTS];
-    let mut ends = [0u16; 128];
     let bridges = c.bridges;
-    let bridge_count = c.bridge_count;
-    let instance_count = c.instance_count;
+    let mut codes = [0u32; MOST_FAULTS];
     let mut at: usize = 0;
     let mut i: usize = 0;
-    while i < instance_count {
+    while i < c.instance_count {
         let one = c.instances[i];
         let t = c.types[(one.type_number as usize) - 1];
-        let number = (i as u32) + 1;
-        if one.choice == 255 {
-            at = all_pairs(&mut codes, at, number, t.highest as u32);
-            at = all_inputs(&mut codes, at, number, t.highest as u32, t.labels as u32);
-        } else if one.choice != 0 {
-            at = listed(&mut codes, at, number, one.choice, bridges, bridge_count);
-        }
-        ends[i] = at as u16;
+        at = list_rows(one, t, bridges, c.bridge_count, i, &mut codes, at);
         i += 1;
     }
-    Rows { codes, ends }
+    codes
 }

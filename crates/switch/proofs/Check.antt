@@ -17,10 +17,10 @@ use Rattle.switch.specs.Conduction.{Link, ground, supply}
 use Rattle.switch.specs.Modules.{ModuleType, linksOf, settingOf}
 use Rattle.switch.specs.Deciding.{joins, allBelow, oneRail, isComplementary}
 use Rattle.switch.specs.Records.{edgesOf, typeOf, Given, valuesAt}
-use Rattle.switch.specs.Promises.{railWords, railsOf}
-use Rattle.switch.specs.Model.{settingOnes, settingZeros, BlockVerdict}
-use Rattle.switch.specs.declared.Rails.{Rails}
+use Rattle.switch.specs.Promises.{railWords}
+use Rattle.switch.specs.Model.{settingOnes, settingZeros, outputWords, BlockVerdict}
 use Rattle.switch.specs.declared.ModuleType.{ModuleType as TypeRecord}
+use Rattle.switch.specs.declared.complementary.OutputWords.{OutputWords}
 use Rattle.switch.proofs.Paths.{links-cong}
 use Rattle.switch.proofs.Deciding.{same-test, all-below}
 use Rattle.switch.proofs.Outputs.{bit-railWords}
@@ -148,12 +148,12 @@ module _ (t : ModuleType) (block settings one : ℕ) (bits : (v : ℕ) → v < 6
   }
 
 -- the test of a block, from what the calls give
-pub block-verdict : (r : TypeRecord) → Given r → (block settings counts : ℕ) (ones zeros : List ℕ) (rails : Rails)
-    → ones ≡ settingOnes block → zeros ≡ settingZeros block → rails ≡ railsOf (typeOf r) ones zeros → counts ≡ firstOnes (settings - 64 * block)
-    → let s = getD (rails .supply) (r .output) 0 in let g = getD (rails .ground) (r .output) 0 in
+pub block-verdict : (r : TypeRecord) → Given r → (block settings counts : ℕ) (ones zeros : List ℕ) (words : OutputWords)
+    → ones ≡ settingOnes block → zeros ≡ settingZeros block → words ≡ outputWords (typeOf r) ones zeros → counts ≡ firstOnes (settings - 64 * block)
+    → let s = words .supply in let g = words .ground in
     BlockVerdict (typeOf r) block settings (eqb (bitAnd (bitAnd (bitOr s g) ((2 ^ 64 - 1) - bitAnd s g)) counts) counts)
-unfolding counted
-block-verdict r given block settings counts ones zeros rails o z e n =
+unfolding counted typeOf
+block-verdict r given block settings counts ones zeros words o z e n =
     rw (e, o, z, n) (verdict (typeOf r) block settings (oneWord r block) (one-bit r given block) _ refl)
 
 -- ---- what the blocks tell

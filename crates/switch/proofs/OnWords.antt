@@ -1,20 +1,25 @@
 -- The words of conduction: a transistor's word from its label's planes, the or over an edge's labels, and the words and nodes of the first edges.
 -- Each law is over the bit's position, the place in a list, or the length. Assumes nothing.
-use Prim.Native.Nat.{ℕ, zero, suc, _-_, _^_, _≤_, _<_, min, max}
+use Prim.Native.Nat.{ℕ, zero, suc, _+_, _-_, _*_, _^_, _≤_, _<_, min, max, zero-le}
 use mathlib.Core.Path.{_≡_, refl, sym, _∙_}
 use mathlib.Core.Bool.{Bool, true, false, cond, _||_, or-assoc, or-false}
 use mathlib.Core.List.{List, [], _∷_, _++_}
 use native.Mathlib.Omega.{arith}
 use lib.Bits.{bitAnd, bitOr, and-le-l, or-lt}
-use lib.ListN.{length, getD, take}
+use lib.ListN.{length, getD, take, replicate, length-replicate, getD-replicate}
 use lib.Pow.{pow-pos}
 use lib.Seq.{take-suc}
 use Rattle.words.specs.Bits.{bit, ofBool}
+use Rattle.words.specs.Each.{wordOfEach}
+use Rattle.words.specs.Tables.{upTo}
+use Rattle.words.specs.Written.{written}
 use Rattle.words.proofs.Laws.{bit-le-one, bit-zero, bit-or, bit-not-under, ofBool-le-one, word-of-bits, bit-word, word-lt}
-use Rattle.words.proofs.Tables.{getD-fill}
+use Rattle.words.proofs.Tables.{length-table, getD-table, table-cong, up-past, fill-more, getD-fill}
+use Rattle.words.proofs.EachLaws.{each-before, each-in, each-written}
+use Rattle.words.proofs.WrittenLaws.{length-written}
 use Rattle.switch.specs.Conduction.{Channel, p-channel, n-channel, Edge, channelOf, transistorOn, anyOf, edgeOn}
 use Rattle.switch.specs.Records.{edgeOf, noEdge, valueOf, valuesAt}
-use Rattle.switch.specs.Model.{isP, transistorWord, onWord, onWords, firstNodes, secondNodes}
+use Rattle.switch.specs.Model.{isP, transistorWord, onWord, edgeWords, onWords, firstNodes, secondNodes, WideOn}
 use Rattle.switch.specs.declared.Edge.{Edge as EdgeRecord}
 
 -- ---- a transistor's word
@@ -111,11 +116,6 @@ on-word-is o ones zeros r k =
     (orTo-lt (isP ch) ones zeros (r .labels) (r .count))
     (λ v h. bit-orTo ch ones zeros (r .labels) v (r .count) h k)
 
-pub onWord-lt : (o : ℕ) (ones zeros : List ℕ) (e : Edge) → onWord o ones zeros e < 2 ^ 64
-unfolding onWord
-onWord-lt o ones zeros e =
-    word-lt (λ (v : ℕ). ofBool (edgeOn o (valuesAt ones zeros v) e)) (λ v. ofBool-le-one (edgeOn o (valuesAt ones zeros v) e))
-
 pub bit-onWord : (o : ℕ) (ones zeros : List ℕ) (e : Edge) (v : ℕ) → v < 64 → bit (onWord o ones zeros e) v ≡ ofBool (edgeOn o (valuesAt ones zeros v) e)
 unfolding onWord
 bit-onWord o ones zeros e =
@@ -140,3 +140,32 @@ pub bit-onWords : (o : ℕ) (ones zeros : List ℕ) (edges : List EdgeRecord) (n
     → bit (getD (onWords o ones zeros edges n) i 0) v ≡ ofBool (edgeOn o (valuesAt ones zeros v) (edgeOf (getD edges i noEdge)))
 bit-onWords o ones zeros edges n i v h k l =
     rw (getD-onWords o ones zeros edges n i h k) (bit-onWord o ones zeros (edgeOf (getD edges i noEdge)) v l)
+
+-- ---- edges with some words each
+
+module _ (o : ℕ) (ones zeros : List ℕ) (edges : List EdgeRecord) (width : ℕ) where
+  abbrev wordAt : ℕ → ℕ → ℕ
+  wordAt w i = onWord o (wordOfEach width w 12 ones) (wordOfEach width w 12 zeros) (edgeOf (getD edges i noEdge))
+
+  pub wide-on-none : WideOn o ones zeros edges 0 width (replicate (width * 64) 0)
+  unfolding wordOfEach onWords
+  wide-on-none = record {
+    long = length-replicate (width * 64) 0;
+    each = λ w k.
+        table-cong 64 (λ (m : ℕ). getD (replicate (width * 64) 0) (width * m + w) 0) (upTo 0 (wordAt w)) (λ m h.
+        getD-replicate (width * 64) (width * m + w) 0 0 (each-in width w 64 m h k) ∙ sym (up-past 0 (wordAt w) m zero-le));
+  }
+
+  -- one edge more, by its words at its place
+  pub wide-on-more : (i : ℕ) (on : List ℕ) → i < 64 → WideOn o ones zeros edges i width on
+      → WideOn o ones zeros edges (suc i) width (written on (width * i) (edgeWords o ones zeros width (edgeOf (getD edges i noEdge))))
+  unfolding onWords edgeWords
+  wide-on-more i on h wide =
+      let e : Edge = edgeOf (getD edges i noEdge) in
+      let whole : length (edgeWords o ones zeros width e) ≡ width = length-table width (λ (w : ℕ). wordAt w i) in
+      record {
+        long = length-written on (width * i) (edgeWords o ones zeros width e) (omega (arith, wide .long, each-before width i 64 h)) ∙ wide .long;
+        each = λ w k.
+            each-written width w 64 i on (edgeWords o ones zeros width e) (wide .long) whole k h
+            ∙ rw (wide .each w k, getD-table width (λ (u : ℕ). wordAt u i) 0 w k) (fill-more 64 (wordAt w) i h);
+      }

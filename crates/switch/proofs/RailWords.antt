@@ -9,14 +9,16 @@ use mathlib.Core.List.{List}
 use lib.Dec.{T}
 use lib.ListN.{length, getD, take, List·getD-eq-default, length-map, length-take}
 use Rattle.words.specs.Bits.{ofBool, word}
+use Rattle.words.specs.Each.{wordOfEach}
 use Rattle.words.proofs.Laws.{ofBool-le-one, pack-cong, word-lt}
 use Rattle.words.proofs.Tables.{getD-table, table-cong}
+use Rattle.words.proofs.EachLaws.{each-at, one-each, is-four}
 use Rattle.switch.specs.Conduction.{Value, Edge, Link, Among, anyOf, edgeOn, links}
 use Rattle.switch.specs.Modules.{ModuleType, linksOf}
 use Rattle.switch.specs.Deciding.{joins}
 use Rattle.switch.specs.Records.{noEdge, edgeOf, edgesOf, typeOf, valuesAt}
-use Rattle.switch.specs.Promises.{railWords, railsOf}
-use Rattle.switch.specs.Model.{firstNodes, secondNodes, onWords, linksTo, joinedWords, endsOf}
+use Rattle.switch.specs.Promises.{railWords, fourRailWords, railsOf}
+use Rattle.switch.specs.Model.{firstNodes, secondNodes, onWords, linksTo, joinedWords, endsOf, WideOn, WideJoined}
 use Rattle.switch.specs.declared.Edge.{Edge as EdgeRecord}
 use Rattle.switch.specs.declared.Ends.{Ends}
 use Rattle.switch.specs.declared.ModuleType.{ModuleType as TypeRecord}
@@ -101,7 +103,7 @@ railWords-lt t ones zeros rail m h =
     (word-lt (λ (v : ℕ). ofBool (joins (ws v) m rail)) (λ v. ofBool-le-one (joins (ws v) m rail)))
 
 -- so the rounds' words are the type's
-pub rail-words : (r : TypeRecord) → r .count ≤ 64 → (ones zeros : List ℕ) (rail : ℕ)
+rail-words : (r : TypeRecord) → r .count ≤ 64 → (ones zeros : List ℕ) (rail : ℕ)
     → let on = onWords (r .output) ones zeros (r .edges) (r .count) in
     joinedWords (firstNodes (r .edges) (r .count)) (secondNodes (r .edges) (r .count)) on (r .count) rail ≡ railWords (typeOf r) ones zeros rail
 unfolding joinedWords railWords word linksOf typeOf
@@ -115,9 +117,31 @@ rail-words r places ones zeros rail =
     pack-cong 64 (λ (v : ℕ). ofBool (joins (inColumns v) m rail)) (λ (v : ℕ). ofBool (joins (inType v) m rail)) (λ v l.
     ap ofBool (joins-same (inColumns v) (inType v) (to-edges rs n o places ones zeros v l) (to-columns rs n o places ones zeros v l) m rail)))
 
-pub rails-are : (r : TypeRecord) → r .count ≤ 64 → (ones zeros on supply ground : List ℕ) (ends : Ends)
-    → on ≡ onWords (r .output) ones zeros (r .edges) (r .count) → ends ≡ endsOf (r .edges) (r .count)
-    → supply ≡ joinedWords (ends .firsts) (ends .seconds) on (r .count) 1 → ground ≡ joinedWords (ends .firsts) (ends .seconds) on (r .count) 0
-    → record { supply = supply; ground = ground } ≡ railsOf (typeOf r) ones zeros
-rails-are r places ones zeros on supply ground ends e f s g =
-    rw (s, g, e, f, rail-words r places ones zeros 1, rail-words r places ones zeros 0)
+-- and so where nodes, edges and labels have some words each
+module _ (r : TypeRecord) (places : r .count ≤ 64) (ones zeros on : List ℕ) (ends : Ends) (nodes : ends ≡ endsOf (r .edges) (r .count)) where
+  wide-rail-words : (width : ℕ) → WideOn (r .output) ones zeros (r .edges) (r .count) width on → (rail : ℕ) (joined : List ℕ)
+      → WideJoined (ends .firsts) (ends .seconds) on (r .count) width rail joined → (w : ℕ) → w < width
+      → wordOfEach width w 32 joined ≡ railWords (typeOf r) (wordOfEach width w 12 ones) (wordOfEach width w 12 zeros) rail
+  wide-rail-words width wide rail joined are w k =
+      are .each w k ∙ rw (nodes, wide .each w k) (rail-words r places (wordOfEach width w 12 ones) (wordOfEach width w 12 zeros) rail)
+
+  -- one word each
+  pub one-rail-words : WideOn (r .output) ones zeros (r .edges) (r .count) 1 on → length ones ≡ 12 → length zeros ≡ 12 → (rail : ℕ) (joined : List ℕ)
+      → WideJoined (ends .firsts) (ends .seconds) on (r .count) 1 rail joined → joined ≡ railWords (typeOf r) ones zeros rail
+  one-rail-words wide o z rail joined are =
+      sym (one-each 32 joined (are .long))
+      ∙ wide-rail-words 1 wide rail joined are 0 (omega arith)
+      ∙ rw (one-each 12 ones o, one-each 12 zeros z)
+
+  -- four words each
+  four-rail-words : WideOn (r .output) ones zeros (r .edges) (r .count) 4 on → (rail : ℕ) (joined : List ℕ)
+      → WideJoined (ends .firsts) (ends .seconds) on (r .count) 4 rail joined → joined ≡ fourRailWords (typeOf r) ones zeros rail
+  unfolding fourRailWords
+  four-rail-words wide rail joined are =
+      is-four 32 (λ (w : ℕ). railWords (typeOf r) (wordOfEach 4 w 12 ones) (wordOfEach 4 w 12 zeros) rail) joined (are .long) (λ m w h k.
+      sym (each-at 4 w 32 joined m h) ∙ ap (λ (words : List ℕ). getD words m 0) (wide-rail-words 4 wide rail joined are w k))
+
+  pub rails-are : WideOn (r .output) ones zeros (r .edges) (r .count) 4 on → (toSupply toGround : List ℕ)
+      → WideJoined (ends .firsts) (ends .seconds) on (r .count) 4 1 toSupply → WideJoined (ends .firsts) (ends .seconds) on (r .count) 4 0 toGround
+      → record { supply = toSupply; ground = toGround } ≡ railsOf (typeOf r) ones zeros
+  rails-are wide toSupply toGround s g = rw (four-rail-words wide 1 toSupply s, four-rail-words wide 0 toGround g)

@@ -1,6 +1,6 @@
 -- What it tells of a type's record that a file can give it: its numbers are in 01's ranges, its labels and nodes are those that the code's tables hold.
 -- Past the end of a list of edges stands an edge without labels, so each fact holds of every place. Assumes nothing.
-use Prim.Native.Nat.{ℕ, zero, suc, _≤_, _<_}
+use Prim.Native.Nat.{ℕ, zero, suc, _+_, _*_, _≤_, _<_}
 use native.Mathlib.Omega.{arith}
 use mathlib.Core.Path.{_≡_, ap, subst, _∙_}
 use mathlib.Core.Bool.{Bool, _&&_}
@@ -11,7 +11,7 @@ use lib.Seq.{getD-take}
 use Rattle.switch.specs.Conduction.{Edge, between}
 use Rattle.switch.specs.Modules.{allOf, typeInRange, edgeInRange, inRange}
 use Rattle.switch.specs.Records.{noEdge, edgeOf, edgesOf, typeOf, EdgesFit, Given}
-use Rattle.switch.specs.Model.{firstNodes, secondNodes, endsOf, NodesInRange}
+use Rattle.switch.specs.Model.{endsOf, WideEdges}
 use Rattle.switch.specs.declared.Edge.{Edge as EdgeRecord}
 use Rattle.switch.specs.declared.Ends.{Ends}
 use Rattle.switch.specs.declared.ModuleType.{ModuleType as TypeRecord}
@@ -48,27 +48,27 @@ type-ranges h o k t =
 
 -- ---- an edge
 
-pub record EdgeRanges (e : Edge) : Type 0 where
-  pub first : e .first < 32
-  pub second : e .second < 32
+pub record EdgeRanges (h : ℕ) (e : Edge) : Type 0 where
+  pub first : e .first ≤ h
+  pub second : e .second ≤ h
   pub labels : (j : ℕ) → getD (e .labels) j 0 < 12
 
-edge-ranges : (h k : ℕ) → h < 32 → k ≤ 12 → (e : Edge) → T (edgeInRange h k e) → EdgeRanges e
+edge-ranges : (h k : ℕ) → k ≤ 12 → (e : Edge) → T (edgeInRange h k e) → EdgeRanges h e
 unfolding edgeInRange
-edge-ranges h k hh hk e t =
+edge-ranges h k hk e t =
     let numbers = both (leb (e .first) h && leb (e .second) h && between 1 4 (length (e .labels))) (allOf (λ (l : ℕ). ltb l k) (e .labels)) t in
     let nodes = both (leb (e .first) h && leb (e .second) h) (between 1 4 (length (e .labels))) (numbers .0) in
     let ends = both (leb (e .first) h) (leb (e .second) h) (nodes .0) in
     record {
-      first = omega (arith, leb→le (e .first) h (ends .0));
-      second = omega (arith, leb→le (e .second) h (ends .1));
+      first = leb→le (e .first) h (ends .0);
+      second = leb→le (e .second) h (ends .1);
       labels =
           every-place (λ (l : ℕ). l < 12) (λ (l : ℕ). ltb l k) 0 (omega arith) (λ l q. omega (arith, ltb→lt l k q)) (e .labels) (numbers .1);
     }
 
-no-edge : EdgeRanges (edgeOf noEdge)
+no-edge : (h : ℕ) → EdgeRanges h (edgeOf noEdge)
 unfolding edgeOf
-no-edge = record { first = omega arith; second = omega arith; labels = λ j. omega arith }
+no-edge h = record { first = omega arith; second = omega arith; labels = λ j. omega arith }
 
 -- ---- a record that a file can give
 
@@ -92,15 +92,15 @@ module _ (r : TypeRecord) (given : Given r) where
   pub given-edges : T (allOf (edgeInRange (r .highest) (r .labels)) (edgesOf (take (r .count) (r .edges))))
   given-edges = in-ranges .1
 
-  given-edge : (i : ℕ) → i < r .count → EdgeRanges (edgeOf (getD (r .edges) i noEdge))
+  given-edge : (i : ℕ) → i < r .count → EdgeRanges (r .highest) (edgeOf (getD (r .edges) i noEdge))
   given-edge i l =
-      subst EdgeRanges (edge-at (r .edges) (r .count) i l)
+      subst (EdgeRanges (r .highest)) (edge-at (r .edges) (r .count) i l)
       (every-place
-      EdgeRanges
+      (EdgeRanges (r .highest))
       (edgeInRange (r .highest) (r .labels))
       (edgeOf noEdge)
-      no-edge
-      (edge-ranges (r .highest) (r .labels) (given-type .highest) (given-type .labels-high))
+      (no-edge (r .highest))
+      (edge-ranges (r .highest) (r .labels) (given-type .labels-high))
       (edgesOf (take (r .count) (r .edges)))
       given-edges
       i)
@@ -120,13 +120,15 @@ module _ (r : TypeRecord) (given : Given r) where
     };
   }
 
-  pub nodes-in-range : NodesInRange (firstNodes (r .edges) (r .count)) (secondNodes (r .edges) (r .count)) (r .count)
+  -- no edge has a node past the highest
+  pub wide-edges : (ends : Ends) (on : List ℕ) (width : ℕ) → ends ≡ endsOf (r .edges) (r .count) → width ≤ 4 → length on ≡ width * 64
+      → WideEdges (ends .firsts) (ends .seconds) on (r .count) width (r .highest + 1)
   unfolding edgeOf
-  nodes-in-range = record {
+  wide-edges ends on width e few long = record {
     places = given .places;
-    first = λ i l. rw (getD-firstNodes (r .edges) (r .count) i l (given .places)) (given-edge i l .first);
-    second = λ i l. rw (getD-secondNodes (r .edges) (r .count) i l (given .places)) (given-edge i l .second);
+    first = λ i l. rw (e, getD-firstNodes (r .edges) (r .count) i l (given .places)) (omega (arith, given-edge i l .first));
+    second = λ i l. rw (e, getD-secondNodes (r .edges) (r .count) i l (given .places)) (omega (arith, given-edge i l .second));
+    few-nodes = omega (arith, given-type .highest);
+    few-words = few;
+    on-words = long;
   }
-
-  pub ends-in-range : (ends : Ends) → ends ≡ endsOf (r .edges) (r .count) → NodesInRange (ends .firsts) (ends .seconds) (r .count)
-  ends-in-range ends e = rw e nodes-in-range

@@ -1,10 +1,10 @@
 -- Rounds of joining, as lists of words: which links the edges give under a vector; what a round adds to the words; words that a round leaves
--- as they are tell which nodes are joined to the rail; and a round that adds something makes the sum of the words larger. Assumes nothing.
+-- as they are tell which nodes are joined to the rail; and the sum of words that grow. Assumes nothing.
 use Prim.Native.Nat.{ℕ, zero, suc, _+_, _-_, _*_, _^_, _≤_, _<_, max}
 use native.Mathlib.Nat.{not-suc-le-zero, le-of-suc-le-suc, eq-or-lt-of-le, le-refl, le-trans, lt-of-le-of-lt, suc-mul, lt-of-not-le}
 use native.Mathlib.Decide.{ℕ-discrete}
 use native.Mathlib.Omega.{arith}
-use mathlib.Core.Path.{_≡_, refl, sym, ap, _∙_}
+use mathlib.Core.Path.{_≡_, refl, ap, _∙_}
 use mathlib.Core.Bool.{Bool, true, false}
 use mathlib.Core.Logic.{_⊎_, inl, inr, ⊎-elim, _↔_}
 use mathlib.Core.List.{List, [], _∷_, List·Memᴰ·head, List·Memᴰ·tail, List·Memᴰ·cases-cons, List·Memᴰ·not-nil}
@@ -88,7 +88,7 @@ one-of-max x y e = at (ℕ-discrete x 1)
     at (no p) = inr (omega arith)
 
 module _ (words : List ℕ) (m w : ℕ) (l : m < length words) where
-  added-here : getD (added words m w) m 0 ≡ bitOr (getD words m 0) w
+  pub added-here : getD (added words m w) m 0 ≡ bitOr (getD words m 0) w
   unfolding added
   added-here = getD-set-same words m (bitOr (getD words m 0) w) 0 l
 
@@ -101,10 +101,10 @@ module _ (words : List ℕ) (m w : ℕ) (l : m < length words) where
       at (yes e) = inl (e, rw e added-here)
       at (no e) = inr (getD-set-other words m n (bitOr (getD words m 0) w) 0 e)
 
-  added-grows : (n : ℕ) → getD words n 0 ≤ getD (added words m w) n 0
+  pub added-grows : (n : ℕ) → getD words n 0 ≤ getD (added words m w) n 0
   added-grows n = ⊎-elim (λ e. rw (e .1) (or-grows (getD words n 0) w)) (λ e. rw e (le-refl (getD words n 0))) (added-at n)
 
-  added-fits : (k : ℕ) → ((n : ℕ) → getD words n 0 < 2 ^ k) → w < 2 ^ k → (n : ℕ) → getD (added words m w) n 0 < 2 ^ k
+  pub added-fits : (k : ℕ) → ((n : ℕ) → getD words n 0 < 2 ^ k) → w < 2 ^ k → (n : ℕ) → getD (added words m w) n 0 < 2 ^ k
   added-fits k f h n = ⊎-elim (λ e. rw (e .1) (or-lt k (getD words n 0) w (f n) h)) (λ e. rw e (f n)) (added-at n)
 
   module _ (v : ℕ) where
@@ -246,7 +246,7 @@ pub total : List ℕ → ℕ
 total [] = 0
 total (x ∷ xs) = x + total xs
 
-total-below : (k : ℕ) (l : List ℕ) → ((n : ℕ) → getD l n 0 < k) → total l ≤ length l * k
+pub total-below : (k : ℕ) (l : List ℕ) → ((n : ℕ) → getD l n 0 < k) → total l ≤ length l * k
 unfolding total
 total-below k [] f = omega arith
 total-below k (x ∷ xs) f = omega (arith, f 0, total-below k xs (λ n. f (suc n)), suc-mul (length xs) k)
@@ -269,6 +269,9 @@ total-same (x ∷ xs) (y ∷ ys) e f h =
     let head : x ≡ y = omega (arith, f 0) in
     rw (head, total-same xs ys (omega arith) (λ n. f (suc n)) (omega (arith, f 0)))
 
+pub total-more : (l more : List ℕ) → length l ≡ length more → ((n : ℕ) → getD l n 0 ≤ getD more n 0) → (l ≡ more → ⊥) → total l < total more
+total-more l more e f apart = lt-of-not-le (λ h. apart (total-same l more e f h))
+
 -- ---- rounds until one adds nothing
 
 -- what holds of the words before every round: they are 32 words, the rail has every bit, and a node has a bit only where it is joined to the rail
@@ -287,20 +290,20 @@ decided x false h f g = at (ℕ-discrete x 1)
     at (yes e) = absurd (f e)
     at (no e) = omega arith
 
+pub zero-at : (n m : ℕ) → getD {A = ℕ} (replicate n 0) m 0 ≡ 0
+zero-at zero m = refl
+zero-at (suc n) zero = refl
+zero-at (suc n) (suc m) = zero-at n m
+
 -- the words before the first round: every bit at the rail, and none at the other nodes
 abbrev pub firstWords : ℕ → List ℕ
 firstWords rail = set (replicate 32 0) rail (2 ^ 64 - 1)
 
 module _ (rail : ℕ) (rail-in : rail < 32) where
-  zero-at : (n m : ℕ) → getD {A = ℕ} (replicate n 0) m 0 ≡ 0
-  zero-at zero m = refl
-  zero-at (suc n) zero = refl
-  zero-at (suc n) (suc m) = zero-at n m
-
-  first-long : length (firstWords rail) ≡ 32
+  pub first-long : length (firstWords rail) ≡ 32
   first-long = simp (length-set, length-replicate)
 
-  first-whole : getD (firstWords rail) rail 0 ≡ 2 ^ 64 - 1
+  pub first-whole : getD (firstWords rail) rail 0 ≡ 2 ^ 64 - 1
   first-whole = getD-set-same (replicate 32 0) rail (2 ^ 64 - 1) 0 (simp length-replicate rail-in)
 
   first-at : (m : ℕ) → ((m ≡ rail) × (getD (firstWords rail) m 0 ≡ 2 ^ 64 - 1)) ⊎ (getD (firstWords rail) m 0 ≡ 0)
@@ -317,11 +320,6 @@ module _ (rail : ℕ) (rail-in : rail < 32) where
     whole = first-whole;
     only = λ m v l h. ⊎-elim (λ e. rw (e .0) here) (λ e. absurd (omega (arith, bit-zero v, ap (λ (w : ℕ). bit w v) e))) (first-at m);
   }
-
--- the sum of the words is within 32 * 2 ^ 64
-pub sum-within : {firsts seconds on : List ℕ} {count rail : ℕ} {joined : List ℕ} → Reached firsts seconds on count rail joined
-    → total joined ≤ 32 * 2 ^ 64
-sum-within {joined} r = rw (r .long) at (total-below (2 ^ 64) joined (r .fits))
 
 module _ {firsts seconds on : List ℕ} {count rail : ℕ} {joined : List ℕ}
     (ranges : NodesInRange firsts seconds count) (r : Reached firsts seconds on count rail joined) where
@@ -342,13 +340,6 @@ module _ {firsts seconds on : List ℕ} {count rail : ℕ} {joined : List ℕ}
             round-only firsts seconds on joined count ranges (r .long) v (Joined (linksTo firsts seconds on v count) rail)
             (λ n q. r .only n v l q) (along-joined v) m;
       }
-
-  -- a round that changes the words makes their sum larger
-  pub sum-grows : (joined ≡ roundTo firsts seconds on joined count → ⊥) → total joined < total (roundTo firsts seconds on joined count)
-  sum-grows ne =
-      let after : List ℕ = roundTo firsts seconds on joined count in
-      lt-of-not-le (λ (h : total after ≤ total joined). ne
-      (total-same joined after (sym (round-length firsts seconds on joined count)) (round-grows firsts seconds on joined count ranges (r .long)) h))
 
   module _ (same : joined ≡ roundTo firsts seconds on joined count) (v : ℕ) (l : v < 64) where
     handed-on : (j a b : ℕ) → j < count → Along firsts seconds j a b → bit (getD on j 0) v ≡ 1

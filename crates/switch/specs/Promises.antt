@@ -1,11 +1,12 @@
--- What the crate promises a caller, as lists and records: the rails' words, and the planes of values under 64 vectors.
+-- What the crate promises a caller, as lists and records: the rails' words, and the planes of values, 64 vectors to a word.
 -- A word has a bit for each of 64 vectors.
 use Prim.Native.Nat.{ℕ}
 use mathlib.Core.List.{List}
 use Rattle.words.specs.Bits.{bit, ofBool, word}
+use Rattle.words.specs.Each.{wordOfEach, fourEach}
 use Rattle.words.specs.Tables.{table}
 use Rattle.switch.specs.Conduction.{Value, at0, at1, atX, ground, supply}
-use Rattle.switch.specs.Modules.{ModuleType, mostNodes, linksOf}
+use Rattle.switch.specs.Modules.{ModuleType, mostNodes, mostLabels, linksOf}
 use Rattle.switch.specs.Deciding.{joins}
 use Rattle.switch.specs.Records.{valueOf, valuesAt}
 use Rattle.switch.specs.declared.Rails.{Rails}
@@ -17,8 +18,13 @@ unfoldable pub railWords : ModuleType → List ℕ → List ℕ → ℕ → List
 railWords t ones zeros rail =
     table mostNodes (λ (m : ℕ). word (λ (v : ℕ). ofBool (joins (linksOf t (valuesAt ones zeros v)) m rail)))
 
+-- the same under 256 vectors: four words for each node, from four words for each label in each plane
+unfoldable pub fourRailWords : ModuleType → List ℕ → List ℕ → ℕ → List ℕ
+fourRailWords t ones zeros rail =
+    fourEach mostNodes (λ (w : ℕ). railWords t (wordOfEach 4 w mostLabels ones) (wordOfEach 4 w mostLabels zeros) rail)
+
 abbrev pub railsOf : ModuleType → List ℕ → List ℕ → Rails
-railsOf t ones zeros = record { supply = railWords t ones zeros supply; ground = railWords t ones zeros ground }
+railsOf t ones zeros = record { supply = fourRailWords t ones zeros supply; ground = fourRailWords t ones zeros ground }
 
 -- a value's bit in the known-1 plane, and in the known-0 plane
 unfoldable pub isAt1 : Value → ℕ

@@ -1,8 +1,13 @@
 // The complementary check: over all settings of a type's labels, 64 at a time, with only the running verdict kept.
 use crate::Edge;
+use crate::MOST_EDGES;
+use crate::MOST_LABELS;
+use crate::MOST_NODES;
 use crate::ModuleType;
+use crate::conduction::ends_of;
+use crate::conduction::on_words;
 use crate::edges::spread;
-use crate::joining::joining_of;
+use crate::rounds::joined_to;
 use crate::settings::setting_ones;
 use crate::settings::setting_zeros;
 use words::first_ones;
@@ -10,7 +15,41 @@ ghost use mathlib.Core.Path.{_≡_};
 ghost use Prim.Native.Nat.{_<_, _≤_, _*_};
 ghost use Rattle.switch.specs.Records.{Given, EdgesGiven, typeOf, typeWith};
 ghost use Rattle.switch.specs.Deciding.{isComplementary};
-ghost use Rattle.switch.specs.Model.{BlockVerdict};
+ghost use Rattle.switch.specs.Model.{outputWords, BlockVerdict};
+ghost use Rattle.switch.specs.Modules.{mostLabels};
+ghost use lib.ListN.{length};
+
+// The words of a type's output for each rail, under 64 settings of its labels.
+struct OutputWords {
+    supply: u64,
+    ground: u64,
+}
+
+fn output_words(t: ModuleType, ones: &[u64; MOST_LABELS], zeros: &[u64; MOST_LABELS]) -> OutputWords
+    requires { ⌜ Given t ⌝ }
+    requires { ⌜ (length (now ones) ≡ mostLabels) × (length (now zeros) ≡ mostLabels) ⌝ }
+    ensures { λ r. ⌜ r ≡ outputWords (typeOf t) (now (ones .entry)) (now (zeros .entry)) ⌝ }
+{
+    let edges = t.edges;
+    let count = t.count;
+    let nodes = (t.highest as usize) + 1;
+    let output = t.output as usize;
+    let mut on = [0u64; MOST_EDGES];
+    on_words(edges, count, t.output, ones, zeros, 1, &mut on);
+    let ends = ends_of(edges, count);
+    let a = ends.firsts;
+    let b = ends.seconds;
+    let mut supply = [0u64; MOST_NODES];
+    let mut next = [0u64; MOST_NODES];
+    joined_to(&a, &b, &on, count, 1, nodes, 1, &mut supply, &mut next);
+    let mut ground = [0u64; MOST_NODES];
+    next = [0u64; MOST_NODES];
+    joined_to(&a, &b, &on, count, 1, nodes, 0, &mut ground, &mut next);
+    OutputWords {
+        supply: supply[output],
+        ground: ground[output],
+    }
+}
 
 // Whether the output is joined to exactly one rail under each setting of a block that is below `settings`.
 fn block_holds(t: ModuleType, block: usize, settings: usize) -> bool
@@ -20,12 +59,9 @@ fn block_holds(t: ModuleType, block: usize, settings: usize) -> bool
 {
     let ones = setting_ones(block);
     let zeros = setting_zeros(block);
-    let output = t.output as usize;
-    let rails = joining_of(t, &ones, &zeros);
-    let supply = rails.supply[output];
-    let ground = rails.ground[output];
+    let words = output_words(t, &ones, &zeros);
     let counted = first_ones(settings - 64 * block);
-    let one = (supply | ground) & !(supply & ground);
+    let one = (words.supply | words.ground) & !(words.supply & words.ground);
     one & counted == counted
 }
 

@@ -1,14 +1,16 @@
-// Which edges are on: a word for each edge, from the labels' known-1 and known-0 planes.
+// Which edges are on: some words for each edge, from the labels' known-1 and known-0 planes.
 use crate::Edge;
 use crate::Ends;
 use crate::MOST_EDGES;
-use crate::MOST_LABELS;
 ghost use mathlib.Core.Path.{_≡_};
-ghost use Prim.Native.Nat.{_≤_};
+ghost use Prim.Native.Nat.{_+_, _*_, _<_, _≤_};
+ghost use lib.ListN.{length, replicate};
+ghost use Rattle.words.specs.Each.{wordOfEach};
+ghost use Rattle.words.specs.Written.{written};
 ghost use Rattle.switch.specs.Conduction.{channelOf};
 ghost use Rattle.switch.specs.Records.{edgeOf, LabelsFit, EdgesFit};
-ghost use Rattle.switch.specs.Modules.{mostEdges};
-ghost use Rattle.switch.specs.Model.{isP, transistorWord, onWord, onWords, endsOf};
+ghost use Rattle.switch.specs.Modules.{mostEdges, mostLabels};
+ghost use Rattle.switch.specs.Model.{isP, transistorWord, onWord, edgeWords, WideOn, endsOf};
 
 // Whether an edge is p-channel in a type with this output node.
 fn is_p(e: Edge, output: u8) -> bool
@@ -33,10 +35,12 @@ fn transistor_word(p: bool, ones: u64, zeros: u64) -> u64
     ones
 }
 
-// The vectors under which an edge is on: one of its transistors is.
-fn on_word(e: Edge, output: u8, ones: &[u64; MOST_LABELS], zeros: &[u64; MOST_LABELS]) -> u64
+// The vectors of word w under which an edge is on: one of its transistors is.
+fn on_word(e: Edge, output: u8, ones: &[u64], zeros: &[u64], width: usize, w: usize) -> u64
     requires { ⌜ LabelsFit e ⌝ }
-    ensures { λ r. ⌜ r ≡ onWord output (now (ones .entry)) (now (zeros .entry)) (edgeOf e) ⌝ }
+    requires { ⌜ (w < width) × (width ≤ 4) ⌝ }
+    requires { ⌜ (length (now ones) ≡ width * mostLabels) × (length (now zeros) ≡ width * mostLabels) ⌝ }
+    ensures { λ r. ⌜ r ≡ onWord output (wordOfEach width w mostLabels (now (ones .entry))) (wordOfEach width w mostLabels (now (zeros .entry))) (edgeOf e) ⌝ }
 {
     let p = is_p(e, output);
     let labels = e.labels;
@@ -44,32 +48,56 @@ fn on_word(e: Edge, output: u8, ones: &[u64; MOST_LABELS], zeros: &[u64; MOST_LA
     let mut on: u64 = 0;
     let mut j: usize = 0;
     while j < count {
-        let l = labels[j] as usize;
+        let l = width * (labels[j] as usize) + w;
         on = on | transistor_word(p, ones[l], zeros[l]);
         j += 1;
     }
     on
 }
 
-// The on words of the first `count` edges.
+// The on words of one edge, from a place on.
+fn edge_words(
+    e: Edge,
+    output: u8,
+    ones: &[u64],
+    zeros: &[u64],
+    width: usize,
+    on: &mut [u64],
+    at: usize,
+)
+    requires { ⌜ LabelsFit e ⌝ }
+    requires { ⌜ (width ≤ 4) × (length (now ones) ≡ width * mostLabels) × (length (now zeros) ≡ width * mostLabels) ⌝ }
+    requires { ⌜ at + width ≤ length (now on) ⌝ }
+    ensures { λ _. ⌜ now (on .exit) ≡ written (now (on .entry)) at (edgeWords output (now (ones .entry)) (now (zeros .entry)) width (edgeOf e)) ⌝ }
+{
+    let mut w: usize = 0;
+    while w < width {
+        on[at + w] = on_word(e, output, ones, zeros, width, w);
+        w += 1;
+    }
+}
+
+// The on words of the first `count` edges, `width` words each, into a list of zeros.
 pub fn on_words(
     edges: [Edge; MOST_EDGES],
     count: usize,
     output: u8,
-    ones: &[u64; MOST_LABELS],
-    zeros: &[u64; MOST_LABELS],
-) -> [u64; MOST_EDGES]
+    ones: &[u64],
+    zeros: &[u64],
+    width: usize,
+    on: &mut [u64],
+)
     requires { ⌜ EdgesFit edges count ⌝ }
-    ensures { λ r. ⌜ r ≡ onWords output (now (ones .entry)) (now (zeros .entry)) edges count ⌝ }
+    requires { ⌜ (width ≤ 4) × (length (now ones) ≡ width * mostLabels) × (length (now zeros) ≡ width * mostLabels) ⌝ }
+    requires { ⌜ now on ≡ replicate (width * mostEdges) 0 ⌝ }
+    ensures { λ _. ⌜ WideOn output (now (ones .entry)) (now (zeros .entry)) edges count width (now (on .exit)) ⌝ }
 {
-    let mut on = [0u64; MOST_EDGES];
     let mut i: usize = 0;
     while i < count {
         let e = edges[i];
-        on[i] = on_word(e, output, ones, zeros);
+        edge_words(e, output, ones, zeros, width, on, width * i);
         i += 1;
     }
-    on
 }
 
 // The nodes of the first `count` edges.

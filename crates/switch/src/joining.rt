@@ -1,6 +1,5 @@
-// The joining of every node to each rail, and the output's planes, from a module type and its labels' planes.
+// The joining of every node to each rail, and the output's planes, from a module type and its labels' planes, four words each.
 use crate::Edge;
-use crate::MOST_LABELS;
 use crate::ModuleType;
 use crate::Planes;
 use crate::Rails;
@@ -12,20 +11,25 @@ ghost use mathlib.Core.Path.{_≡_};
 ghost use Rattle.switch.specs.Records.{Given, EdgesGiven, typeOf, typeWith};
 ghost use Rattle.switch.specs.Promises.{railsOf, planesOf};
 
-// Under which of 64 vectors each node is joined to supply, and to ground: the work, on a type by value.
-pub fn joining_of(t: ModuleType, ones: &[u64; MOST_LABELS], zeros: &[u64; MOST_LABELS]) -> Rails
+// Under which of 256 vectors each node is joined to supply, and to ground: the work, on a type by value.
+pub fn joining_of(t: ModuleType, ones: &[u64; 48], zeros: &[u64; 48]) -> Rails
     requires { ⌜ Given t ⌝ }
     ensures { λ r. ⌜ r ≡ railsOf (typeOf t) (now (ones .entry)) (now (zeros .entry)) ⌝ }
 {
     let edges = t.edges;
     let count = t.count;
-    let output = t.output;
-    let on = on_words(edges, count, output, ones, zeros);
+    let nodes = (t.highest as usize) + 1;
+    let mut on = [0u64; 256];
+    on_words(edges, count, t.output, ones, zeros, 4, &mut on);
     let ends = ends_of(edges, count);
-    let firsts = ends.firsts;
-    let seconds = ends.seconds;
-    let supply = joined_to(&firsts, &seconds, &on, count, 1);
-    let ground = joined_to(&firsts, &seconds, &on, count, 0);
+    let a = ends.firsts;
+    let b = ends.seconds;
+    let mut supply = [0u64; 128];
+    let mut next = [0u64; 128];
+    joined_to(&a, &b, &on, count, 4, nodes, 1, &mut supply, &mut next);
+    let mut ground = [0u64; 128];
+    next = [0u64; 128];
+    joined_to(&a, &b, &on, count, 4, nodes, 0, &mut ground, &mut next);
     Rails { supply, ground }
 }
 
@@ -35,8 +39,8 @@ pub fn joining(
     highest: u8,
     output: u8,
     labels: u8,
-    ones: &[u64; MOST_LABELS],
-    zeros: &[u64; MOST_LABELS],
+    ones: &[u64; 48],
+    zeros: &[u64; 48],
 ) -> Rails
     requires { ⌜ EdgesGiven highest output labels (now edges) ⌝ }
     ensures { λ r. ⌜ r ≡ railsOf (typeWith highest output labels (now (edges .entry))) (now (ones .entry)) (now (zeros .entry)) ⌝ }
@@ -45,7 +49,7 @@ pub fn joining(
 }
 
 // The same, on a type whose edges are lent.
-pub fn join_type(t: ModuleType, ones: &[u64; MOST_LABELS], zeros: &[u64; MOST_LABELS]) -> Rails
+pub fn join_type(t: ModuleType, ones: &[u64; 48], zeros: &[u64; 48]) -> Rails
     requires { ⌜ Given t ⌝ }
     ensures { λ r. ⌜ r ≡ railsOf (typeOf t) (now (ones .entry)) (now (zeros .entry)) ⌝ }
 {

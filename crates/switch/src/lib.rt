@@ -32,10 +32,10 @@ pub struct ModuleType {
     pub edges: [Edge; MOST_EDGES],
 }
 
-// A word for each node and each rail: under which of 64 vectors the node is joined to it.
+// Four words for each node and each rail: under which of 256 vectors the node is joined to it.
 pub struct Rails {
-    pub supply: [u64; MOST_NODES],
-    pub ground: [u64; MOST_NODES],
+    pub supply: [u64; 128],
+    pub ground: [u64; 128],
 }
 
 // The known-1 plane and the known-0 plane of one value under 64 vectors.

@@ -6,4 +6,5 @@ pub mod Sums
 pub mod Rows
 pub mod AnyMark
 pub mod Tables
+pub mod EachLaws
 pub mod WrittenLaws

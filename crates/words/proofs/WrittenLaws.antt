@@ -1,4 +1,4 @@
--- Laws of a list written into a buffer: the buffer's length stays, what is written behind something written is one list, one stored element is a list of one.
+-- Laws of a list written into a buffer: the buffer's length stays, what stands at each place, what is written behind something written is one list, one stored element is a list of one.
 -- And the part of a list from one place to another: what is written is the part where it stands.
 use mathlib.Core.Path.{_≡_, ap, _∙_}
 use mathlib.Core.List.{List, [], _∷_, _++_, append-nil, append-assoc}
@@ -6,8 +6,8 @@ use Prim.Native.Nat.{ℕ, suc, _+_, _-_, _≤_, _<_}
 use native.Mathlib.Nat.{add-zero, add-suc, add-assoc, suc-add, add-sub-of-le}
 use native.Mathlib.Numerals.{add-one}
 use native.Mathlib.Omega.{arith}
-use lib.ListN.{length, getD, set, take, drop, length-append, length-take, length-drop, take-append-drop}
-use lib.Seq.{length-take-le, take-at, drop-at, drop-drop, drop-cons, take-suc, getD-take, getD-drop, set-split, set-append-left, take-set-lt, take-suc-set, append-snoc}
+use lib.ListN.{length, getD, set, take, drop, length-append, length-take, length-drop, take-append-drop, List·getD-append}
+use lib.Seq.{length-take-le, take-at, drop-at, drop-drop, drop-cons, take-suc, getD-take, getD-drop, getD-append-add, set-split, set-append-left, take-set-lt, take-suc-set, append-snoc}
 use Rattle.words.specs.Tables.{table}
 use Rattle.words.specs.Written.{written}
 use Rattle.words.proofs.Tables.{length-table, table-more}
@@ -33,6 +33,30 @@ module _ (buffer : List ℕ) (at : ℕ) where
     pub length-written : length (written buffer at text) ≡ length buffer
     unfolding written
     length-written = rw (length-append (take at buffer ++ text), length-front, length-drop) (omega arith)
+
+    -- what stands before the text, in it, and behind it
+    pub written-before : (j : ℕ) → j < at → getD (written buffer at text) j 0 ≡ getD buffer j 0
+    unfolding written
+    written-before j h =
+        List·getD-append (take at buffer ++ text) (drop (at + length text) buffer) 0 j (omega (arith, length-front))
+        ∙ List·getD-append (take at buffer) text 0 j (omega (arith, length-take-le at buffer (omega arith)))
+        ∙ getD-take at buffer j 0 h
+
+    pub written-here : (j : ℕ) → j < length text → getD (written buffer at text) (at + j) 0 ≡ getD text j 0
+    unfolding written
+    written-here j h =
+        List·getD-append (take at buffer ++ text) (drop (at + length text) buffer) 0 (at + j) (omega (arith, length-front))
+        ∙ ap (λ (n : ℕ). getD (take at buffer ++ text) n 0) (omega (arith, length-take-le at buffer (omega arith)))
+        ∙ getD-append-add (take at buffer) text j 0
+
+    pub written-after : (j : ℕ) → at + length text ≤ j → getD (written buffer at text) j 0 ≡ getD buffer j 0
+    unfolding written
+    written-after j h =
+        let more : ℕ = j - (at + length text) in
+        ap (λ (n : ℕ). getD ((take at buffer ++ text) ++ drop (at + length text) buffer) n 0) (omega (arith, length-front))
+        ∙ getD-append-add (take at buffer ++ text) (drop (at + length text) buffer) more 0
+        ∙ getD-drop (at + length text) buffer more 0
+        ∙ ap (λ (n : ℕ). getD buffer n 0) (omega arith)
 
   -- a line of pieces is one text
   pub written-written : (a b : List ℕ) → at + length (a ++ b) ≤ length buffer

@@ -2,7 +2,6 @@
 use Prim.Native.Nat.{_≤_, _-_}
 use mathlib.Core.Path.{_≡_}
 use lib.ListN.{length}
-use native.Mathlib.Omega.{arith}
 use borrow.Author.Needs.{needs}
 use Rattle.grade.proofs.GivenCircuits.{few-faults}
 use Rattle.grade.proofs.report_lines.row_lines.Statement.{statement}
@@ -20,7 +19,7 @@ rows-of-requires : tie.Need-rows-of-requires Inv-loop μ-loop
 rows-of-requires c κs = search needs
 
 loop-holds : tie.Need-loop-holds Inv-loop μ-loop
-loop-holds c = let few = few-faults _ (c .before .before .before .before .before .pre .1 .1 .0) in search needs
+loop-holds c = let few = few-faults _ (c .before .before .before .before .pre .1 .1 .0) in search needs
 
 mul-head-of : tie.Need-mul-head-of Inv-loop μ-loop
 mul-head-of c = search needs

@@ -2,7 +2,7 @@
 -- The measure is what is left of the instances. Assumes nothing.
 use Prim.Native.Nat.{ℕ, _+_, _-_, _≤_, _<_}
 use mathlib.Core.Path.{_≡_, refl}
-use mathlib.Core.List.{[]}
+use mathlib.Core.List.{List, []}
 use native.Mathlib.Omega.{arith}
 use borrow.Author.Needs.{needs}
 use lib.ListN.{length, getD}
@@ -13,22 +13,20 @@ use Rattle.circuit.specs.Laws.{CircuitGood}
 use Rattle.circuit.specs.declared.Circuit.{Circuit as CircuitRecord}
 use Rattle.circuit.specs.declared.Instance.{Instance as InstanceRecord}
 use Rattle.grading.proofs.RowLaws.{noInstance}
-use Rattle.grading.proofs.RecordReads.{type-place}
-use Rattle.rows.specs.Model.{RowsAre}
-use Rattle.rows.specs.declared.Rows.{Rows}
+use Rattle.grading.proofs.RecordReads.{bridges-few, type-place, type-few}
 use Rattle.grader.proofs.Assembly as assembly
 use Rattle.grader.proofs.Assembly.{Turned, TurnFits, Room}
 use Rattle.grader.proofs.grade.grade_circuit.Statement.{statement}
 use Rattle.grader.proofs.grade.grade_circuit.Tie as tie
 
 abbrev Inv-loop : tie.InvT-loop
-Inv-loop matrix₀ classes₀ c rows codes ones₀ zeros₀ vectors keys₀ count₀ found₀ from₀ i₀ matrix classes ones zeros keys count found from i =
-    (length keys ≡ 2048)
+Inv-loop matrix₀ classes₀ c vectors bridges ones₀ zeros₀ codes₀ keys₀ count₀ found₀ from₀ i₀ matrix classes ones zeros codes keys count found from i =
+    (length codes ≡ 2048) × (length keys ≡ 2048)
     × ((meant : Circuit) → c ≡ circuitRecord meant → CircuitGood meant
     → Turned meant matrix₀ classes₀ ones zeros matrix classes count found from i)
 
 abbrev μ-loop : tie.MeasureT-loop
-μ-loop matrix₀ classes₀ c rows codes ones₀ zeros₀ vectors keys₀ count₀ found₀ from₀ i₀ matrix classes ones zeros keys count found from i =
+μ-loop matrix₀ classes₀ c vectors bridges ones₀ zeros₀ codes₀ keys₀ count₀ found₀ from₀ i₀ matrix classes ones zeros codes keys count found from i =
     c .«instance_count» - i
 
 -- what an array read past its end gives
@@ -40,11 +38,8 @@ noType = record { highest = 0; output = 0; labels = 0; count = 0; edges = [] }
 
 -- ---- paths
 
-abbrev rows-at : tie.After-zeros Inv-loop μ-loop → tie.After-rows-of Inv-loop μ-loop
-rows-at c = c .before .before .before .before .before
-
-abbrev start-at : tie.After-zeros Inv-loop μ-loop → tie.Start Inv-loop μ-loop
-start-at c = rows-at c .before .before .before
+abbrev start-at : tie.After-put-signals Inv-loop μ-loop → tie.Start Inv-loop μ-loop
+start-at c = c .before .before .before .before .before .before .before
 
 abbrev begin : tie.In-loop Inv-loop μ-loop → tie.Start Inv-loop μ-loop
 begin c = start-at (c .before .before)
@@ -52,23 +47,27 @@ begin c = start-at (c .before .before)
 abbrev whole : tie.In-loop Inv-loop μ-loop → CircuitRecord
 whole c = begin c .args .t1
 
-abbrev all-rows : tie.In-loop Inv-loop μ-loop → Rows
-all-rows c = rows-at (c .before .before) .rows-of .result
+abbrev listed-turn : tie.After-list-rows Inv-loop μ-loop → tie.In-loop Inv-loop μ-loop
+listed-turn c = c .before .before .before .before .before
 
-abbrev t-turn : tie.After-t Inv-loop μ-loop → tie.In-loop Inv-loop μ-loop
-t-turn c = c .before .before .before
+abbrev marked-listed : tie.After-mark-instance Inv-loop μ-loop → tie.After-list-rows Inv-loop μ-loop
+marked-listed c = c .before .before .before .before .before
 
-abbrev read-turn : tie.After-read-instance Inv-loop μ-loop → tie.In-loop Inv-loop μ-loop
-read-turn c = t-turn (c .before .before .before .before)
-
-abbrev wrote-read : tie.After-write-rows Inv-loop μ-loop → tie.After-read-instance Inv-loop μ-loop
-wrote-read c = c .before .before .before
-
-abbrev classed-wrote : tie.After-class-instance Inv-loop μ-loop → tie.After-write-rows Inv-loop μ-loop
-classed-wrote c = c .before .before .before .before .before .before .before
+abbrev classed-marked : tie.After-class-instance Inv-loop μ-loop → tie.After-mark-instance Inv-loop μ-loop
+classed-marked c = c .before .before .before .before .before .before .before
 
 abbrev classed-turn : tie.After-class-instance Inv-loop μ-loop → tie.In-loop Inv-loop μ-loop
-classed-turn c = read-turn (wrote-read (classed-wrote c))
+classed-turn c = listed-turn (marked-listed (classed-marked c))
+
+-- the circuit is known to have few vectors
+vectors-few : (start : tie.Start Inv-loop μ-loop) → start .args .t1 .«vector_count» ≤ 256
+vectors-few start =
+    let p = start .pre .0 in
+    omega (arith, assembly.vectors-are (p .circuit) (start .args .t1) (p .is), p .good .few-vectors)
+
+-- the buffers are long enough
+roomy : (start : tie.Start Inv-loop μ-loop) → Room (start .args .t1) (start .args .matrix .now) (start .args .classes .now)
+roomy start = record { words = start .pre .1; entries = start .pre .2 }
 
 -- ---- a turn, for the circuit that the record is known to tell
 
@@ -88,9 +87,6 @@ module _ (c : tie.In-loop Inv-loop μ-loop) where
   here : (meant : Circuit) → whole c ≡ circuitRecord meant → place < length (meant .instances)
   here meant e = omega (arith, assembly.instances-are meant (whole c) e, c .loop-test .taken)
 
-  room : Room (whole c) (begin c .args .matrix .now) (begin c .args .classes .now)
-  room = record { words = begin c .pre .1 .0; entries = begin c .pre .1 .1 }
-
   few : place < 128
   few = assembly.place-few known good (whole c) is place (here known is)
 
@@ -98,34 +94,38 @@ module _ (c : tie.In-loop Inv-loop μ-loop) where
   type-placed = type-place known good (whole c) is place noInstance (here known is) noOne
 
   -- for any good circuit that it tells
-  module _ (meant : Circuit) (e : whole c ≡ circuitRecord meant) (g : CircuitGood meant) where
-    so-far : let l = c .before .loop in
-        Turned meant (begin c .args .matrix .now) (begin c .args .classes .now) (l .ones) (l .zeros) (l .matrix) (l .classes)
-        (l .count) (l .found) (l .from) (l .i)
-    so-far = c .before .loop .inv .1 meant e g
+  so-far : (meant : Circuit) → whole c ≡ circuitRecord meant → CircuitGood meant
+      → let l = c .before .loop in
+      Turned meant (begin c .args .matrix .now) (begin c .args .classes .now) (l .ones) (l .zeros) (l .matrix) (l .classes)
+      (l .count) (l .found) (l .from) (l .i)
+  so-far meant e g = c .before .loop .inv .2 meant e g
 
-    are : RowsAre meant (all-rows c)
-    are = rows-at (c .before .before) .rows-of .ensures meant e g
+-- the instance's codes are listed
+module _ (c : tie.After-list-rows Inv-loop μ-loop) where
+  abbrev turn : tie.In-loop Inv-loop μ-loop
+  turn = listed-turn c
 
-  abbrev rows-known : RowsAre known (all-rows c)
-  rows-known = are known is good
+  abbrev codes : List ℕ
+  codes = c .list-rows .last .1 .1 .1 .1 .1 .0
 
   abbrev to : ℕ
-  to = getD (all-rows c .ends) place 0
+  to = c .list-rows .result
 
-  fits : let l = c .before .loop in
-      TurnFits (all-rows c .codes) (l .ones) (l .zeros) (l .matrix) (l .classes) (l .count) (l .from) to
+  fits : let l = turn .before .loop in
+      let one = getD (whole turn .instances) (place turn) noOne in
+      TurnFits (getD (whole turn .types) (one .«type_number» - 1) noType) one (place turn) codes (l .ones) (l .zeros) (l .matrix) (l .classes)
+      (l .count) (l .from) to
   fits =
-      assembly.turn-fits known good (whole c) is place (here known is) noOne noType (all-rows c) rows-known _ _ _ _ _ _ _ _ _ room
-      (so-far known is good)
+      assembly.turn-fits (known turn) (good turn) (whole turn) (is turn) (place turn) (here turn (known turn) (is turn)) noOne noType
+      _ _ _ _ _ _ _ _ _ (roomy (begin turn)) (so-far turn (known turn) (is turn) (good turn)) _ (turn .before .loop .inv .0) _ _ (c .list-rows .ensures)
 
 -- the keys are as long as they were
 keys-long : (c : tie.After-class-instance Inv-loop μ-loop) → length (c .class-instance .last .1 .1 .1 .1 .1 .0) ≡ 2048
 keys-long c =
     let turn = classed-turn c in
     assembly.keys-kept (known turn) (good turn) (whole turn) (is turn) (place turn) (here turn (known turn) (is turn)) noOne noType
-    (all-rows turn) (rows-known turn) _ _ _ _ _ _ _ _ _ (room turn) (so-far turn (known turn) (is turn) (good turn))
-    (turn .before .loop .inv .0) (c .class-instance .ensures)
+    _ _ _ _ _ _ _ _ _ (roomy (begin turn)) (so-far turn (known turn) (is turn) (good turn)) _ (turn .before .loop .inv .0)
+    _ _ (marked-listed (classed-marked c) .list-rows .ensures) (turn .before .loop .inv .1) (c .class-instance .ensures)
 
 -- the turn
 turned : (c : tie.After-class-instance Inv-loop μ-loop) (meant : Circuit) → whole (classed-turn c) ≡ circuitRecord meant → CircuitGood meant
@@ -133,33 +133,35 @@ turned : (c : tie.After-class-instance Inv-loop μ-loop) (meant : Circuit) → w
     meant
     (begin (classed-turn c) .args .matrix .now)
     (begin (classed-turn c) .args .classes .now)
-    (wrote-read (classed-wrote c) .read-instance .last .1 .1 .1 .1 .0)
-    (wrote-read (classed-wrote c) .read-instance .last .1 .1 .1 .1 .1 .0)
-    (classed-wrote c .write-rows .last .1 .1 .1 .1 .1 .0)
+    (classed-marked c .mark-instance .last .1 .1 .1 .1 .1 .1 .1 .0)
+    (classed-marked c .mark-instance .last .1 .1 .1 .1 .1 .1 .1 .1 .0)
+    (classed-marked c .mark-instance .last .1 .1 .1 .1 .1 .1 .1 .1 .1 .0)
     (c .class-instance .last .1 .1 .1 .1 .1 .1 .0)
     (c .class-instance .result .count)
     (classed-turn c .before .loop .found + c .class-instance .result .found)
-    (to (classed-turn c))
+    (to (marked-listed (classed-marked c)))
     (place (classed-turn c) + 1)
 turned c meant e g =
     let turn = classed-turn c in
-    let wrote = classed-wrote c in
-    let read = wrote-read wrote in
-    assembly.turn meant g (whole turn) e (place turn) (here turn meant e) noOne noType (all-rows turn) (are turn meant e g) _ _ _ _ _ _ _ _ _
-    (room turn) (so-far turn meant e g)
-    (read .read-instance .result) _ _ (read .read-instance .ensures) _ (wrote .write-rows .ensures)
+    assembly.turn meant g (whole turn) e (place turn) (here turn meant e) noOne noType
+    _ _ _ _ _ _ _ _ _ (roomy (begin turn)) (so-far turn meant e g) _ (turn .before .loop .inv .0)
+    _ _ (marked-listed (classed-marked c) .list-rows .ensures)
+    _ _ _ (classed-marked c .mark-instance .ensures)
     _ _ _ (c .class-instance .result) (c .class-instance .ensures)
 
-rows-of-requires : tie.Need-rows-of-requires Inv-loop μ-loop
-rows-of-requires c κs = search needs
+-- ---- the needs
 
-signals-of-requires : tie.Need-signals-of-requires Inv-loop μ-loop
-signals-of-requires c κs = search needs
+add-put-signals : tie.Need-add-put-signals Inv-loop μ-loop
+add-put-signals c = omega (arith, vectors-few (c .before .before .before .before))
+
+put-signals-requires : tie.Need-put-signals-requires Inv-loop μ-loop
+put-signals-requires c κs = (omega (arith, vectors-few (c .before .before .before .before .before .before)), (refl, refl))
 
 loop-holds : tie.Need-loop-holds Inv-loop μ-loop
 loop-holds c = (
   refl,
-  λ meant e g. assembly.turned-none meant (start-at c .args .t1) e _ _ (c .before .before .signals-of .result) (c .before .before .signals-of .ensures),
+  refl,
+  λ meant e g. assembly.turned-none meant (start-at c .args .t1) e _ _ _ _ (c .put-signals .ensures .0) (c .put-signals .ensures .1),
 )
 
 mul-one : tie.Need-mul-one Inv-loop μ-loop
@@ -180,42 +182,29 @@ mul-t c = omega (arith, type-placed (c .before .before))
 element-copy-out-t : tie.Need-element-copy-out-t Inv-loop μ-loop
 element-copy-out-t c = omega (arith, type-placed (c .before .before))
 
-mul-to : tie.Need-mul-to Inv-loop μ-loop
-mul-to c = omega (arith, few (t-turn c))
-
-element-copy-out-to : tie.Need-element-copy-out-to Inv-loop μ-loop
-element-copy-out-to c = few (t-turn c)
-
-cast-to : tie.Need-cast-to Inv-loop μ-loop
-cast-to c = omega (arith, fits (t-turn (c .before)) .order)
-
-read-instance-requires : tie.Need-read-instance-requires Inv-loop μ-loop
-read-instance-requires c κs =
-    let turn = t-turn (c .before .before .before) in (
-      assembly.type-there (known turn) (good turn) (whole turn) (is turn) (place turn) (here turn (known turn) (is turn)) noOne noType,
-      (
-        assembly.references-fit (known turn) (good turn) (whole turn) (is turn) (place turn) (here turn (known turn) (is turn)) noOne noType,
-        (
-          (few turn, assembly.vectors-few (known turn) (good turn) (whole turn) (is turn) (place turn) (here turn (known turn) (is turn))),
-          fits turn .signals,
-        ),
-      ),
+list-rows-requires : tie.Need-list-rows-requires Inv-loop μ-loop
+list-rows-requires c κs =
+    let turn = c .before .before .before .before in
+    let at = here turn (known turn) (is turn) in
+    let type = type-few (known turn) (good turn) (whole turn) (is turn) (place turn) noInstance at noOne noType in (
+      (few turn, type .0, type .1, bridges-few (known turn) (good turn) (whole turn) (is turn)),
+      assembly.codes-room (known turn) (good turn) (whole turn) (is turn) (place turn) at noOne noType
+          _ _ _ _ _ _ _ _ _ (roomy (begin turn)) (so-far turn (known turn) (is turn) (good turn)) (turn .before .loop .codes) (turn .before .loop .inv .0),
     )
 
-write-rows-requires : tie.Need-write-rows-requires Inv-loop μ-loop
-write-rows-requires c κs =
-    let turn = read-turn (c .before .before) in
-    (fits turn .order, (fits turn .words, fits turn .codes-fit))
+mark-instance-requires : tie.Need-mark-instance-requires Inv-loop μ-loop
+mark-instance-requires c κs = fits (c .before .before .before .before) .marks
 
 class-instance-requires : tie.Need-class-instance-requires Inv-loop μ-loop
 class-instance-requires c κs =
-    let wrote = c .before .before .before .before .before .before in
-    let turn = read-turn (wrote-read wrote) in
-    let matrix-kept = wrote .write-rows .kept .1 .1 .1 .1 .1 .0 in (
-      (fits turn .order .0, fits turn .order .1, fits turn .count-few),
+    let marked = c .before .before .before .before .before .before in
+    let listed = marked-listed marked in
+    let marks = fits listed .marks in
+    let matrix-kept = marked .mark-instance .kept .1 .1 .1 .1 .1 .1 .1 .1 .1 .0 in (
+      (marks .order, marks .most, fits listed .count-few),
       (
-        fits turn .codes-fit,
-        (omega (arith, fits turn .words, matrix-kept), fits turn .entries, turn .before .loop .inv .0),
+        marks .codes,
+        (omega (arith, marks .room, matrix-kept), fits listed .entries, listed-turn listed .before .loop .inv .1),
       ),
     )
 
@@ -232,32 +221,34 @@ loop-less : tie.Need-loop-less Inv-loop μ-loop
 loop-less c = omega (arith, classed-turn (c .before .before .before) .loop-test .taken)
 
 loop-again : tie.Need-loop-again Inv-loop μ-loop
-loop-again c = let classed = c .before .before .before in (keys-long classed, λ meant e g. turned classed meant e g)
+loop-again c =
+    let classed = c .before .before .before in
+    (fits (marked-listed (classed-marked classed)) .codes-long, keys-long classed, λ meant e g. turned classed meant e g)
 
-cast-t51 : tie.Need-cast-t51 Inv-loop μ-loop
-cast-t51 c =
-    let start = start-at (c .before .before) in
+counted-requires : tie.Need-counted-requires Inv-loop μ-loop
+counted-requires c κs = search needs
+
+-- the buffers keep their lengths
+lengths : (c : tie.After-counted Inv-loop μ-loop)
+    → let start = start-at (c .before .before .before) in let l = c .before .before .loop in
+    (length (l .matrix) ≡ length (start .args .matrix .now)) × (length (l .classes) ≡ length (start .args .classes .now))
+lengths c =
+    let start = start-at (c .before .before .before) in
     let p = start .pre .0 in
-    omega (arith, assembly.classes-few (p .circuit) (start .args .t1) (p .is) (p .good) (c .before .loop .inv .1 (p .circuit) (p .is) (p .good)))
+    assembly.turned-long (p .circuit) (start .args .t1) (p .is) (roomy start) (c .before .before .loop .inv .2 (p .circuit) (p .is) (p .good))
 
 same-length : tie.Need-same-length Inv-loop μ-loop
-same-length c =
-    let start = start-at (c .before .before) in
-    let p = start .pre .0 in
-    assembly.turned-long (p .circuit) (start .args .t1) (p .is) record { words = start .pre .1 .0; entries = start .pre .1 .1 }
-    (c .before .loop .inv .1 (p .circuit) (p .is) (p .good)) .0
+same-length c = lengths c .0
 
 same-length-2 : tie.Need-same-length-2 Inv-loop μ-loop
-same-length-2 c =
-    let start = start-at (c .before .before) in
-    let p = start .pre .0 in
-    assembly.turned-long (p .circuit) (start .args .t1) (p .is) record { words = start .pre .1 .0; entries = start .pre .1 .1 }
-    (c .before .loop .inv .1 (p .circuit) (p .is) (p .good)) .1
+same-length-2 c = lengths c .1
 
 returns : tie.Need-returns Inv-loop μ-loop
 returns c =
     λ meant e g.
-    assembly.turned-end meant (start-at (c .before .before) .args .t1) e _ _ _ _ _ _ _ _ _ _ (c .before .loop .inv .1 meant e g) (c .loop-test .left)
+    rw (c .counted .ensures)
+    (assembly.turned-end meant (start-at (c .before .before .before) .args .t1) e _ _ _ _ _ _ _ _ _ _ (c .before .before .loop .inv .2 meant e g)
+    (c .before .loop-test .left))
 
 pub grade-circuit-spec : {M : Type 1} → statement M
 grade-circuit-spec =
@@ -265,8 +256,8 @@ grade-circuit-spec =
     (tie.spec
     Inv-loop
     μ-loop
-    rows-of-requires
-    signals-of-requires
+    add-put-signals
+    put-signals-requires
     loop-holds
     mul-one
     element-copy-out-one
@@ -274,17 +265,14 @@ grade-circuit-spec =
     sub-t
     mul-t
     element-copy-out-t
-    mul-to
-    element-copy-out-to
-    cast-to
-    read-instance-requires
-    write-rows-requires
+    list-rows-requires
+    mark-instance-requires
     class-instance-requires
     add-found
     add-i
     loop-less
     loop-again
-    cast-t51
+    counted-requires
     same-length
     same-length-2
     returns)

@@ -54,7 +54,7 @@ returns-3 c = λ file answers. short-classes _ _ (here (c .before .before) file 
 grade-circuit-requires : tie.Need-grade-circuit-requires
 grade-circuit-requires c κs =
     let past = c .before .before in
-    (given _ _ (known (past .before .before)), (past .before .if2 .left, past .if3 .left))
+    (given _ _ (known (past .before .before)), past .before .if2 .left, past .if3 .left)
 
 same-length : tie.Need-same-length
 same-length c = search needs

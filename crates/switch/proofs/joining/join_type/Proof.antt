@@ -67,7 +67,7 @@ use Rattle.switch.proofs.joining.join_type.Code as code
 
 -- the type of a label's planes
 abbrev P : RattleType
-P = Array u64 12
+P = Array u64 48
 
 abbrev stayed : Stays (f.ended .signature .params) (f.ended .kept)
 stayed = (stay-none (λ _. R.the-row) yes, (stay-none-ref (0 ∷ []) tt (plain (λ _. P)) yes, (stay-none-ref (1 ∷ []) tt (plain (λ _. P)) yes, tt)))

@@ -60,7 +60,7 @@ use Rattle.switch.proofs.joining.joining.Code as code
 
 -- the type of a label's planes
 abbrev P : RattleType
-P = Array u64 12
+P = Array u64 48
 
 abbrev stayed : Stays (f.ended .signature .params) (f.ended .kept)
 stayed = (stay-none-slice (0 ∷ []) tt (plain (λ _. T.the-row)) yes, (stay-none (λ _. u8) yes, (stay-none (λ _. u8) yes, (stay-none (λ _. u8) yes, (stay-none-ref (1 ∷ []) tt (plain (λ _. P)) yes, (stay-none-ref (2 ∷ []) tt (plain (λ _. P)) yes, tt))))))

@@ -5,7 +5,7 @@
 --   Reading                            a file's circuit or refusal: the fields in file order against the table
 --   Records, Answers                   the code's records and answers in those words; the promise of `read`
 --   Laws                               theorems on reading, each with its name
---   Stages                             how the crates `types`, `instances` and `reader` read, stage by stage
+--   Stages                             how the crates `modules`, `instances` and `reader` read, stage by stage
 --   Steps                              the promise of the reader's step
 pub mod Limits
 pub mod Fields

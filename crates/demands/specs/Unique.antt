@@ -105,8 +105,8 @@ pub record Unique : Type 0 where
   pub circuit-number-of : (r : Refusal) → One λ (n : ℕ). n ≡ reading.numberOf r
   -- circuit::refusal::place_of
   pub circuit-place-of : (r : Refusal) → One λ (p : ℕ). p ≡ reading.placeOf r
-  -- types::types::no_type
-  pub types-no-type : One λ (r : ModuleType). r ≡ unusedType
+  -- modules::types::no_type
+  pub modules-no-type : One λ (r : ModuleType). r ≡ unusedType
   -- instances::bridges::no_bridge
   pub instances-no-bridge : One λ (r : Bridge). r ≡ unusedBridge
   -- instances::instances::no_instance

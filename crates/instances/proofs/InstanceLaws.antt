@@ -28,7 +28,7 @@ use Rattle.circuit.specs.Table.{Test, passes, firstOf, listUnsuited, listEmpty,
 use Rattle.instances.specs.ListSums.{topNode, labelsNamed, most, listsOf}
 use Rattle.instances.specs.Choices.{listNamed, chosenOf, givenBy}
 use Rattle.instances.specs.ReadInstances.{shapesOf, gatheredTests, InstanceFits, TypesAndLists}
-use Rattle.types.specs.ReadTypes.{goodType}
+use Rattle.modules.specs.ReadTypes.{goodType}
 use Rattle.instances.specs.declared.choices.Chosen.{Chosen}
 use Rattle.instances.specs.declared.shapes.Shapes.{Shapes}
 use Rattle.instances.specs.declared.lists.Lists.{Lists}

@@ -22,7 +22,7 @@ use Rattle.instances.specs.declared.lists.Lists.{Lists}
 use Rattle.instances.specs.declared.instances.Instances.{Instances}
 use Rattle.instances.specs.declared.shapes.Shapes.{Shapes}
 use Rattle.instances.specs.declared.choices.Chosen.{Chosen}
-use Rattle.types.specs.ReadTypes.{goodType}
+use Rattle.modules.specs.ReadTypes.{goodType}
 use Rattle.instances.specs.ReadBridges.{listedInRange}
 use Rattle.instances.specs.ListSums.{listsOf}
 

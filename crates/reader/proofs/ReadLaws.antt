@@ -20,7 +20,7 @@ use Rattle.circuit.specs.Reading.{Reading, accepted, refusal, unless}
 use Rattle.circuit.specs.Records.{unusedType, unusedBridge, unusedInstance, unusedVector, circuitRecord, emptyCircuit}
 use Rattle.circuit.specs.Answers.{verdictOf, numberOf, placeOf, numberedVerdict, isRefused, Answers}
 use Rattle.circuit.specs.Stages.{bodyOf, fieldIn, FieldAt, NextIs, Stage, bridgeStage, instanceStage, vectorStage, endedVerdict, pastVerdict, endingVerdict, afterStage, afterInputs, fromStart, staged, stageOf}
-use Rattle.types.specs.ReadTypes.{TypesRead}
+use Rattle.modules.specs.ReadTypes.{TypesRead}
 use Rattle.instances.specs.ReadBridges.{BridgesRead}
 use Rattle.instances.specs.ListSums.{SummedTo}
 use Rattle.instances.specs.ReadInstances.{TypesAndLists, InstancesRead}
@@ -35,7 +35,7 @@ use Rattle.circuit.specs.declared.Reading.{Reading as ReadingRecord}
 use Rattle.circuit.specs.declared.fields.Field.{Field as FieldRecord}
 use Rattle.circuit.specs.declared.fields.Next.the-variants.{Other}
 use Rattle.circuit.specs.declared.refusal.Refusal.{Refusal}
-use Rattle.types.specs.declared.types.Types.{Types}
+use Rattle.modules.specs.declared.types.Types.{Types}
 use Rattle.instances.specs.declared.bridges.Bridges.{Bridges}
 use Rattle.instances.specs.declared.lists.Lists.{Lists}
 use Rattle.instances.specs.declared.instances.Instances.{Instances}

@@ -2,7 +2,7 @@
 use Prim.Native.Nat.{ℕ}
 use Rattle.circuit.specs.declared.Reading.{Reading as ReadingRecord}
 use Rattle.circuit.specs.declared.refusal.Refusal.the-variants.{Nothing}
-use Rattle.types.specs.declared.types.Types.{Types}
+use Rattle.modules.specs.declared.types.Types.{Types}
 use Rattle.instances.specs.declared.bridges.Bridges.{Bridges}
 use Rattle.instances.specs.declared.instances.Instances.{Instances}
 use Rattle.reader.specs.declared.vectors.Vectors.{Vectors}

@@ -36,6 +36,7 @@ fn exchange(block: &mut [u64; 64], by: usize, low: u64)
 {
     let mut i: usize = 0;
     while i < 32 {
+        // the place after i others that do not have the bit of value `by` either
         let k = i + (i & (64 - by));
         let first = block[k];
         let second = block[k + by];

@@ -117,7 +117,7 @@ pub record Settled (before next : List ℕ) (n : ℕ) (words : List ℕ) (told :
   pub taken : words ≡ take n next ++ drop n before
   pub tells : (told ≡ 0) ↔ (take n next ≡ take n before)
 
--- the first n of the edges whose nodes are below `nodes`, of which there are at most 32; and lists that have `width` words, at most four, for each edge, and for each node
+-- the first n of the edges, whose nodes are below `nodes`, at most 32; and a list that has `width` words, at most four, for each edge
 pub record WideEdges (firsts seconds on : List ℕ) (n width nodes : ℕ) : Type 0 where
   pub places : n ≤ mostEdges
   pub first : (i : ℕ) → i < n → getD firsts i 0 < nodes

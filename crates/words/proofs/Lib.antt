@@ -1,4 +1,4 @@
--- Laws on bits, packing, counting, rows of marks and lists made from functions, which other crates cite.
+-- Laws on bits, packing, counting, rows of marks, lists made from functions and things with some words each, which other crates cite.
 pub mod Laws
 pub mod FirstOnes
 pub mod Counting

@@ -1,5 +1,6 @@
 -- Keys and classes as lists: the first label with a label's reference, the search for a row's class, one more row's class and the number of classes after it,
--- the count of the found ones, and an instance's rows after all. What a search or a count has left is a function of its place (`labelLeft`, `classLeft`, `foundLeft`), which a loop keeps.
+-- the count of the found ones, keys in the place of rows, and an instance's rows after all.
+-- What a search or a count has left is a function of its place (`labelLeft`, `classLeft`, `foundLeft`), which a loop keeps.
 use mathlib.Core.Path.{_≡_, refl, ap, _∙_}
 use mathlib.Core.Bool.{Bool, true, false, _&&_, Bool·beq}
 use mathlib.Core.List.{List, [], _∷_, _++_, append-nil}
@@ -14,11 +15,12 @@ use borrow.Author.Tests.{eq-eqb, ne-eqb, lt-ltb, le-ltb}
 use Rattle.words.specs.Tables.{table, upTo}
 use Rattle.words.specs.Written.{written}
 use Rattle.words.proofs.Tables.{length-table, table-cong, up-below}
-use Rattle.words.proofs.WrittenLaws.{length-written, written-nothing, part, length-part, part-none, part-cons, part-more, getD-part, set-behind, part-written}
+use Rattle.words.proofs.WrittenLaws.{length-written, written-nothing, written-after, part, length-part, part-none, part-cons, part-more, getD-part, set-behind}
+use Rattle.words.proofs.WrittenLaws.{set-table-behind, part-written}
 use Rattle.circuit.specs.Records.{unusedReference}
 use Rattle.circuit.specs.declared.Reference.{Reference as ReferenceRecord}
-use Rattle.classes.specs.Model.{keysOf, InstanceClassed, sameRecord, firstLabelFrom, firstLabels, classByKey, numberAfter, numbers, countAfter, rowMarked}
-use Rattle.classes.specs.Model.{foundFrom}
+use Rattle.classes.specs.Model.{keyOf, keysOf, InstanceClassed, sameRecord, firstLabelFrom, firstLabels, classByKey, numberAfter, numbers, countAfter}
+use Rattle.classes.specs.Model.{rowMarked, foundFrom}
 
 -- ---- the number of classes
 
@@ -217,25 +219,50 @@ pub labels-all : (references : List ReferenceRecord) (n : ℕ) → 12 ≤ n
 unfolding labelLeft firstLabels
 labels-all references n h = table-cong 12 _ _ (λ l q. up-below n _ l (omega arith) ∙ rw (sub-zero l))
 
+-- ---- keys in the place of rows
+
+length-keys : (rows firsts : List ℕ) (from to : ℕ) → length (keysOf rows firsts from to) ≡ to - from
+unfolding keysOf
+length-keys rows firsts from to = length-table (to - from) _
+
+module _ (rows firsts : List ℕ) (from : ℕ) where
+  pub keyed-none : written rows from (keysOf rows firsts from from) ≡ rows
+  unfolding keysOf table
+  keyed-none = let none : from - from ≡ 0 = omega arith in rw none (written-nothing rows from)
+
+  -- the keys of the rows before r are written
+  module _ (r : ℕ) (begun : from ≤ r) (inside : r < length rows) {rows′ : List ℕ} (keyed : rows′ ≡ written rows from (keysOf rows firsts from r)) where
+    -- row r is as it was
+    pub row-kept : getD rows′ r 0 ≡ getD rows r 0
+    row-kept =
+        let long = length-keys rows firsts from r in
+        rw keyed (written-after rows from (keysOf rows firsts from r) (omega arith) r (omega arith))
+
+    pub keyed-more : set rows′ r (keyOf firsts (getD rows′ r 0)) ≡ written rows from (keysOf rows firsts from (r + 1))
+    unfolding keysOf
+    keyed-more =
+        let next : r + 1 - from ≡ suc (r - from) = omega arith in
+        let place : from + (r - from) ≡ r = omega arith in
+        rw (row-kept, keyed, next) (set-table-behind rows from (r - from) _ r _ (omega arith) inside (rw place))
+
 -- ---- an instance's rows, from what the calls leave
 
-module _ (rows : List ℕ) (references : List ReferenceRecord) (from to count : ℕ) (order : (from ≤ to) × (to ≤ 2048)) (keys keys′ : List ℕ)
-    (long : length keys ≡ 2048) (put : keys′ ≡ written keys from (keysOf rows (firstLabels references) from to)) where
-  length-keys : length (keysOf rows (firstLabels references) from to) ≡ to - from
-  unfolding keysOf
-  length-keys = length-table (to - from) _
+module _ (rows : List ℕ) (references : List ReferenceRecord) (from to : ℕ) (order : (from ≤ to) × (to ≤ 2048)) (long : length rows ≡ 2048)
+    (rows′ : List ℕ) (put : rows′ ≡ written rows from (keysOf rows (firstLabels references) from to)) where
+  abbrev keys : List ℕ
+  keys = keysOf rows (firstLabels references) from to
 
-  pub keys-long : length keys′ ≡ 2048
-  keys-long =
-      ap length put ∙ length-written keys from (keysOf rows (firstLabels references) from to) (omega (arith, length-keys, order)) ∙ long
+  end : to ≡ from + length keys
+  end = omega (arith, length-keys rows (firstLabels references) from to, order)
 
-  keys-here : part keys′ from to ≡ keysOf rows (firstLabels references) from to
-  keys-here =
-      rw put
-      (part-written keys from (keysOf rows (firstLabels references) from to) to (omega (arith, length-keys, order)) (omega (arith, order)))
+  pub rows-long : length rows′ ≡ 2048
+  rows-long = ap length put ∙ length-written rows from keys (omega (arith, end, order)) ∙ long
 
-  pub classed : (matrix classes classes′ : List ℕ) (after found : ℕ) → after ≡ countAfter count (numbers count (part keys′ from to))
-      → classes′ ≡ written classes from (numbers count (part keys′ from to)) → found ≡ foundFrom matrix classes′ from (to - from) count
-      → InstanceClassed rows references from to count matrix keys classes record { count = after; found = found } keys′ classes′
-  classed matrix classes classes′ after found a b f =
+  keys-here : part rows′ from to ≡ keys
+  keys-here = rw put (part-written rows from keys to end (omega (arith, order)))
+
+  pub classed : (count : ℕ) (matrix classes classes′ : List ℕ) (after found : ℕ) → after ≡ countAfter count (numbers count (part rows′ from to))
+      → classes′ ≡ written classes from (numbers count (part rows′ from to)) → found ≡ foundFrom matrix classes′ from (to - from) count
+      → InstanceClassed rows references from to count matrix classes record { count = after; found = found } rows′ classes′
+  classed count matrix classes classes′ after found a b f =
       record { keys-are = put; classes-are = b ∙ rw keys-here; count-is = a ∙ rw keys-here; found-is = f }

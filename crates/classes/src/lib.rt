@@ -34,39 +34,39 @@ fn first_labels(one: Instance) -> [u8; 12]
 }
 
 // Kind 0: both nodes, the lower one first. Kind 1: the node, and the first label with its reference.
-fn key_of(row: u32, firsts: [u8; 12]) -> u16
+fn key_of(row: u32, firsts: [u8; 12]) -> u32
     requires { ⌜ CodeFits row ⌝ }
     ensures { λ r. ⌜ r ≡ keyOf firsts row ⌝ }
 {
     let kind = row / 65536 % 256;
-    let a = (row / 256 % 256) as u16;
+    let a = row / 256 % 256;
     let b = row % 256;
     if kind == 0 {
-        let c = b as u16;
-        if a < c {
-            return 32 * a + c;
+        if a < b {
+            return 32 * a + b;
         }
-        return 32 * c + a;
+        return 32 * b + a;
     }
-    1024 + 16 * a + (firsts[b as usize] as u16)
+    1024 + 16 * a + (firsts[b as usize] as u32)
 }
 
-fn write_keys(rows: &[u32; 2048], from: usize, to: usize, one: Instance, keys: &mut [u16; 2048])
+// Puts its key in the place of each row of an instance.
+fn write_keys(rows: &mut [u32; 2048], from: usize, to: usize, one: Instance)
     requires { ⌜ (from ≤ to) × (to ≤ 2048) ⌝ }
-    requires { ⌜ length (now keys) ≡ 2048 ⌝ }
+    requires { ⌜ length (now rows) ≡ 2048 ⌝ }
     requires { ⌜ CodesFit (now rows) from to ⌝ }
-    ensures { λ _. ⌜ now (keys .exit) ≡ written (now (keys .entry)) from (keysOf (now (rows .entry)) (firstLabels (one .references)) from to) ⌝ }
+    ensures { λ _. ⌜ now (rows .exit) ≡ written (now (rows .entry)) from (keysOf (now (rows .entry)) (firstLabels (one .references)) from to) ⌝ }
 {
     let firsts = first_labels(one);
     let mut r = from;
     while r < to {
-        keys[r] = key_of(rows[r], firsts);
+        rows[r] = key_of(rows[r], firsts);
         r += 1;
     }
 }
 
 // Numbers the rows of an instance, after `count` classes: each takes the class of the first earlier row with its key, or else the next new number.
-fn number_rows(keys: &[u16; 2048], from: usize, to: usize, classes: &mut [u16], count: u16) -> u16
+fn number_rows(keys: &[u32; 2048], from: usize, to: usize, classes: &mut [u16], count: u16) -> u16
     requires { ⌜ (from ≤ to) × (to ≤ 2048) × (count ≤ from) ⌝ }
     requires { ⌜ (to ≤ length (now classes)) × (length (now keys) ≡ 2048) ⌝ }
     ensures { λ r. ⌜ (r ≡ countAfter count (numbers count (take (to - from) (drop from (now (keys .entry)))))) × (now (classes .exit) ≡ written (now (classes .entry)) from (numbers count (take (to - from) (drop from (now (keys .entry)))))) ⌝ }
@@ -119,24 +119,23 @@ pub struct Classed {
     pub found: usize,
 }
 
-// Numbers the rows of an instance, after `count` classes. The matrix has its rows; the keys of instances before are of no use any more.
+// Numbers the rows of an instance, after `count` classes. The matrix has its rows already; here keys take their place.
 pub fn class_instance(
-    rows: &[u32; 2048],
+    rows: &mut [u32; 2048],
     from: usize,
     to: usize,
     one: Instance,
     matrix: &[u64],
-    keys: &mut [u16; 2048],
     classes: &mut [u16],
     count: u16,
 ) -> Classed
     requires { ⌜ (from ≤ to) × (to ≤ 2048) × (count ≤ from) ⌝ }
     requires { ⌜ CodesFit (now rows) from to ⌝ }
-    requires { ⌜ (4 * to ≤ length (now matrix)) × (to ≤ length (now classes)) × (length (now keys) ≡ 2048) ⌝ }
-    ensures { λ r. ⌜ InstanceClassed (now (rows .entry)) (one .references) from to count (now (matrix .entry)) (now (keys .entry)) (now (classes .entry)) r (now (keys .exit)) (now (classes .exit)) ⌝ }
+    requires { ⌜ (4 * to ≤ length (now matrix)) × (to ≤ length (now classes)) × (length (now rows) ≡ 2048) ⌝ }
+    ensures { λ r. ⌜ InstanceClassed (now (rows .entry)) (one .references) from to count (now (matrix .entry)) (now (classes .entry)) r (now (rows .exit)) (now (classes .exit)) ⌝ }
 {
-    write_keys(rows, from, to, one, keys);
-    let after = number_rows(keys, from, to, classes, count);
+    write_keys(rows, from, to, one);
+    let after = number_rows(rows, from, to, classes, count);
     let found = found_in(matrix, classes, from, to, count);
     Classed {
         count: after,

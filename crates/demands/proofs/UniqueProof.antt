@@ -52,8 +52,8 @@ marked-once : {t : ModuleType} {references : List Reference} {place vectors from
     → OneAndBuffers (λ (ones′ zeros′ matrix′ : List ℕ). InstanceMarked t references place vectors rows from to ones zeros matrix ones′ zeros′ matrix′)
 marked-once r s x y u v g h = (g .ones-are ∙ sym (h .ones-are), g .zeros-are ∙ sym (h .zeros-are), g .rows-are ∙ sym (h .rows-are))
 
-classed-once : {rows matrix keys classes : List ℕ} {references : List Reference} {from to count : ℕ}
-    → OneAndBuffers (λ (r : Classed) (keys′ classes′ : List ℕ). InstanceClassed rows references from to count matrix keys classes r keys′ classes′)
+classed-once : {rows matrix classes : List ℕ} {references : List Reference} {from to count : ℕ}
+    → OneAndBuffers (λ (r : Classed) (rows′ classes′ : List ℕ). InstanceClassed rows references from to count matrix classes r rows′ classes′)
 classed-once r s x y u v g h =
     let classes : u ≡ v = g .classes-are ∙ sym (h .classes-are) in
     let found : r .found ≡ s .found = g .found-is ∙ rw classes (sym (h .found-is)) in
@@ -119,7 +119,7 @@ unique = record {
   rows-rows-of = λ c given r s p q. p (given .circuit) (given .is) (given .good) ∙ sym (q (given .circuit) (given .is) (given .good));
   marks-put-signals = λ vectors words. by-equations;
   marks-mark-instance = λ t one place vectors rows from to ones zeros matrix. marked-once;
-  classes-class-instance = λ rows from to one matrix keys classes count. classed-once;
+  classes-class-instance = λ rows from to one matrix classes count. classed-once;
   grader-grade-read = grade-read-once;
   grader-grade = grade-once;
   report-first-line = λ vectors faults classes found out. given-once;

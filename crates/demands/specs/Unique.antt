@@ -133,8 +133,8 @@ pub record Unique : Type 0 where
   pub marks-mark-instance : (t : ModuleType) (one : Instance) (place vectors : ℕ) (rows : List ℕ) (from to : ℕ) (ones zeros matrix : List ℕ)
       → OneAndBuffers λ (ones′ zeros′ matrix′ : List ℕ). InstanceMarked t (one .references) place vectors rows from to ones zeros matrix ones′ zeros′ matrix′
   -- classes::class_instance
-  pub classes-class-instance : (rows : List ℕ) (from to : ℕ) (one : Instance) (matrix keys classes : List ℕ) (count : ℕ)
-      → OneAndBuffers λ (r : Classed) (keys′ classes′ : List ℕ). InstanceClassed rows (one .references) from to count matrix keys classes r keys′ classes′
+  pub classes-class-instance : (rows : List ℕ) (from to : ℕ) (one : Instance) (matrix classes : List ℕ) (count : ℕ)
+      → OneAndBuffers λ (r : Classed) (rows′ classes′ : List ℕ). InstanceClassed rows (one .references) from to count matrix classes r rows′ classes′
   -- grader::grade::grade_read
   pub grader-grade-read : (reading : Reading) (matrix classes : List ℕ) → Read reading
       → OneAndBuffers λ (r : Answer) (matrix′ classes′ : List ℕ). PromiseOfRead reading matrix classes r matrix′ classes′

@@ -47,7 +47,7 @@ use Rattle.marks.proofs.SignalMeaning.{wordsOf, signals-start, signals-more}
 use Rattle.marks.proofs.RowMeaning.{rows-words}
 use Rattle.classes.specs.Model.{numbersOf, InstanceClassed, firstLabels, keysOf, numbers, foundFrom}
 use Rattle.classes.specs.declared.Classed.{Classed}
-use Rattle.classes.proofs.ClassLaws.{keys-long}
+use Rattle.classes.proofs.ClassLaws.{rows-long}
 use Rattle.classes.proofs.ClassMeaning.{faultKeys, class-next, count-next, keys-are}
 use Rattle.classes.proofs.FoundMeaning.{foundBefore, found-step, words-are, numbers-are}
 use Rattle.grader.specs.Model.{Graded}
@@ -289,16 +289,15 @@ module _ (c : Circuit) (good : CircuitGood c) (m : CircuitRecord) (is : m ≡ ci
             entries = omega (arith, turned-long c m is room so-far .1, within, room .entries, faults-are c m is);
           }
 
-          pub keys-kept : {matrix′ keys keys′ classes′ : List ℕ} {r : Classed} → length keys ≡ 2048
-              → InstanceClassed codes (one .references) from to count matrix′ keys classes r keys′ classes′ → length keys′ ≡ 2048
-          keys-kept {keys = keys} {keys′ = keys′} long classed =
-              keys-long codes (one .references) from to count order keys keys′ long (classed .keys-are)
+          -- keys take the place of codes, which are as many as they were
+          pub codes-kept : {matrix′ codes′ classes′ : List ℕ} {r : Classed}
+              → InstanceClassed codes (one .references) from to count matrix′ classes r codes′ classes′ → length codes′ ≡ 2048
+          codes-kept {codes′ = codes′} classed = rows-long codes (one .references) from to order (turn-fits .codes-long) codes′ (classed .keys-are)
 
           -- what the calls of a turn answer
           module _ (ones′ zeros′ matrix′ : List ℕ)
               (marked : InstanceMarked t (one .references) i (m .«vector_count») codes from to ones zeros matrix ones′ zeros′ matrix′)
-              (keys keys′ classes′ : List ℕ) (r : Classed)
-              (classed : InstanceClassed codes (one .references) from to count matrix′ keys classes r keys′ classes′) where
+              (codes′ classes′ : List ℕ) (r : Classed) (classed : InstanceClassed codes (one .references) from to count matrix′ classes r codes′ classes′) where
             stand : Bridge
             stand = nodes 0 0
 

@@ -42,7 +42,6 @@ fn grade_circuit(c: Circuit, matrix: &mut [u64], classes: &mut [u16]) -> Counts
     let mut zeros = [0u64; 768];
     put_signals(c.vectors, (vectors + 63) / 64, &mut ones, &mut zeros);
     let mut codes = [0u32; MOST_FAULTS];
-    let mut keys = [0u16; MOST_FAULTS];
     let mut count: u16 = 0;
     let mut found: usize = 0;
     let mut from: usize = 0;
@@ -63,7 +62,7 @@ fn grade_circuit(c: Circuit, matrix: &mut [u64], classes: &mut [u16]) -> Counts
             &mut zeros,
             matrix,
         );
-        let new = class_instance(&codes, from, to, one, matrix, &mut keys, classes, count);
+        let new = class_instance(&mut codes, from, to, one, matrix, classes, count);
         count = new.count;
         found += new.found;
         from = to;

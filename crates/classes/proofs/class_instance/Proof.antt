@@ -2,18 +2,18 @@
 use mathlib.Core.Path.{_≡_}
 use lib.ListN.{length}
 use borrow.Author.Needs.{needs}
-use Rattle.classes.proofs.ClassLaws.{keys-long, classed}
+use Rattle.classes.proofs.ClassLaws.{rows-long, classed}
 use Rattle.classes.proofs.class_instance.Statement.{statement}
 use Rattle.classes.proofs.class_instance.Tie as tie
 
 write-keys-requires : tie.Need-write-keys-requires
 write-keys-requires c κs = search needs
 
--- the keys are as long as they were
-kept : (c : tie.After-write-keys) → length (c .write-keys .last .1 .1 .1 .1 .0) ≡ 2048
+-- the rows are as long as they were
+kept : (c : tie.After-write-keys) → length (c .write-keys .last .0) ≡ 2048
 kept c =
     let start = c .before .before .before .before in
-    keys-long _ _ _ _ 0 (start .pre .0 .0, start .pre .0 .1) _ _ (start .pre .1 .1 .2) (c .write-keys .ensures)
+    rows-long _ _ _ _ (start .pre .0 .0, start .pre .0 .1) (start .pre .1 .1 .2) _ (c .write-keys .ensures)
 
 number-rows-requires : tie.Need-number-rows-requires
 number-rows-requires c κs =
@@ -32,7 +32,7 @@ returns c =
     let numbered = c .before .before .before .before in
     let keyed = numbered .before .before .before in
     let start = keyed .before .before .before .before in
-    classed _ _ _ _ _ (start .pre .0 .0, start .pre .0 .1) _ _ (start .pre .1 .1 .2) (keyed .write-keys .ensures) _ _ _ _ _
+    classed _ _ _ _ (start .pre .0 .0, start .pre .0 .1) (start .pre .1 .1 .2) _ (keyed .write-keys .ensures) _ _ _ _ _ _
     (numbered .number-rows .ensures .0) (numbered .number-rows .ensures .1) (c .found-in .ensures)
 
 pub class-instance-spec : {M : Type 1} → statement M

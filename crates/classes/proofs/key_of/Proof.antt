@@ -11,12 +11,6 @@ use Rattle.classes.specs.Model.{keyOf}
 use Rattle.classes.proofs.key_of.Statement.{statement}
 use Rattle.classes.proofs.key_of.Tie as tie
 
-cast-a : tie.Need-cast-a
-cast-a c = search needs
-
-cast-c : tie.Need-cast-c
-cast-c c = search needs
-
 mul-result : tie.Need-mul-result
 mul-result c = search needs
 
@@ -65,8 +59,6 @@ pub key-of-spec : {M : Type 1} → statement M
 key-of-spec =
     tie.close
     (tie.spec
-    cast-a
-    cast-c
     mul-result
     add-result
     returns

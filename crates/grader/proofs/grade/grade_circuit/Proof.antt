@@ -20,13 +20,13 @@ use Rattle.grader.proofs.grade.grade_circuit.Statement.{statement}
 use Rattle.grader.proofs.grade.grade_circuit.Tie as tie
 
 abbrev Inv-loop : tie.InvT-loop
-Inv-loop matrix₀ classes₀ c vectors bridges ones₀ zeros₀ codes₀ keys₀ count₀ found₀ from₀ i₀ matrix classes ones zeros codes keys count found from i =
-    (length codes ≡ 2048) × (length keys ≡ 2048)
+Inv-loop matrix₀ classes₀ c vectors bridges ones₀ zeros₀ codes₀ count₀ found₀ from₀ i₀ matrix classes ones zeros codes count found from i =
+    (length codes ≡ 2048)
     × ((meant : Circuit) → c ≡ circuitRecord meant → CircuitGood meant
     → Turned meant matrix₀ classes₀ ones zeros matrix classes count found from i)
 
 abbrev μ-loop : tie.MeasureT-loop
-μ-loop matrix₀ classes₀ c vectors bridges ones₀ zeros₀ codes₀ keys₀ count₀ found₀ from₀ i₀ matrix classes ones zeros codes keys count found from i =
+μ-loop matrix₀ classes₀ c vectors bridges ones₀ zeros₀ codes₀ count₀ found₀ from₀ i₀ matrix classes ones zeros codes count found from i =
     c .«instance_count» - i
 
 -- what an array read past its end gives
@@ -54,7 +54,7 @@ abbrev marked-listed : tie.After-mark-instance Inv-loop μ-loop → tie.After-li
 marked-listed c = c .before .before .before .before .before
 
 abbrev classed-marked : tie.After-class-instance Inv-loop μ-loop → tie.After-mark-instance Inv-loop μ-loop
-classed-marked c = c .before .before .before .before .before .before .before
+classed-marked c = c .before .before .before .before .before .before
 
 abbrev classed-turn : tie.After-class-instance Inv-loop μ-loop → tie.In-loop Inv-loop μ-loop
 classed-turn c = listed-turn (marked-listed (classed-marked c))
@@ -98,7 +98,7 @@ module _ (c : tie.In-loop Inv-loop μ-loop) where
       → let l = c .before .loop in
       Turned meant (begin c .args .matrix .now) (begin c .args .classes .now) (l .ones) (l .zeros) (l .matrix) (l .classes)
       (l .count) (l .found) (l .from) (l .i)
-  so-far meant e g = c .before .loop .inv .2 meant e g
+  so-far meant e g = c .before .loop .inv .1 meant e g
 
 -- the instance's codes are listed
 module _ (c : tie.After-list-rows Inv-loop μ-loop) where
@@ -119,13 +119,13 @@ module _ (c : tie.After-list-rows Inv-loop μ-loop) where
       assembly.turn-fits (known turn) (good turn) (whole turn) (is turn) (place turn) (here turn (known turn) (is turn)) noOne noType
       _ _ _ _ _ _ _ _ _ (roomy (begin turn)) (so-far turn (known turn) (is turn) (good turn)) _ (turn .before .loop .inv .0) _ _ (c .list-rows .ensures)
 
--- the keys are as long as they were
-keys-long : (c : tie.After-class-instance Inv-loop μ-loop) → length (c .class-instance .last .1 .1 .1 .1 .1 .0) ≡ 2048
-keys-long c =
+-- the codes are as many as they were
+codes-kept : (c : tie.After-class-instance Inv-loop μ-loop) → length (c .class-instance .last .0) ≡ 2048
+codes-kept c =
     let turn = classed-turn c in
-    assembly.keys-kept (known turn) (good turn) (whole turn) (is turn) (place turn) (here turn (known turn) (is turn)) noOne noType
+    assembly.codes-kept (known turn) (good turn) (whole turn) (is turn) (place turn) (here turn (known turn) (is turn)) noOne noType
     _ _ _ _ _ _ _ _ _ (roomy (begin turn)) (so-far turn (known turn) (is turn) (good turn)) _ (turn .before .loop .inv .0)
-    _ _ (marked-listed (classed-marked c) .list-rows .ensures) (turn .before .loop .inv .1) (c .class-instance .ensures)
+    _ _ (marked-listed (classed-marked c) .list-rows .ensures) (c .class-instance .ensures)
 
 -- the turn
 turned : (c : tie.After-class-instance Inv-loop μ-loop) (meant : Circuit) → whole (classed-turn c) ≡ circuitRecord meant → CircuitGood meant
@@ -136,7 +136,7 @@ turned : (c : tie.After-class-instance Inv-loop μ-loop) (meant : Circuit) → w
     (classed-marked c .mark-instance .last .1 .1 .1 .1 .1 .1 .1 .0)
     (classed-marked c .mark-instance .last .1 .1 .1 .1 .1 .1 .1 .1 .0)
     (classed-marked c .mark-instance .last .1 .1 .1 .1 .1 .1 .1 .1 .1 .0)
-    (c .class-instance .last .1 .1 .1 .1 .1 .1 .0)
+    (c .class-instance .last .1 .1 .1 .1 .1 .0)
     (c .class-instance .result .count)
     (classed-turn c .before .loop .found + c .class-instance .result .found)
     (to (marked-listed (classed-marked c)))
@@ -147,7 +147,7 @@ turned c meant e g =
     _ _ _ _ _ _ _ _ _ (roomy (begin turn)) (so-far turn meant e g) _ (turn .before .loop .inv .0)
     _ _ (marked-listed (classed-marked c) .list-rows .ensures)
     _ _ _ (classed-marked c .mark-instance .ensures)
-    _ _ _ (c .class-instance .result) (c .class-instance .ensures)
+    _ _ (c .class-instance .result) (c .class-instance .ensures)
 
 -- ---- the needs
 
@@ -159,7 +159,6 @@ put-signals-requires c κs = (omega (arith, vectors-few (c .before .before .befo
 
 loop-holds : tie.Need-loop-holds Inv-loop μ-loop
 loop-holds c = (
-  refl,
   refl,
   λ meant e g. assembly.turned-none meant (start-at c .args .t1) e _ _ _ _ (c .put-signals .ensures .0) (c .put-signals .ensures .1),
 )
@@ -197,14 +196,14 @@ mark-instance-requires c κs = fits (c .before .before .before .before) .marks
 
 class-instance-requires : tie.Need-class-instance-requires Inv-loop μ-loop
 class-instance-requires c κs =
-    let marked = c .before .before .before .before .before .before in
+    let marked = c .before .before .before .before .before in
     let listed = marked-listed marked in
     let marks = fits listed .marks in
     let matrix-kept = marked .mark-instance .kept .1 .1 .1 .1 .1 .1 .1 .1 .1 .0 in (
       (marks .order, marks .most, fits listed .count-few),
       (
         marks .codes,
-        (omega (arith, marks .room, matrix-kept), fits listed .entries, listed-turn listed .before .loop .inv .1),
+        (omega (arith, marks .room, matrix-kept), fits listed .entries, fits listed .codes-long),
       ),
     )
 
@@ -223,7 +222,7 @@ loop-less c = omega (arith, classed-turn (c .before .before .before) .loop-test 
 loop-again : tie.Need-loop-again Inv-loop μ-loop
 loop-again c =
     let classed = c .before .before .before in
-    (fits (marked-listed (classed-marked classed)) .codes-long, keys-long classed, λ meant e g. turned classed meant e g)
+    (codes-kept classed, λ meant e g. turned classed meant e g)
 
 counted-requires : tie.Need-counted-requires Inv-loop μ-loop
 counted-requires c κs = search needs
@@ -235,7 +234,7 @@ lengths : (c : tie.After-counted Inv-loop μ-loop)
 lengths c =
     let start = start-at (c .before .before .before) in
     let p = start .pre .0 in
-    assembly.turned-long (p .circuit) (start .args .t1) (p .is) (roomy start) (c .before .before .loop .inv .2 (p .circuit) (p .is) (p .good))
+    assembly.turned-long (p .circuit) (start .args .t1) (p .is) (roomy start) (c .before .before .loop .inv .1 (p .circuit) (p .is) (p .good))
 
 same-length : tie.Need-same-length Inv-loop μ-loop
 same-length c = lengths c .0
@@ -247,7 +246,7 @@ returns : tie.Need-returns Inv-loop μ-loop
 returns c =
     λ meant e g.
     rw (c .counted .ensures)
-    (assembly.turned-end meant (start-at (c .before .before .before) .args .t1) e _ _ _ _ _ _ _ _ _ _ (c .before .before .loop .inv .2 meant e g)
+    (assembly.turned-end meant (start-at (c .before .before .before) .args .t1) e _ _ _ _ _ _ _ _ _ _ (c .before .before .loop .inv .1 meant e g)
     (c .before .loop-test .left))
 
 pub grade-circuit-spec : {M : Type 1} → statement M

@@ -43,7 +43,8 @@ use Rattle.grading.specs.declared.Answer.{Answer}
 use Rattle.grading.specs.declared.Counts.{Counts}
 use Rattle.grading.specs.Rows.{rowsOf}
 use Rattle.rows.specs.Model.{instanceCodes, codesOf, RowsListed}
-use Rattle.marks.specs.Model.{onesOf, zerosOf, inputWords, InstanceMarked}
+use Rattle.marks.specs.Model.{InstanceMarked}
+use Rattle.signals.specs.Inputs.{onesOf, zerosOf, inputWords}
 use Rattle.classes.specs.Model.{InstanceClassed}
 use Rattle.classes.specs.declared.Classed.{Classed}
 use Rattle.report.specs.Lines.{firstLine, rowLine, refusalLine}
@@ -126,8 +127,8 @@ pub record Unique : Type 0 where
       → OneAndBuffer λ (r : ℕ) (codes′ : List ℕ). RowsListed codes from (instanceCodes place (one .choice) (t .highest) (t .labels) (take «bridge_count» bridges)) r codes′
   -- rows::rows_of
   pub rows-rows-of : (c : Circuit) → CircuitGiven c → One λ (r : List ℕ). ((meant : CircuitMeant) → c ≡ circuitRecord meant → CircuitGood meant → r ≡ padded 2048 0 (codesOf (rowsOf meant)))
-  -- marks::signals::put_signals
-  pub marks-put-signals : (vectors : List Vector) (words : ℕ)
+  -- signals::put_signals
+  pub signals-put-signals : (vectors : List Vector) (words : ℕ)
       → OneAndBuffer λ (ones′ zeros′ : List ℕ). (ones′ ≡ inputWords (onesOf vectors) words) × (zeros′ ≡ inputWords (zerosOf vectors) words)
   -- marks::instance::mark_instance
   pub marks-mark-instance : (t : ModuleType) (one : Instance) (place vectors : ℕ) (rows : List ℕ) (from to : ℕ) (ones zeros matrix : List ℕ)

@@ -42,7 +42,8 @@ use Rattle.grading.proofs.MatrixLaws.{length-matrix, matrix-append}
 use Rattle.rows.specs.Model.{instanceCodes, RowsListed}
 use Rattle.rows.proofs.InstanceCodes.{codes-long as length-codes, listed-to, listed-long, listed-at, listed-fit}
 use Rattle.marks.specs.Model.{signalWords, ReferencesFit, InstanceWords, instanceWords, outputOnes, outputZeros, rowsWords, InstanceMarked}
-use Rattle.marks.specs.Model.{onesOf, zerosOf, inputWords, InstanceGiven}
+use Rattle.marks.specs.Model.{InstanceGiven}
+use Rattle.signals.specs.Inputs.{onesOf, zerosOf, inputWords}
 use Rattle.marks.proofs.SignalMeaning.{wordsOf, signals-start, signals-more}
 use Rattle.marks.proofs.RowMeaning.{rows-words}
 use Rattle.classes.specs.Model.{numbersOf, InstanceClassed, firstLabels, keysOf, numbers, foundFrom}

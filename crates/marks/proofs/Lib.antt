@@ -1,6 +1,4 @@
 -- The laws of signals, and that the words written are the rows of the matrix.
-pub mod InputLaws
-pub mod TurnLaws
 pub mod SignalLaws
 pub mod OutputLaws
 pub mod SignalMeaning

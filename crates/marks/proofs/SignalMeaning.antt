@@ -35,7 +35,8 @@ use Rattle.circuit.proofs.Padding.{getD-padded}
 use Rattle.grading.specs.Values.{valueAt, labelValues, outputsOf, outputsAfter}
 use Rattle.grading.proofs.RecordReads.{referencesOf}
 use Rattle.grading.proofs.ValueLaws.{InstanceAt, type-ranges, good-at, type-at, label-value, label-past}
-use Rattle.marks.specs.Model.{vectorAt, outputsAt, signalAt, signalWord, signalWords, onesOf, zerosOf, inputWord, inputWords, placeOfSignal, signalOf}
+use Rattle.marks.specs.Model.{vectorAt, outputsAt, signalAt, signalWord, signalWords, placeOfSignal, signalOf}
+use Rattle.signals.specs.Inputs.{onesOf, zerosOf, inputWord, inputWords}
 use Rattle.marks.specs.Model.{labelWords, labelPlanes, InstanceWords, instanceWords, outputOnes, outputZeros}
 use Rattle.marks.proofs.OutputLaws.{newOutput, length-outputsAt, outputs-more}
 

@@ -1,4 +1,4 @@
--- What the code computes, as lists of words: signals' planes, an instance's words, mark words.
+-- What the code computes, as lists of words: signals' planes, an instance's words, mark words. The inputs' planes are in the crate `signals`.
 use Prim.Native.Nat.{ℕ, _+_, _-_, _*_, _/_, _%_, _^_, _<_, _≤_}
 use mathlib.Core.Bool.{Bool, true, false, cond}
 use mathlib.Core.List.{List, [], map}
@@ -41,52 +41,6 @@ signalWord plane c n j = word (λ (v : ℕ). plane (signalAt c n (64 * (j % 4) +
 
 unfoldable pub signalWords : (Value → ℕ) → Circuit → ℕ → List ℕ
 signalWords plane c n = table 768 (signalWord plane c n)
-
--- the vectors' words in two columns: the inputs that are 1, and those that are 0
-unfoldable pub onesOf : List VectorRecord → List ℕ
-onesOf vectors = map (λ (v : VectorRecord). v .ones) vectors
-
-unfoldable pub zerosOf : List VectorRecord → List ℕ
-zerosOf vectors = map (λ (v : VectorRecord). v .zeros) vectors
-
--- word w of input i, from a column: bit i of 64 vectors' words
-unfoldable pub inputWord : List ℕ → ℕ → ℕ → ℕ
-inputWord column i w = word (λ (v : ℕ). bit (getD column (64 * w + v) 0) i)
-
--- the planes of the inputs in the first `words` words, and 0 in all other places
-unfoldable pub inputWords : List ℕ → ℕ → List ℕ
-inputWords column words = table 768 (upTo 256 (λ (j : ℕ). upTo words (inputWord column (j / 4)) (j % 4)))
-
--- the words of the 64 vectors from 64 w on
-unfoldable pub wordsFrom : List ℕ → ℕ → List ℕ
-wordsFrom column w = table 64 (λ (v : ℕ). getD column (64 * w + v) 0)
-
-abbrev pub blockOf : List VectorRecord → ℕ → Block
-blockOf vectors w = record { ones = wordsFrom (onesOf vectors) w; zeros = wordsFrom (zerosOf vectors) w }
-
--- a square of bits turned over: bit v of word i is bit i of word v
-unfoldable pub transposed : List ℕ → List ℕ
-transposed block = table 64 (λ (i : ℕ). word (λ (v : ℕ). bit (getD block v 0) i))
-
--- r with its bit of value `by` taken from v
-unfoldable pub taken : ℕ → ℕ → ℕ → ℕ
-taken by r v = r - r / by % 2 * by + v / by % 2 * by
-
--- one step of turning over: a bit's word and its position exchange their bits of value `by`
-unfoldable pub stepped : ℕ → List ℕ → List ℕ
-stepped by block = table 64 (λ (r : ℕ). word (λ (v : ℕ). bit (getD block (taken by r v) 0) (taken by v r)))
-
--- a step's value, and its mask: the positions that do not have the bit of that value
-pub record Step (by low : ℕ) : Type 0 where
-  pub place : ℕ
-  pub few : place < 6
-  pub value : by ≡ 2 ^ place
-  pub mask : low ≡ word (λ (v : ℕ). 1 - v / by % 2)
-
--- word w of the first n inputs put among the signals
-unfoldable pub inputsPut : ℕ → List ℕ → ℕ → List ℕ → List ℕ
-inputsPut n block w signals =
-    table 768 (λ (j : ℕ). cond (eqb (j % 4) w) (cond (ltb (j / 4) n) (getD block (j / 4) 0) (getD signals j 0)) (getD signals j 0))
 
 -- the place of a reference's signal
 unfoldable pub placeOfSignal : Bool → ℕ → ℕ

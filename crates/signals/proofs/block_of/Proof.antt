@@ -1,4 +1,4 @@
--- `marks::signals::block_of` meets its contract. The loop's invariant: the first `v` places of both columns are filled. Assumes nothing.
+-- `signals::block_of` meets its contract. The loop's invariant: the first `v` places of both columns are filled. Assumes nothing.
 use mathlib.Core.List.{List}
 use mathlib.Core.Path.{_≡_, refl}
 use Prim.Native.Nat.{ℕ, _+_, _*_, _≤_, _<_, _-_}
@@ -9,10 +9,10 @@ use Rattle.words.specs.Tables.{table, upTo}
 use Rattle.words.proofs.Tables.{fill-none, fill-more}
 use Rattle.circuit.specs.Records.{unusedVector}
 use Rattle.circuit.specs.declared.Vector.{Vector}
-use Rattle.marks.specs.Model.{onesOf, zerosOf}
-use Rattle.marks.proofs.InputLaws.{column-is}
-use Rattle.marks.proofs.signals.block_of.Statement.{statement}
-use Rattle.marks.proofs.signals.block_of.Tie as tie
+use Rattle.signals.specs.Inputs.{onesOf, zerosOf}
+use Rattle.signals.proofs.InputLaws.{column-is}
+use Rattle.signals.proofs.block_of.Statement.{statement}
+use Rattle.signals.proofs.block_of.Tie as tie
 
 -- the words of one field from 64 w on, filled up to v
 abbrev filled : (Vector → ℕ) → List Vector → ℕ → ℕ → List ℕ

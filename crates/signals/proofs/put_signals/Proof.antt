@@ -1,14 +1,14 @@
--- `marks::signals::put_signals` meets its contract. The loop's invariant: the first `w` words of each input are there. Assumes nothing.
+-- `signals::put_signals` meets its contract. The loop's invariant: the first `w` words of each input are there. Assumes nothing.
 use mathlib.Core.Path.{_≡_, _∙_, ap}
 use Prim.Native.Nat.{_-_, _≤_, _<_}
 use native.Mathlib.Numerals.{add-one}
 use native.Mathlib.Omega.{arith}
 use lib.ListN.{length}
-use Rattle.marks.specs.Model.{onesOf, zerosOf, inputWords}
-use Rattle.marks.specs.declared.signals.Block.{Block}
-use Rattle.marks.proofs.InputLaws.{inputs-none, inputs-turn, length-inputs, length-block}
-use Rattle.marks.proofs.signals.put_signals.Statement.{statement}
-use Rattle.marks.proofs.signals.put_signals.Tie as tie
+use Rattle.signals.specs.Inputs.{onesOf, zerosOf, inputWords}
+use Rattle.signals.specs.declared.Block.{Block}
+use Rattle.signals.proofs.InputLaws.{inputs-none, inputs-turn, length-inputs, length-block}
+use Rattle.signals.proofs.put_signals.Statement.{statement}
+use Rattle.signals.proofs.put_signals.Tie as tie
 
 abbrev Inv-loop : tie.InvT-loop
 Inv-loop vectors words ones₀ zeros₀ w₀ ones zeros w =

@@ -1,12 +1,12 @@
--- `marks::signals::put_inputs` meets its contract. The loop's invariant: word `w` of the inputs below `i` is put. Assumes nothing.
+-- `signals::put_inputs` meets its contract. The loop's invariant: word `w` of the inputs below `i` is put. Assumes nothing.
 use mathlib.Core.Path.{_≡_}
 use Prim.Native.Nat.{_≤_, _-_}
 use native.Mathlib.Numerals.{add-one}
 use native.Mathlib.Omega.{arith}
-use Rattle.marks.specs.Model.{inputsPut}
-use Rattle.marks.proofs.InputLaws.{put-none, put-more}
-use Rattle.marks.proofs.signals.put_inputs.Statement.{statement}
-use Rattle.marks.proofs.signals.put_inputs.Tie as tie
+use Rattle.signals.specs.Inputs.{inputsPut}
+use Rattle.signals.proofs.InputLaws.{put-none, put-more}
+use Rattle.signals.proofs.put_inputs.Statement.{statement}
+use Rattle.signals.proofs.put_inputs.Tie as tie
 
 abbrev Inv-loop : tie.InvT-loop
 Inv-loop block w signals₀ i₀ signals i = (i ≤ 64) × (signals ≡ inputsPut i block w signals₀)

@@ -1,10 +1,11 @@
-// The signals of a circuit, 64 vectors to a word, four words each: primary inputs at 0 to 63, the outputs of instances from 64 on.
+// The signals of primary inputs, 64 vectors to a word, four words each, in the first 256 of 768 places; the outputs of instances come after them.
 use circuit::Vector;
 use circuit::limits::MOST_VECTORS;
 ghost use mathlib.Core.Path.{_≡_};
 ghost use Prim.Native.Nat.{_<_, _≤_};
 ghost use lib.ListN.{length, replicate};
-ghost use Rattle.marks.specs.Model.{blockOf, Step, stepped, transposed, inputsPut, onesOf, zerosOf, inputWords};
+ghost use Rattle.signals.specs.Inputs.{blockOf, inputsPut, onesOf, zerosOf, inputWords};
+ghost use Rattle.signals.specs.Turning.{Step, stepped, transposed};
 
 // The words of 64 vectors: the inputs that are 1, and those that are 0.
 struct Block {

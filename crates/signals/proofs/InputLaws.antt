@@ -15,7 +15,8 @@ use Rattle.words.proofs.Laws.{pack-cong}
 use Rattle.words.proofs.Tables.{length-table, getD-table, is-table, table-cong, set-table, up-below, up-past}
 use Rattle.circuit.specs.Records.{unusedVector}
 use Rattle.circuit.specs.declared.Vector.{Vector as VectorRecord}
-use Rattle.marks.specs.Model.{inputWord, inputWords, wordsFrom, transposed, inputsPut}
+use Rattle.signals.specs.Inputs.{inputWord, inputWords, wordsFrom, inputsPut}
+use Rattle.signals.specs.Turning.{transposed}
 
 -- ---- 64 vectors' words
 

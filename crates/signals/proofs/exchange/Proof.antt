@@ -1,12 +1,12 @@
--- `marks::signals::exchange` meets its contract. The loop's invariant: the words of the first `i` turns are stepped, the others as they were. Assumes nothing.
+-- `signals::exchange` meets its contract. The loop's invariant: the words of the first `i` turns are stepped, the others as they were. Assumes nothing.
 use mathlib.Core.Path.{_≡_, _∙_}
 use Prim.Native.Nat.{_+_, _-_, _≤_, _<_}
 use native.Mathlib.Numerals.{add-one}
 use native.Mathlib.Omega.{arith}
 use lib.Bits.{bitAnd}
-use Rattle.marks.proofs.TurnLaws.{turnsTo, value-high, pair-room, turns-none, turns-more, turns-all}
-use Rattle.marks.proofs.signals.exchange.Statement.{statement}
-use Rattle.marks.proofs.signals.exchange.Tie as tie
+use Rattle.signals.proofs.TurnLaws.{turnsTo, value-high, pair-room, turns-none, turns-more, turns-all}
+use Rattle.signals.proofs.exchange.Statement.{statement}
+use Rattle.signals.proofs.exchange.Tie as tie
 
 abbrev Inv-loop : tie.InvT-loop
 Inv-loop block₀ by low i₀ block i = (i ≤ 32) × (block ≡ turnsTo by block₀ i)

@@ -1,9 +1,9 @@
--- `marks::signals::transpose` meets its contract: each call does one of the six steps. Assumes nothing.
+-- `signals::transpose` meets its contract: each call does one of the six steps. Assumes nothing.
 use mathlib.Core.Path.{_∙_, ap}
 use lib.ListN.{length}
-use Rattle.marks.proofs.TurnLaws.{length-stepped, step-32, step-16, step-8, step-4, step-2, step-1, steps-all}
-use Rattle.marks.proofs.signals.transpose.Statement.{statement}
-use Rattle.marks.proofs.signals.transpose.Tie as tie
+use Rattle.signals.proofs.TurnLaws.{length-stepped, step-32, step-16, step-8, step-4, step-2, step-1, steps-all}
+use Rattle.signals.proofs.transpose.Statement.{statement}
+use Rattle.signals.proofs.transpose.Tie as tie
 
 exchange-requires : tie.Need-exchange-requires
 exchange-requires c κs = (c .before .pre, step-32)

@@ -18,7 +18,7 @@ use Rattle.words.specs.Bits.{bit, pack, word}
 use Rattle.words.specs.Tables.{table}
 use Rattle.words.proofs.Laws.{bit-le-one, bit-zero, bit-or, bit-and, bit-not-under, bit-block, bit-block-high, pack-cong, word-of-bits, bit-word, word-lt}
 use Rattle.words.proofs.Tables.{length-table, getD-table, is-table, table-cong}
-use Rattle.marks.specs.Model.{transposed, taken, stepped, Step}
+use Rattle.signals.specs.Turning.{transposed, taken, stepped, Step}
 
 -- ---- the six values
 

@@ -1,0 +1,3 @@
+-- What the crate `signals` computes.
+pub mod Inputs
+pub mod Turning

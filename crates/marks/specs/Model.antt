@@ -1,12 +1,12 @@
 -- What the code computes, as lists of words: signals' planes, an instance's words, mark words. The inputs' planes are in the crate `signals`.
-use Prim.Native.Nat.{ℕ, _+_, _-_, _*_, _/_, _%_, _^_, _<_, _≤_}
+use Prim.Native.Nat.{ℕ, _+_, _-_, _*_, _/_, _%_, _<_, _≤_}
 use mathlib.Core.Bool.{Bool, true, false, cond}
-use mathlib.Core.List.{List, [], map}
+use mathlib.Core.List.{List, []}
 use lib.Bits.{bitAnd, bitOr}
 use lib.Dec.{eqb, ltb}
 use lib.ListN.{length, getD, take}
 use mathlib.Core.Path.{_≡_}
-use Rattle.words.specs.Bits.{bit, word, firstOnes}
+use Rattle.words.specs.Bits.{word, firstOnes}
 use Rattle.words.specs.Each.{fourEach}
 use Rattle.words.specs.Tables.{table, upTo}
 use Rattle.words.specs.Written.{written}
@@ -18,10 +18,8 @@ use Rattle.switch.specs.declared.ModuleType.{ModuleType as TypeRecord}
 use Rattle.circuit.specs.Circuit.{Circuit}
 use Rattle.circuit.specs.Records.{unusedReference}
 use Rattle.circuit.specs.declared.Reference.{Reference as ReferenceRecord}
-use Rattle.circuit.specs.declared.Vector.{Vector as VectorRecord}
 use Rattle.grading.specs.Codes.{CodesFit}
 use Rattle.grading.specs.Values.{outputsOf}
-use Rattle.marks.specs.declared.signals.Block.{Block}
 
 -- ---- signals: primary inputs at 0 to 63, the outputs of instances from 64 on
 

@@ -43,9 +43,9 @@ fn label_planes(one: Instance, k: usize, signals: &[u64; 768]) -> [u64; 48]
 }
 
 // The planes of the output of the instance at a place, from its node's words for each rail.
-fn put_output(
-    supply: &[u64; 128],
-    ground: &[u64; 128],
+fn put_output<'r>(
+    supply: &'r [u64; 128],
+    ground: &'r [u64; 128],
     node: usize,
     place: usize,
     ones: &mut [u64; 768],
@@ -85,16 +85,14 @@ pub fn mark_instance(
     let label_ones = label_planes(one, k, ones);
     let label_zeros = label_planes(one, k, zeros);
     let rails = join_type(t, &label_ones, &label_zeros);
-    let supply = rails.supply;
-    let ground = rails.ground;
-    put_output(&supply, &ground, output, place, ones, zeros);
+    put_output(&rails.supply, &rails.ground, output, place, ones, zeros);
     write_rows(
         rows,
         from,
         to,
         vectors,
-        &supply,
-        &ground,
+        &rails.supply,
+        &rails.ground,
         &label_ones,
         &label_zeros,
         matrix,

@@ -63,13 +63,13 @@ fn write_row(
 }
 
 // The rows of an instance, from one place to another.
-pub fn write_rows(
+pub fn write_rows<'r>(
     rows: &[u32; 2048],
     from: usize,
     to: usize,
     vectors: usize,
-    supply: &[u64; 128],
-    ground: &[u64; 128],
+    supply: &'r [u64; 128],
+    ground: &'r [u64; 128],
     ones: &[u64; 48],
     zeros: &[u64; 48],
     matrix: &mut [u64],

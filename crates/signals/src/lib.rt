@@ -86,13 +86,11 @@ pub fn put_signals(
 {
     let mut w: usize = 0;
     while w < words {
-        let block = block_of(vectors, w);
-        let mut block_ones = block.ones;
-        let mut block_zeros = block.zeros;
-        transpose(&mut block_ones);
-        transpose(&mut block_zeros);
-        put_inputs(&block_ones, w, ones);
-        put_inputs(&block_zeros, w, zeros);
+        let mut block = block_of(vectors, w);
+        transpose(&mut block.ones);
+        transpose(&mut block.zeros);
+        put_inputs(&block.ones, w, ones);
+        put_inputs(&block.zeros, w, zeros);
         w += 1;
     }
 }

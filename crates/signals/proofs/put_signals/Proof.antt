@@ -29,16 +29,16 @@ block-of-requires c κs = word c
 
 transpose-requires : tie.Need-transpose-requires Inv-loop μ-loop
 transpose-requires c κs =
-    ap (λ (b : Block). length (b .ones)) (c .before .before .before .block-of .ensures) ∙ length-block _ _
+    ap (λ (b : Block). length (b .ones)) (c .before .block-of .ensures) ∙ length-block _ _
 
 transpose-requires-2 : tie.Need-transpose-requires-2 Inv-loop μ-loop
 transpose-requires-2 c κs =
-    ap (λ (b : Block). length (b .zeros)) (c .before .before .before .before .before .block-of .ensures) ∙ length-block _ _
+    ap (λ (b : Block). length (b .zeros)) (c .before .before .before .block-of .ensures) ∙ length-block _ _
 
 put-inputs-requires : tie.Need-put-inputs-requires Inv-loop μ-loop
 put-inputs-requires c κs =
-    let loop = c .before .before .before .before .before .before .before .before .before .before .loop in
-    (word (c .before .before .before .before .before .before .before .before .before), ap length (loop .inv .1) ∙ length-inputs _ _)
+    let loop = c .before .before .before .before .before .before .before .before .before .loop in
+    (word (c .before .before .before .before .before .before .before .before), ap length (loop .inv .1) ∙ length-inputs _ _)
 
 put-inputs-requires-2 : tie.Need-put-inputs-requires-2 Inv-loop μ-loop
 put-inputs-requires-2 c κs =
@@ -53,10 +53,10 @@ loop-less c = omega (arith, c .before .before .before .before .before .before .b
 
 loop-again : tie.Need-loop-again Inv-loop μ-loop
 loop-again c =
-    let ones = c .before .before .before in
-    let zeros-turned = ones .before .before .before in
+    let ones = c .before .before .before .before in
+    let zeros-turned = ones .before .before .before .before in
     let ones-turned = zeros-turned .before .before in
-    let block = ones-turned .before .before .before .before in
+    let block = ones-turned .before .before in
     let inside = block .before in
     let loop = inside .before .loop in
     let vectors = inside .before .before .args .vectors in (

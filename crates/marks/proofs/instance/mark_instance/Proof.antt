@@ -49,7 +49,7 @@ join-type-requires c κs = c .before .before .before .before .before .before .be
 
 put-output-requires : tie.Need-put-output-requires
 put-output-requires c κs =
-    let start = c .before .before .before .before .before .before .before .before .before .before .before .before .before .before .before .before in
+    let start = c .before .before .before .before .before .before .before .before .before .before .before .before .before .before .before in
     let ranges = given-type (start .args .t) (start .pre .sound) in
     ((omega (arith, ranges .output-high, ranges .highest), start .pre .placed), (start .pre .ones-long, start .pre .zeros-long))
 
@@ -63,8 +63,8 @@ same-length c = search needs
 
 returns : tie.Need-returns
 returns c =
-    let put = c .before .before .before .before .before .before .before .before in
-    let joined = put .before .before .before .before .before .before .before in
+    let put = c .before .before .before .before .before .before .before .before .before in
+    let joined = put .before .before .before .before .before .before in
     let planes = joined .before .before .before in
     let args = planes .before .before .before .before .before .before .before .args in
     marked (args .t) (args .one .references) (now (args .ones)) (now (args .zeros)) _ _

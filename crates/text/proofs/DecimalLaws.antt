@@ -1,16 +1,15 @@
 -- Laws of decimal numbers: how many digits a number has, and that the digits are those of the number. Assumes nothing.
 use mathlib.Core.Path.{_≡_, refl, sym, ap, _∙_}
 use mathlib.Core.Bool.{Bool, true, false}
-use mathlib.Core.List.{List, [], _∷_, _++_, append-nil, append-assoc, foldl, foldl-append}
+use mathlib.Core.List.{List, [], _∷_, _++_, foldl, foldl-append}
 use mathlib.Core.Logic.{_⊎_, inl, inr, ⊎-elim}
 use Prim.Native.Nat.{ℕ, zero, suc, _+_, _-_, _*_, _/_, _%_, _^_, _≤_, _<_}
-use native.Mathlib.Nat.{pow-suc, add-zero, add-suc, add-assoc, suc-add}
-use native.Mathlib.Numerals.{add-one}
+use native.Mathlib.Nat.{pow-suc}
 use native.Mathlib.Omega.{arith}
 use borrow.Author.Tests.{ltb-true, ltb-false, lt-ltb, le-ltb}
 use lib.Dec.{ltb}
-use lib.ListN.{length, getD, set, take, drop, length-append, length-drop, take-append-drop, List·getD-append}
-use lib.Seq.{length-take-le, take-at, drop-at, drop-drop, set-split, set-append-left, take-set-lt, take-suc-set, append-snoc, getD-at}
+use lib.ListN.{length, getD, length-append, List·getD-append}
+use lib.Seq.{getD-at}
 use Rattle.text.specs.Decimal.{digitsOf, lengthIn, decimal}
 
 -- ---- how many digits

@@ -3,7 +3,7 @@ ghost use mathlib.Core.Path.{_≡_};
 ghost use mathlib.Core.List.{[], _∷_};
 ghost use Prim.Native.Nat.{_+_, _<_, _≤_};
 ghost use lib.ListN.{length};
-ghost use Rattle.text.specs.Decimal.{digitsOf, lengthIn, decimal};
+ghost use Rattle.text.specs.Decimal.{lengthIn, decimal};
 ghost use Rattle.words.specs.Written.{written};
 
 // One byte.

@@ -1,8 +1,8 @@
 -- The six numbers of an answer that keeps the promise of `grade` are those of the grading.
 use Prim.Native.Nat.{ℕ}
-use mathlib.Core.Path.{_≡_, refl, ap, _∙_}
+use mathlib.Core.Path.{_≡_, ap, _∙_}
 use mathlib.Core.List.{List, [], _∷_}
-use Rattle.grading.specs.Grading.{Counts, Grading, countsIn, numberIn, placeIn}
+use Rattle.grading.specs.Grading.{Counts, Grading, numberIn, placeIn}
 use Rattle.grading.specs.Promise.{numberOf, placeOf, countsMeant, countsOf, Meets}
 use Rattle.grading.specs.declared.Counts.{Counts as CountsRecord}
 use Rattle.grading.specs.declared.Answer.{Answer}

@@ -53,7 +53,12 @@ verdictOf r = numberedVerdict (numberOf r) (placeOf r)
 
 -- ---- the promise of reading
 
--- the whole answer: the refusal's number and place and an empty circuit, or no refusal and exactly this circuit
+-- what an answer tells: the refusal's number and place, or no refusal and exactly this circuit
+unfoldable pub Tells : Reading → ReadingRecord → Type 0
+Tells (accepted c) r = (verdictOf (r .refusal) ≡ passes) × (r .circuit ≡ circuitRecord c)
+Tells (refusal number place) r = verdictOf (r .refusal) ≡ refused number place
+
+-- the whole answer: what it tells, and an empty circuit beside a refusal
 unfoldable pub Answers : Reading → ReadingRecord → Type 0
 Answers (accepted c) r = (verdictOf (r .refusal) ≡ passes) × (r .circuit ≡ circuitRecord c)
 Answers (refusal number place) r = (verdictOf (r .refusal) ≡ refused number place) × (r .circuit ≡ circuitRecord emptyCircuit)

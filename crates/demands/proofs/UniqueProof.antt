@@ -78,7 +78,7 @@ grade-once file matrix classes r s x y u v kept kept′ =
 grade-read-once : (reading : Reading) (matrix classes : List ℕ) → Read reading
     → OneAndBuffers (λ (r : Answer) (matrix′ classes′ : List ℕ). PromiseOfRead reading matrix classes r matrix′ classes′)
 grade-read-once reading matrix classes from r s x y u v kept kept′ =
-    grade-once (from .file) matrix classes r s x y u v (kept (from .file) (from .answers)) (kept′ (from .file) (from .answers))
+    grade-once (from .file) matrix classes r s x y u v (kept (from .file) (from .tells)) (kept′ (from .file) (from .tells))
 
 -- ---- all of them
 

@@ -5,7 +5,7 @@ use mathlib.Core.List.{List}
 use lib.ListN.{length}
 use native.Mathlib.Omega.{arith}
 use Rattle.circuit.specs.Reading.{Reading, accepted, refusal, readingOf}
-use Rattle.circuit.specs.Answers.{Answers}
+use Rattle.circuit.specs.Answers.{Tells}
 use Rattle.circuit.specs.Records.{circuitRecord}
 use Rattle.circuit.specs.declared.Circuit.{Circuit as CircuitRecord}
 use Rattle.circuit.specs.declared.Reading.{Reading as ReadingRecord}
@@ -24,11 +24,11 @@ few-faults c given = omega (arith, ap (λ (r : CircuitRecord). r .faults) (given
 -- a number of the table is not 0
 pub graded-given :
     (file matrix classes matrix′ classes′ : List ℕ) (reading : ReadingRecord) (answer : Answer) (counts : CountsRecord) → answer ≡ Graded counts
-    → Answers (readingOf file) reading → Promise file matrix classes answer matrix′ classes′ → CircuitGiven (reading .circuit)
-unfolding Answers gradingOf afterReading numberOf numberIn
-graded-given file matrix classes matrix′ classes′ reading answer counts is answers promise =
-    go (readingOf file) refl answers (sym (ap numberOf is) ∙ promise .number)
+    → Tells (readingOf file) reading → Promise file matrix classes answer matrix′ classes′ → CircuitGiven (reading .circuit)
+unfolding Tells gradingOf afterReading numberOf numberIn
+graded-given file matrix classes matrix′ classes′ reading answer counts is tells promise =
+    go (readingOf file) refl tells (sym (ap numberOf is) ∙ promise .number)
   where
-    go : (r : Reading) → readingOf file ≡ r → Answers r reading → 0 ≡ numberIn (afterReading r (length matrix) (length classes)) → CircuitGiven (reading .circuit)
+    go : (r : Reading) → readingOf file ≡ r → Tells r reading → 0 ≡ numberIn (afterReading r (length matrix) (length classes)) → CircuitGiven (reading .circuit)
     go (accepted c) e holds zero-is = record { circuit = c; is = holds .1; good = accepted-is-good file c e }
     go (refusal number place) e holds zero-is = absurd (omega (arith, refusal-is-good file number place e .low, zero-is))

@@ -18,7 +18,7 @@ use grader::grade::grade_read;
 use grading::Answer;
 use grading::answers::number_of;
 use grading::answers::place_of;
-use reader::read::read;
+use reader::read::read_stages;
 
 // One byte more than the limit is enough to know that a file is too long.
 const MOST_READ: usize = MOST_BYTES + 1;
@@ -36,7 +36,7 @@ fn grade_file(
     requires { ⌜ (8192 ≤ length (now matrix)) × (2048 ≤ length (now classes)) ⌝ }
     ensures { λ r. ⌜ r .at ≤ length (now (out .exit)) ⌝ }
 {
-    let reading = read(file);
+    let reading = read_stages(file);
     let answer = grade_read(reading, matrix, classes);
     let Answer::Graded(counts) = answer else {
         return refusal_lines(out, output, number_of(answer), place_of(answer));

@@ -11,7 +11,7 @@ use Rattle.circuit.specs.Table.{Verdict, passes, refused}
 use Rattle.circuit.specs.Reading.{Reading, accepted, refusal, readingOf}
 use Rattle.circuit.specs.Records.{circuitRecord}
 use Rattle.circuit.specs.Answers as reading
-use Rattle.circuit.specs.Answers.{numberedVerdict, verdictOf, isRefused, Answers}
+use Rattle.circuit.specs.Answers.{numberedVerdict, verdictOf, isRefused, Tells}
 use Rattle.circuit.specs.Laws.{CircuitGood}
 use Rattle.circuit.specs.declared.Reading.{Reading as ReadingRecord}
 use Rattle.circuit.specs.declared.Circuit.{Circuit as CircuitRecord}
@@ -42,15 +42,15 @@ unfolding numberedVerdict numberTold placeTold
 told zero p n q e = let z : _≡_ {A = ℕ} 0 1 = cc in absurd (omega arith)
 told (suc k) p n q e = (ap numberTold e, ap placeTold e)
 
-pub refused-meets : (read : Reading) (r : ReadingRecord) → Answers read r → isRefused (verdictOf (r .refusal)) ≡ true
+pub refused-meets : (read : Reading) (r : ReadingRecord) → Tells read r → isRefused (verdictOf (r .refusal)) ≡ true
     → (words entries : ℕ) (matrix classes : List ℕ) → Meets (afterReading read words entries) (Refused (r .refusal)) matrix classes matrix classes
-unfolding Answers isRefused verdictOf afterReading numberOf placeOf countsOf countsIn numberIn placeIn matrixAfter classesAfterGrading
-refused-meets (accepted c) r answers e words entries matrix classes = absurd (never (sym (ap isRefused (answers .0)) ∙ e))
+unfolding Tells isRefused verdictOf afterReading numberOf placeOf countsOf countsIn numberIn placeIn matrixAfter classesAfterGrading
+refused-meets (accepted c) r tells e words entries matrix classes = absurd (never (sym (ap isRefused (tells .0)) ∙ e))
   where
     never : false ≡ true → ⊥
     never z = let y : _≡_ {A = ℕ} 0 1 = cc in absurd (omega arith)
-refused-meets (refusal n p) r answers e words entries matrix classes =
-    let parts = told (reading.numberOf (r .refusal)) (reading.placeOf (r .refusal)) n p (answers .0) in
+refused-meets (refusal n p) r tells e words entries matrix classes =
+    let parts = told (reading.numberOf (r .refusal)) (reading.placeOf (r .refusal)) n p tells in
     record { number = parts .0; place = parts .1; counts = refl; matrix-at-exit = refl; classes-at-exit = refl }
 
 -- the record tells the circuit of a file that is accepted
@@ -59,17 +59,17 @@ pub record Accepted (file : List ℕ) (m : CircuitRecord) : Type 0 where
   pub reads : readingOf file ≡ accepted circuit
   pub is : m ≡ circuitRecord circuit
 
-pub accepted-here : (file : List ℕ) (r : ReadingRecord) → Answers (readingOf file) r → isRefused (verdictOf (r .refusal)) ≡ false
+pub accepted-here : (file : List ℕ) (r : ReadingRecord) → Tells (readingOf file) r → isRefused (verdictOf (r .refusal)) ≡ false
     → Accepted file (r .circuit)
-unfolding Answers
-accepted-here file r answers e = go (readingOf file) refl answers
+unfolding Tells
+accepted-here file r tells e = go (readingOf file) refl tells
   where
     never : (n p : ℕ) → passes ≡ refused n p → ⊥
     never n p z = let y : _≡_ {A = ℕ} 0 1 = cc in absurd (omega arith)
 
-    go : (read : Reading) → readingOf file ≡ read → Answers read r → Accepted file (r .circuit)
+    go : (read : Reading) → readingOf file ≡ read → Tells read r → Accepted file (r .circuit)
     go (accepted c) p a = record { circuit = c; reads = p; is = a .1 }
-    go (refusal n at) p a = absurd (never n at (sym (passes-is (verdictOf (r .refusal)) e) ∙ a .0))
+    go (refusal n at) p a = absurd (never n at (sym (passes-is (verdictOf (r .refusal)) e) ∙ a))
 
 -- ---- a file that is accepted
 

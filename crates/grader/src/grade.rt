@@ -7,7 +7,7 @@ use classes::class_instance;
 use grading::Answer;
 use grading::Counts;
 use marks::instance::mark_instance;
-use reader::read::read;
+use reader::read::read_stages;
 use rows::list_rows;
 use signals::put_signals;
 ghost use Prim.Native.Nat.{_*_, _≤_};
@@ -96,5 +96,5 @@ pub fn grade_read(reading: Reading, matrix: &mut [u64], classes: &mut [u16]) -> 
 pub fn grade(file: &[u8], matrix: &mut [u64], classes: &mut [u16]) -> Answer
     ensures { λ r. ⌜ Promise (now (file .entry)) (now (matrix .entry)) (now (classes .entry)) r (now (matrix .exit)) (now (classes .exit)) ⌝ }
 {
-    grade_read(read(file), matrix, classes)
+    grade_read(read_stages(file), matrix, classes)
 }

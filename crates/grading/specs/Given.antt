@@ -5,7 +5,7 @@ use mathlib.Core.List.{List}
 use Rattle.circuit.specs.Circuit.{Circuit}
 use Rattle.circuit.specs.Records.{circuitRecord}
 use Rattle.circuit.specs.Reading.{readingOf}
-use Rattle.circuit.specs.Answers.{Answers}
+use Rattle.circuit.specs.Answers.{Tells}
 use Rattle.circuit.specs.Laws.{CircuitGood}
 use Rattle.circuit.specs.declared.Circuit.{Circuit as CircuitRecord}
 use Rattle.circuit.specs.declared.Reading.{Reading as ReadingRecord}
@@ -16,7 +16,7 @@ pub record CircuitGiven (c : CircuitRecord) : Type 0 where
   pub is : c ≡ circuitRecord circuit
   pub good : CircuitGood circuit
 
--- a reading that some file gives
+-- a reading that tells what some file says
 pub record Read (reading : ReadingRecord) : Type 0 where
   pub file : List ℕ
-  pub answers : Answers (readingOf file) reading
+  pub tells : Tells (readingOf file) reading

@@ -5,7 +5,7 @@ use mathlib.Core.List.{List}
 use lib.ListN.{length}
 use Rattle.circuit.specs.Reading.{readingOf}
 use Rattle.circuit.specs.Answers as reading
-use Rattle.circuit.specs.Answers.{Answers}
+use Rattle.circuit.specs.Answers.{Tells}
 use Rattle.circuit.specs.declared.Reading.{Reading as ReadingRecord}
 use Rattle.grading.specs.Grading.{Counts, noCounts, Grading, gradingOf, countsIn, numberIn, placeIn, matrixAfter, classesAfterGrading}
 use Rattle.grading.specs.declared.Counts.{Counts as CountsRecord}
@@ -49,4 +49,4 @@ Promise file matrix classes answer matrix′ classes′ =
 -- of a reading in place of the file: the promise of every file that reads so
 abbrev pub PromiseOfRead : ReadingRecord → List ℕ → List ℕ → Answer → List ℕ → List ℕ → Type 0
 PromiseOfRead reading matrix classes answer matrix′ classes′ =
-    (file : List ℕ) → Answers (readingOf file) reading → Promise file matrix classes answer matrix′ classes′
+    (file : List ℕ) → Tells (readingOf file) reading → Promise file matrix classes answer matrix′ classes′

@@ -1,6 +1,6 @@
 -- The laws of an instance field: what its type and its list choice give, that the tests on what the code gathers are those of the table,
 -- what holds of a field that passes them, and its faults.
-use Prim.Native.Nat.{ℕ, zero, suc, _+_, _-_, _%_, _<_, _≤_}
+use Prim.Native.Nat.{ℕ, zero, suc, _+_, _%_, _<_, _≤_}
 use mathlib.Core.Path.{_≡_, refl, sym, ap, _∙_}
 use mathlib.Core.Bool.{Bool, true, false, cond, not, _&&_}
 use mathlib.Core.List.{List, [], _∷_, _++_, map}
@@ -10,8 +10,8 @@ use native.Mathlib.Omega.{arith}
 use borrow.Author.Tests.{ltb-true, ltb-false, leb-false, le-leb, lt-leb}
 use lib.Dec.{T, eqb, leb, ltb, eqb·suc-zero}
 use lib.ListN.{length, getD, List·getD-eq-default, List·getD-map}
-use Rattle.words.specs.Tables.{table}
-use Rattle.words.proofs.Tables.{length-table, getD-table}
+use Rattle.words.specs.Tables.{table, upTo}
+use Rattle.words.proofs.Tables.{length-table, getD-table, up-past, getD-fill}
 use Rattle.switch.specs.Conduction.{between}
 use Rattle.switch.specs.Modules.{ModuleType, allOf, inRange, typeInRange, edgeInRange}
 use Rattle.switch.specs.Deciding.{isComplementary}
@@ -94,6 +94,14 @@ type-at types d m h =
     ∙ ap (getD (map typeRecord types) m) (sym no-type-record)
     ∙ List·getD-map typeRecord types m noType
 
+-- from a place on a column holds 0, also past its end
+past : (m : ℕ) (f : ℕ → ℕ) (n i : ℕ) → n ≤ i → getD (table m (upTo n f)) i 0 ≡ 0
+past m f n i h = go (decLt i m)
+  where
+    go : Dec (i < m) → getD (table m (upTo n f)) i 0 ≡ 0
+    go (yes q) = getD-table m (upTo n f) 0 i q ∙ up-past n f i h
+    go (no q) = List·getD-eq-default (table m (upTo n f)) 0 {n = i} (omega (arith, length-table m (upTo n f)))
+
 -- what the code's columns and sums tell of types and bridges
 pub record ShapesAndLists (types : List ModuleType) (bridges : List Listed) (typeCount : ℕ) (nodes labels : List ℕ) (lists : Lists) : Type 0 where
   pub counted : typeCount ≡ length types
@@ -105,27 +113,30 @@ pub record ShapesAndLists (types : List ModuleType) (bridges : List Listed) (typ
 
 module _ {types : List ModuleType} {bridges : List Listed} {typeCount : ℕ} {all : List TypeRecord} {lists : Lists}
     (held : TypesAndLists types bridges typeCount all lists) where
+  -- what the places hold of the types
+  abbrev column : (TypeRecord → ℕ) → ℕ → ℕ
+  column shown m = shown (getD all m unusedType)
+
   -- what a column holds of a number is that of the type with it
   shape-of : (shown : TypeRecord → ℕ) (of : ModuleType → ℕ) → ((t : ModuleType) → shown (typeRecord t) ≡ of t) → of noType ≡ 0
-      → (n : ℕ) → numbered (table mostTypes (λ (m : ℕ). shown (getD all m unusedType))) n 0 ≡ of (numbered types n noType)
+      → (n : ℕ) → numbered (table mostTypes (upTo typeCount (column shown))) n 0 ≡ of (numbered types n noType)
   unfolding numbered
   shape-of shown of same none zero = sym none
-  shape-of shown of same none (suc m) = go (decLt m 16)
+  shape-of shown of same none (suc m) = go (decLt m typeCount)
     where
-      go : Dec (m < 16) → getD (table 16 (λ (i : ℕ). shown (getD all i unusedType))) m 0 ≡ of (getD types m noType)
+      go : Dec (m < typeCount) → getD (table 16 (upTo typeCount (column shown))) m 0 ≡ of (getD types m noType)
       go (yes h) =
-          getD-table 16 (λ (i : ℕ). shown (getD all i unusedType)) 0 m h
+          let few : typeCount ≤ 16 = omega (arith, held .within, held .counted) in
+          getD-fill 16 (column shown) typeCount m h few
           ∙ ap (λ (l : List TypeRecord). shown (getD l m unusedType)) (held .is)
-          ∙ ap shown (type-at types unusedType m h)
+          ∙ ap shown (type-at types unusedType m (omega arith))
           ∙ same (getD types m noType)
       go (no h) =
-          let few = held .within in
-          let long = length-table 16 (λ (i : ℕ). shown (getD all i unusedType)) in
-          List·getD-eq-default (table 16 (λ (i : ℕ). shown (getD all i unusedType))) 0 {n = m} (omega arith)
+          past 16 (column shown) typeCount m (omega arith)
           ∙ sym none
-          ∙ ap of (sym (List·getD-eq-default types noType {n = m} (omega arith)))
+          ∙ ap of (sym (List·getD-eq-default types noType {n = m} (omega (arith, held .counted))))
 
-  pub shapes-told : (s : Shapes) → s ≡ shapesOf all → ShapesAndLists types bridges typeCount (s .nodes) (s .labels) lists
+  pub shapes-told : (s : Shapes) → s ≡ shapesOf all typeCount → ShapesAndLists types bridges typeCount (s .nodes) (s .labels) lists
   unfolding typeRecord
   shapes-told s e = rw e record {
     counted = held .counted;

@@ -5,7 +5,7 @@ use mathlib.Core.Bool.{not, _&&_}
 use mathlib.Core.List.{List, [], _∷_, map}
 use lib.Dec.{T, leb, ltb, eqb}
 use lib.ListN.{length, getD}
-use Rattle.words.specs.Tables.{table}
+use Rattle.words.specs.Tables.{table, upTo}
 use Rattle.switch.specs.Conduction.{between}
 use Rattle.switch.specs.Modules.{ModuleType, allOf}
 use Rattle.switch.specs.declared.ModuleType.{ModuleType as TypeRecord}
@@ -26,11 +26,11 @@ use Rattle.modules.specs.ReadTypes.{goodType}
 use Rattle.instances.specs.ReadBridges.{listedInRange}
 use Rattle.instances.specs.ListSums.{listsOf}
 
--- of each place for types, the highest node and the number of labels
-abbrev pub shapesOf : List TypeRecord → Shapes
-shapesOf all = record {
-  nodes = table mostTypes (λ (m : ℕ). getD all m unusedType .highest);
-  labels = table mostTypes (λ (m : ℕ). getD all m unusedType .labels);
+-- of each of the first n places for types, the highest node and the number of labels; 0 in the others
+abbrev pub shapesOf : List TypeRecord → ℕ → Shapes
+shapesOf all n = record {
+  nodes = table mostTypes (upTo n (λ (m : ℕ). getD all m unusedType .highest));
+  labels = table mostTypes (upTo n (λ (m : ℕ). getD all m unusedType .labels));
 }
 
 -- the tests of an instance field, from what the code has gathered

@@ -174,7 +174,7 @@ pub fn read_instances(
     requires { ⌜ HeldTo «type_count» types lists ⌝ }
     ensures { λ r. ⌜ ((ts : List TypeMeant) (bs : List Listed) → TypesAndLists ts bs «type_count» types lists → InstancesRead (now (file .entry)) from inputs ts bs r) ⌝ }
 {
-    let shapes = shapes_of(types);
+    let shapes = shapes_of(types, type_count);
     let nodes = shapes.nodes;
     let labels = shapes.labels;
     let mut all = [no_instance(); MOST_INSTANCES];

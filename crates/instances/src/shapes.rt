@@ -2,6 +2,8 @@
 use circuit::limits::MOST_TYPES;
 use switch::ModuleType;
 ghost use mathlib.Core.Path.{_≡_};
+ghost use Prim.Native.Nat.{_≤_};
+ghost use Rattle.circuit.specs.Limits.{mostTypes};
 ghost use Rattle.circuit.specs.Circuit.{numbered};
 ghost use Rattle.instances.specs.ReadInstances.{shapesOf};
 
@@ -10,13 +12,14 @@ pub struct Shapes {
     pub labels: [u8; MOST_TYPES],
 }
 
-pub fn shapes_of(types: [ModuleType; MOST_TYPES]) -> Shapes
-    ensures { λ r. ⌜ r ≡ shapesOf types ⌝ }
+pub fn shapes_of(types: [ModuleType; MOST_TYPES], count: usize) -> Shapes
+    requires { ⌜ count ≤ mostTypes ⌝ }
+    ensures { λ r. ⌜ r ≡ shapesOf types count ⌝ }
 {
     let mut nodes = [0u8; MOST_TYPES];
     let mut labels = [0u8; MOST_TYPES];
     let mut i: usize = 0;
-    while i < MOST_TYPES {
+    while i < count {
         let t = types[i];
         nodes[i] = t.highest;
         labels[i] = t.labels;

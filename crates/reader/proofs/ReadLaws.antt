@@ -1,5 +1,5 @@
--- The laws of reading as a whole: what the code's answer is where a stage refuses, and where all stages and the ending pass;
--- how the file begins; and the range of the number of inputs.
+-- The laws of reading as a whole: the empty circuit; the stages one after the other, of which the first verdict that refuses counts, and the answer
+-- put together from them; how the file begins; and the range of the number of inputs.
 use Prim.Native.Nat.{ℕ, _+_, _<_, _≤_}
 use mathlib.Core.Path.{_≡_, refl, sym, ap, _∙_}
 use mathlib.Core.Bool.{Bool, true, false, cond, not, _&&_}
@@ -16,16 +16,16 @@ use Rattle.circuit.specs.Fields.{Cut, clean, broken, field, cutFrom, twoBytes}
 use Rattle.circuit.specs.Circuit.{Circuit, Instance, Listed, faultCount}
 use Rattle.circuit.specs.Known.{tagOf}
 use Rattle.circuit.specs.Table.{Verdict, passes, refused, firstOf, test, isUnknown, inputsTests}
-use Rattle.circuit.specs.Reading.{Reading, accepted, refusal, unless}
+use Rattle.circuit.specs.Reading.{Reading, accepted, refusal, unless, readingOf}
 use Rattle.circuit.specs.Records.{unusedType, unusedBridge, unusedInstance, unusedVector, circuitRecord, emptyCircuit}
-use Rattle.circuit.specs.Answers.{verdictOf, numberOf, placeOf, numberedVerdict, isRefused, Answers}
+use Rattle.circuit.specs.Answers.{verdictOf, isRefused, orIf, Tells, Answers}
 use Rattle.circuit.specs.Stages.{bodyOf, fieldIn, FieldAt, NextIs, Stage, bridgeStage, instanceStage, vectorStage, endedVerdict, pastVerdict, endingVerdict, afterStage, afterInputs, fromStart, staged, stageOf}
 use Rattle.modules.specs.ReadTypes.{TypesRead}
 use Rattle.instances.specs.ReadBridges.{BridgesRead}
 use Rattle.instances.specs.ListSums.{SummedTo}
 use Rattle.instances.specs.ReadInstances.{TypesAndLists, InstancesRead}
 use Rattle.reader.specs.ReadVectors.{VectorsRead}
-use Rattle.reader.specs.Whole.{wholeOf}
+use Rattle.reader.specs.Whole.{StartRead, wholeOf}
 use Rattle.switch.specs.declared.ModuleType.{ModuleType as TypeRecord}
 use Rattle.circuit.specs.declared.Bridge.{Bridge as BridgeRecord}
 use Rattle.circuit.specs.declared.Instance.{Instance as InstanceRecord}
@@ -39,9 +39,10 @@ use Rattle.modules.specs.declared.types.Types.{Types}
 use Rattle.instances.specs.declared.bridges.Bridges.{Bridges}
 use Rattle.instances.specs.declared.lists.Lists.{Lists}
 use Rattle.instances.specs.declared.instances.Instances.{Instances}
+use Rattle.reader.specs.declared.read.Start.{Start}
 use Rattle.reader.specs.declared.vectors.Vectors.{Vectors}
 use Rattle.circuit.proofs.Padding.{padded-nil}
-use Rattle.circuit.proofs.Verdicts.{passes-is, first-passes}
+use Rattle.circuit.proofs.Verdicts.{first-passes}
 
 -- ---- the empty circuit
 
@@ -85,42 +86,37 @@ module _ (t : TypeRecord) (b : BridgeRecord) (i : InstanceRecord) (v : VectorRec
           → ts ≡ ts′ → bs ≡ bs′ → is ≡ is′ → vs ≡ vs′ → made ts bs is vs ≡ made ts′ bs′ is′ vs′
       go e₁ e₂ e₃ e₄ = cc
 
--- ---- the answer of a refusal
+-- ---- one verdict after the other
 
 -- what follows a verdict that refuses does not count
-pub unless-refused : (v : Verdict) (x y : Reading) → isRefused v ≡ true → unless v x ≡ unless v y
+unless-refused : (v : Verdict) (x y : Reading) → isRefused v ≡ true → unless v x ≡ unless v y
 unfolding isRefused unless
 unless-refused passes x y e = cc
 unless-refused (refused n p) x y e = refl
 
-pub unless-passes : (v : Verdict) (x : Reading) → isRefused v ≡ false → unless v x ≡ x
-unfolding isRefused unless
-unless-passes passes x e = refl
-unless-passes (refused n p) x e = cc
+unless-both : (v w : Verdict) (x : Reading) → unless v (unless w x) ≡ unless (orIf v true w) x
+unfolding unless orIf
+unless-both passes w x = refl
+unless-both (refused n p) w x = refl
 
-refused-answer : (v : Verdict) (r : Refusal) → verdictOf r ≡ v → isRefused v ≡ true
-    → Answers (unless v (accepted emptyCircuit)) (record { refusal = r; circuit = circuitRecord emptyCircuit })
-unfolding isRefused unless Answers
-refused-answer passes r same e = let z : _≡_ {A = ℕ} 0 1 = cc in absurd (omega arith)
-refused-answer (refused n p) r same e = (same, refl)
+-- a stage gives its verdict, and where it passes reading goes on from what it has gathered
+stage-is : {A : Type 0} (v : Verdict) (a : A) (cut : Cut) (next : A → Cut → Reading) → afterStage (stageOf v a cut) next ≡ unless v (next a cut)
+unfolding stageOf afterStage unless
+stage-is passes a cut next = refl
+stage-is (refused n p) a cut next = refl
 
--- the answer of a refusal beside an empty circuit
-pub answers-refused : (reading : Reading) (r : Refusal) (answer : ReadingRecord) → reading ≡ unless (verdictOf r) (accepted emptyCircuit)
-    → isRefused (verdictOf r) ≡ true → answer ≡ record { refusal = r; circuit = circuitRecord emptyCircuit } → Answers reading answer
-answers-refused reading r answer is e made = rw (is, made) (refused-answer (verdictOf r) r refl e)
+-- a reading that has come to a stage goes on behind it, with the first verdict so far that refuses
+behind : {A : Type 0} {reading : Reading} {stage : Stage A} (next : A → Cut → Reading) (w v u : Verdict) (a : A) (cut : Cut)
+    → reading ≡ unless w (afterStage stage next) → stage ≡ stageOf v a cut → u ≡ orIf w true v → reading ≡ unless u (next a cut)
+behind {A} next w v u a cut come is first =
+    come ∙ ap (unless w) (ap (λ (s : Stage A). afterStage s next) is ∙ stage-is v a cut next) ∙ unless-both w v (next a cut)
+    ∙ ap (λ (x : Verdict). unless x (next a cut)) (sym first)
 
--- ---- a stage, by the verdict that it ended with
-
-module _ {A : Type 0} (stage : Stage A) (next : A → Cut → Reading) where
-  fails : (v : Verdict) (a : A) (cut : Cut) → stage ≡ stageOf v a cut → isRefused v ≡ true → afterStage stage next ≡ unless v (accepted emptyCircuit)
-  unfolding isRefused stageOf afterStage unless
-  fails passes a cut is e = cc
-  fails (refused n p) a cut is e = rw is
-
-  goes-on : (v : Verdict) (a : A) (cut : Cut) → stage ≡ stageOf v a cut → isRefused v ≡ false → afterStage stage next ≡ next a cut
-  unfolding isRefused stageOf afterStage
-  goes-on passes a cut is e = rw is
-  goes-on (refused n p) a cut is e = cc
+-- an answer with this verdict, beside the circuit that counts where it passes
+told : (c : Circuit) (v : Verdict) (r : ReadingRecord) → verdictOf (r .refusal) ≡ v → r .circuit ≡ circuitRecord c → Tells (unless v (accepted c)) r
+unfolding unless Tells
+told c passes r same is = (same, is)
+told c (refused n p) r same is = same
 
 -- ---- the stages one after the other, with P inputs in a file of this size
 
@@ -138,92 +134,77 @@ thenInstances size P types bridges cut = afterStage (instanceStage P types bridg
 abbrev thenBridges : ℕ → ℕ → List ModuleType → Cut → Reading
 thenBridges size P types cut = afterStage (bridgeStage [] cut) (thenInstances size P types)
 
-module _ {file : List ℕ} {from : ℕ} (P : ℕ) {t : Types} (types : TypesRead file from t) where
-  abbrev size : ℕ
-  size = length file
+-- the types and lists that the instances are held to
+pub held-to : {file : List ℕ} {from : ℕ} {t : Types} {b : Bridges} (types : TypesRead file from t) (bridges : BridgesRead file (t .at) b) (lists : Lists)
+    → SummedTo (b .all) (b .count) lists → TypesAndLists (types .types) (bridges .bridges) (t .count) (t .all) lists
+held-to types bridges lists summed = record {
+  within = types .within;
+  counted = types .count;
+  is = types .all;
+  good = types .good;
+  few = bridges .within;
+  summed = summed (bridges .bridges) (bridges .count) (bridges .within) (bridges .ranges) (bridges .all);
+  ranges = bridges .ranges;
+}
 
-  abbrev whole : Reading
-  whole = afterInputs size P (cutFrom file from)
+module _ {file : List ℕ} {s : Start} (start : StartRead file s)
+    {t : Types} (types : TypesRead file (s .at) t)
+    {b : Bridges} (bridges : BridgesRead file (t .at) b)
+    {i : Instances} (instances : InstancesRead file (b .at) (s .inputs) (types .types) (bridges .bridges) i)
+    {v : Vectors} (vectors : VectorsRead file (i .at) (s .inputs) v)
+    (last : Refusal) (end : verdictOf last ≡ endingVerdict (length file) (i .count) (v .count) (cutFrom file (v .at))) where
+  -- the circuit that was read
+  abbrev circuit : Circuit
+  circuit = record {
+    inputs = s .inputs;
+    types = types .types;
+    bridges = bridges .bridges;
+    instances = instances .instances;
+    vectors = vectors .vectors;
+  }
 
-  pub types-fail : isRefused (verdictOf (t .refusal)) ≡ true → whole ≡ unless (verdictOf (t .refusal)) (accepted emptyCircuit)
-  unfolding afterInputs
-  types-fail e = fails _ (thenBridges size P) _ _ _ (types .stage) e
+  -- where each of these refusals is the first so far
+  pub stages-tell : (r₁ r₂ r₃ r₄ r : Refusal)
+      → verdictOf r₁ ≡ orIf (verdictOf (s .refusal)) true (verdictOf (t .refusal))
+      → verdictOf r₂ ≡ orIf (verdictOf r₁) true (verdictOf (b .refusal))
+      → verdictOf r₃ ≡ orIf (verdictOf r₂) true (verdictOf (i .refusal))
+      → verdictOf r₄ ≡ orIf (verdictOf r₃) true (verdictOf (v .refusal))
+      → verdictOf r ≡ orIf (verdictOf r₄) true (verdictOf last)
+      → Tells (readingOf file) (wholeOf r (s .inputs) t b i v)
+  unfolding afterInputs circuitRecord
+  stages-tell r₁ r₂ r₃ r₄ r e₁ e₂ e₃ e₄ e =
+      let size = length file in
+      let P = s .inputs in
+      let at-bridges = behind (thenBridges size P) _ _ _ _ _ (start .reads) (types .stage) e₁ in
+      let at-instances = behind (thenInstances size P (types .types)) _ _ _ _ _ at-bridges (bridges .stage) e₂ in
+      let at-vectors = behind (thenVectors size P (types .types) (bridges .bridges)) _ _ _ _ _ at-instances (instances .stage) e₃ in
+      let at-end = behind (thenEnding size P (types .types) (bridges .bridges) (instances .instances)) _ _ _ _ _ at-vectors (vectors .stage) e₄ in
+      let ended = rw (instances .count, vectors .count) at end in
+      rw (at-end, ← ended, unless-both (verdictOf r₄) (verdictOf last) (accepted circuit), ← e)
+      (told circuit (verdictOf r) (wholeOf r P t b i v) refl (cc (
+        types .count,
+        types .all,
+        bridges .count,
+        bridges .all,
+        instances .count,
+        instances .all,
+        instances .faults,
+        vectors .count,
+        vectors .all,
+      )))
 
-  module _ (t-passes : isRefused (verdictOf (t .refusal)) ≡ false) {b : Bridges} (bridges : BridgesRead file (t .at) b) where
-    at-bridges : whole ≡ thenBridges size P (types .types) (cutFrom file (t .at))
-    unfolding afterInputs
-    at-bridges = goes-on _ (thenBridges size P) _ _ _ (types .stage) t-passes
+-- ---- from what is told to the whole answer
 
-    pub bridges-fail : isRefused (verdictOf (b .refusal)) ≡ true → whole ≡ unless (verdictOf (b .refusal)) (accepted emptyCircuit)
-    bridges-fail e = at-bridges ∙ fails _ (thenInstances size P (types .types)) _ _ _ (bridges .stage) e
+pub told-refused : (reading : Reading) (r : ReadingRecord) → Tells reading r → isRefused (verdictOf (r .refusal)) ≡ true
+    → Answers reading (record { refusal = r .refusal; circuit = circuitRecord emptyCircuit })
+unfolding Tells Answers isRefused
+told-refused (accepted c) r tells e = (tells .0, cc (e, ap isRefused (tells .0)))
+told-refused (refusal n p) r tells e = (tells, refl)
 
-    -- the types and lists that the instances are held to
-    pub held-to : (lists : Lists) → SummedTo (b .all) (b .count) lists → TypesAndLists (types .types) (bridges .bridges) (t .count) (t .all) lists
-    held-to lists summed = record {
-      within = types .within;
-      counted = types .count;
-      is = types .all;
-      good = types .good;
-      few = bridges .within;
-      summed = summed (bridges .bridges) (bridges .count) (bridges .within) (bridges .ranges) (bridges .all);
-      ranges = bridges .ranges;
-    }
-
-    module _ (b-passes : isRefused (verdictOf (b .refusal)) ≡ false) {i : Instances}
-        (instances : InstancesRead file (b .at) P (types .types) (bridges .bridges) i) where
-      at-instances : whole ≡ thenInstances size P (types .types) (bridges .bridges) (cutFrom file (b .at))
-      at-instances = at-bridges ∙ goes-on _ (thenInstances size P (types .types)) _ _ _ (bridges .stage) b-passes
-
-      pub instances-fail : isRefused (verdictOf (i .refusal)) ≡ true → whole ≡ unless (verdictOf (i .refusal)) (accepted emptyCircuit)
-      instances-fail e = at-instances ∙ fails _ (thenVectors size P (types .types) (bridges .bridges)) _ _ _ (instances .stage) e
-
-      module _ (i-passes : isRefused (verdictOf (i .refusal)) ≡ false) {v : Vectors} (vectors : VectorsRead file (i .at) P v) where
-        at-vectors : whole ≡ thenVectors size P (types .types) (bridges .bridges) (instances .instances) (cutFrom file (i .at))
-        at-vectors = at-instances ∙ goes-on _ (thenVectors size P (types .types) (bridges .bridges)) _ _ _ (instances .stage) i-passes
-
-        abbrev last : List (List Value) → Cut → Reading
-        last = thenEnding size P (types .types) (bridges .bridges) (instances .instances)
-
-        pub vectors-fail : isRefused (verdictOf (v .refusal)) ≡ true → whole ≡ unless (verdictOf (v .refusal)) (accepted emptyCircuit)
-        vectors-fail e = at-vectors ∙ fails _ last _ _ _ (vectors .stage) e
-
-        module _ (v-passes : isRefused (verdictOf (v .refusal)) ≡ false) (r : Refusal)
-            (end : verdictOf r ≡ endingVerdict size (i .count) (v .count) (cutFrom file (v .at))) where
-          -- the circuit that was read
-          abbrev circuit : Circuit
-          circuit = record {
-            inputs = P;
-            types = types .types;
-            bridges = bridges .bridges;
-            instances = instances .instances;
-            vectors = vectors .vectors;
-          }
-
-          at-ending : whole ≡ unless (verdictOf r) (accepted circuit)
-          at-ending =
-              at-vectors ∙ goes-on _ last _ _ _ (vectors .stage) v-passes
-              ∙ ap (λ (w : Verdict). unless w (accepted circuit)) (sym (end ∙ cc (instances .count, vectors .count)))
-
-          pub ending-fails : isRefused (verdictOf r) ≡ true → whole ≡ unless (verdictOf r) (accepted emptyCircuit)
-          ending-fails e = at-ending ∙ unless-refused (verdictOf r) (accepted circuit) (accepted emptyCircuit) e
-
-          pub all-pass : isRefused (verdictOf r) ≡ false → Answers whole (wholeOf P t b i v)
-          unfolding unless Answers verdictOf numberOf placeOf numberedVerdict circuitRecord
-          all-pass e =
-              rw (at-ending, passes-is (verdictOf r) e) (
-                refl,
-                cc (
-                  types .count,
-                  types .all,
-                  bridges .count,
-                  bridges .all,
-                  instances .count,
-                  instances .all,
-                  instances .faults,
-                  vectors .count,
-                  vectors .all,
-                ),
-              )
+pub told-accepted : (reading : Reading) (r : ReadingRecord) → Tells reading r → isRefused (verdictOf (r .refusal)) ≡ false → Answers reading r
+unfolding Tells Answers isRefused
+told-accepted (accepted c) r tells e = tells
+told-accepted (refusal n p) r tells e = (tells, cc (e, ap isRefused tells))
 
 -- ---- how a file begins
 
@@ -253,6 +234,12 @@ start-refused size (field f rest) = go (isUnknown (tagOf (f .tag)))
     go : (b : Bool) → isRefused (cond b (refused 3 (f .at)) (refused 4 (f .at))) ≡ true
     go true = refl
     go false = refl
+
+-- what the code says of a file that is refused there
+pub refused-start : (file : List ℕ) (x : Reading) (r : Refusal) (s : Start) → readingOf file ≡ unless (verdictOf r) x
+    → isRefused (verdictOf r) ≡ true → s ≡ record { refusal = r; at = length file; inputs = 0 } → StartRead file s
+refused-start file x r s is e made =
+    rw made record { reads = is ∙ unless-refused (verdictOf r) x _ e; place = omega arith; few = omega arith }
 
 pub staged-short : (file : List ℕ) → length file ≤ mostBytes → staged file ≡ fromStart (length file) (cutFrom file 0)
 unfolding staged

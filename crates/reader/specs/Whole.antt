@@ -1,15 +1,29 @@
--- The answer of reading where no stage refuses, put together from what the stages have read.
-use Prim.Native.Nat.{ℕ}
+-- How a file begins, and the answer of reading put together from what the stages have read.
+use Prim.Native.Nat.{ℕ, _≤_}
+use mathlib.Core.Path.{_≡_}
+use mathlib.Core.List.{List}
+use lib.ListN.{length}
+use Rattle.circuit.specs.Fields.{cutFrom}
+use Rattle.circuit.specs.Reading.{readingOf, unless}
+use Rattle.circuit.specs.Answers.{verdictOf}
+use Rattle.circuit.specs.Stages.{afterInputs}
 use Rattle.circuit.specs.declared.Reading.{Reading as ReadingRecord}
-use Rattle.circuit.specs.declared.refusal.Refusal.the-variants.{Nothing}
+use Rattle.circuit.specs.declared.refusal.Refusal.{Refusal}
 use Rattle.modules.specs.declared.types.Types.{Types}
 use Rattle.instances.specs.declared.bridges.Bridges.{Bridges}
 use Rattle.instances.specs.declared.instances.Instances.{Instances}
+use Rattle.reader.specs.declared.read.Start.{Start}
 use Rattle.reader.specs.declared.vectors.Vectors.{Vectors}
 
-abbrev pub wholeOf : ℕ → Types → Bridges → Instances → Vectors → ReadingRecord
-wholeOf P t b i v = record {
-  refusal = Nothing;
+-- the start of a file: it is refused there, or it reads as the rest does with this many inputs
+pub record StartRead (file : List ℕ) (r : Start) : Type 0 where
+  pub reads : readingOf file ≡ unless (verdictOf (r .refusal)) (afterInputs (length file) (r .inputs) (cutFrom file (r .at)))
+  pub place : r .at ≤ length file
+  pub few : r .inputs ≤ 64
+
+abbrev pub wholeOf : Refusal → ℕ → Types → Bridges → Instances → Vectors → ReadingRecord
+wholeOf why P t b i v = record {
+  refusal = why;
   circuit = record {
     inputs = P;
     «type_count» = t .count;

@@ -30,13 +30,12 @@ use modules::types::read_types;
 ghost use mathlib.Core.Path.{_≡_};
 ghost use Prim.Native.Nat.{_+_, _≤_};
 ghost use lib.ListN.{length};
-ghost use Rattle.circuit.specs.Fields.{cutFrom};
 ghost use Rattle.circuit.specs.Table.{firstOf, inputsTests};
 ghost use Rattle.circuit.specs.Reading.{readingOf};
 ghost use Rattle.circuit.specs.Records.{circuitRecord, emptyCircuit};
-ghost use Rattle.circuit.specs.Answers.{verdictOf, Answers};
-ghost use Rattle.circuit.specs.Stages.{bodyOf, afterInputs};
-ghost use Rattle.reader.specs.Whole.{wholeOf};
+ghost use Rattle.circuit.specs.Answers.{verdictOf, Tells, Answers};
+ghost use Rattle.circuit.specs.Stages.{bodyOf};
+ghost use Rattle.reader.specs.Whole.{StartRead, wholeOf};
 
 // The circuit with nothing in it.
 fn empty_circuit() -> Circuit
@@ -76,15 +75,16 @@ fn inputs_verdict(file: &[u8], f: Field) -> Refusal
     or_if(v, inputs < 1 || 64 < inputs, Refusal::OutOfRange(f.at))
 }
 
-// The circuit of the four stages, none of which refused.
+// The answer put together from the refusal that counts and what the stages have read.
 fn whole(
+    refusal: Refusal,
     inputs: usize,
     types: Types,
     bridges: Bridges,
     instances: Instances,
     vectors: Vectors,
 ) -> Reading
-    ensures { λ r. ⌜ r ≡ wholeOf inputs types bridges instances vectors ⌝ }
+    ensures { λ r. ⌜ r ≡ wholeOf refusal inputs types bridges instances vectors ⌝ }
 {
     let all_types = types.all;
     let all_bridges = bridges.all;
@@ -102,61 +102,83 @@ fn whole(
         vector_count: vectors.count,
         vectors: all_vectors,
     };
-    Reading {
-        refusal: Refusal::Nothing,
-        circuit,
+    Reading { refusal, circuit }
+}
+
+// The number of inputs, and where reading goes on.
+struct Start {
+    refusal: Refusal,
+    at: usize,
+    inputs: usize,
+}
+
+// What is read of a file that is refused before its second field: nothing, as at its end.
+fn refused_at_start(file: &[u8], refusal: Refusal) -> Start
+    ensures { λ r. ⌜ r ≡ record { refusal = refusal; at = length (now (file .entry)); inputs = 0 } ⌝ }
+{
+    Start {
+        refusal,
+        at: file.len(),
+        inputs: 0,
     }
 }
 
-// The file from its second field on, with this many inputs.
-fn read_after(file: &[u8], from: usize, inputs: usize) -> Reading
-    requires { ⌜ from ≤ length (now file) ⌝ }
-    requires { ⌜ inputs ≤ 64 ⌝ }
-    ensures { λ r. ⌜ Answers (afterInputs (length (now (file .entry))) inputs (cutFrom (now (file .entry)) from)) r ⌝ }
+fn read_start(file: &[u8]) -> Start
+    ensures { λ r. ⌜ StartRead (now (file .entry)) r ⌝ }
 {
-    let types = read_types(file, from);
-    let refusal = types.refusal;
-    if refuses(refusal) {
-        return refused(refusal);
+    if MOST_BYTES < file.len() {
+        return refused_at_start(file, Refusal::TooLong);
     }
+    let Next::Found(f) = field_of(file, 0, 1) else {
+        return refused_at_start(file, ending(file, 0, 0, 0));
+    };
+    let refusal = inputs_verdict(file, f);
+    if refuses(refusal) {
+        return refused_at_start(file, refusal);
+    }
+    Start {
+        refusal,
+        at: f.body + f.len,
+        inputs: two_bytes(file, f, 0),
+    }
+}
+
+// Any bytes at all, for a caller that uses the circuit only where nothing is refused.
+// A stage after one that refuses finds no field of its own and reads nothing. With ways out before the end the compiler would keep more places for the circuit.
+pub fn read_stages(file: &[u8]) -> Reading
+    ensures { λ r. ⌜ Tells (readingOf (now (file .entry))) r ⌝ }
+{
+    let start = read_start(file);
+    let types = read_types(file, start.at);
     let bridges = read_bridges(file, types.at);
-    let refusal = bridges.refusal;
-    if refuses(refusal) {
-        return refused(refusal);
-    }
     let all_types = types.all;
     let all_bridges = bridges.all;
     let lists = lists_of(all_bridges, bridges.count);
+    let inputs = start.inputs;
     let instances = read_instances(file, bridges.at, inputs, types.count, all_types, lists);
-    let refusal = instances.refusal;
-    if refuses(refusal) {
-        return refused(refusal);
-    }
     let vectors = read_vectors(file, instances.at, inputs);
-    let refusal = vectors.refusal;
-    if refuses(refusal) {
-        return refused(refusal);
-    }
-    let refusal = ending(file, vectors.at, instances.count, vectors.count);
-    if refuses(refusal) {
-        return refused(refusal);
-    }
-    whole(inputs, types, bridges, instances, vectors)
+    let last = ending(file, vectors.at, instances.count, vectors.count);
+    let at_start = start.refusal;
+    let in_types = types.refusal;
+    let in_bridges = bridges.refusal;
+    let in_instances = instances.refusal;
+    let in_vectors = vectors.refusal;
+    let refusal = or_if(at_start, true, in_types);
+    let refusal = or_if(refusal, true, in_bridges);
+    let refusal = or_if(refusal, true, in_instances);
+    let refusal = or_if(refusal, true, in_vectors);
+    let refusal = or_if(refusal, true, last);
+    whole(refusal, inputs, types, bridges, instances, vectors)
 }
 
 // Any bytes at all: the circuit that they tell, or the refusal.
 pub fn read(file: &[u8]) -> Reading
     ensures { λ r. ⌜ Answers (readingOf (now (file .entry))) r ⌝ }
 {
-    if MOST_BYTES < file.len() {
-        return refused(Refusal::TooLong);
-    }
-    let Next::Found(f) = field_of(file, 0, 1) else {
-        return refused(ending(file, 0, 0, 0));
-    };
-    let refusal = inputs_verdict(file, f);
+    let reading = read_stages(file);
+    let refusal = reading.refusal;
     if refuses(refusal) {
         return refused(refusal);
     }
-    read_after(file, f.body + f.len, two_bytes(file, f, 0))
+    reading
 }

@@ -5,8 +5,8 @@ use borrow.Author.Needs.{needs}
 use Rattle.grade.proofs.grade_file.Statement.{statement}
 use Rattle.grade.proofs.grade_file.Tie as tie
 
-read-requires : tie.Need-read-requires
-read-requires c κs = search needs
+read-stages-requires : tie.Need-read-stages-requires
+read-stages-requires c κs = search needs
 
 grade-read-requires : tie.Need-grade-read-requires
 grade-read-requires c κs = search needs
@@ -42,7 +42,7 @@ row-lines-requires : tie.Need-row-lines-requires
 row-lines-requires c κs =
     let told = c .before .before .before .before .before .before .before .before .before in
     let graded = told .before .before .before .before .before .before in
-    let read = graded .before .before .before .read in
+    let read = graded .before .before .before .read-stages in
     let pre = graded .before .before .before .before .before .before .before .before .pre in (
       search needs,
       (
@@ -70,7 +70,7 @@ pub grade-file-spec : {M : Type 1} → statement M
 grade-file-spec =
     tie.close
     (tie.spec
-    read-requires
+    read-stages-requires
     grade-read-requires
     enum-known-answer
     number-of-requires

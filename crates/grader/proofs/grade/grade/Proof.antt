@@ -1,10 +1,10 @@
--- `grader::grade::grade` meets its contract: the file reads as `read` says. Assumes nothing.
+-- `grader::grade::grade` meets its contract: the reading tells what the file says. Assumes nothing.
 use borrow.Author.Needs.{needs}
 use Rattle.grader.proofs.grade.grade.Statement.{statement}
 use Rattle.grader.proofs.grade.grade.Tie as tie
 
-read-requires : tie.Need-read-requires
-read-requires c κs = search needs
+read-stages-requires : tie.Need-read-stages-requires
+read-stages-requires c κs = search needs
 
 grade-read-requires : tie.Need-grade-read-requires
 grade-read-requires c κs = search needs
@@ -18,8 +18,8 @@ same-length-2 c = search needs
 returns : tie.Need-returns
 returns c =
     let graded = c .before .before .before .before in
-    graded .grade-read .ensures _ (graded .before .before .before .read .ensures)
+    graded .grade-read .ensures _ (graded .before .before .before .read-stages .ensures)
 
 pub grade-spec : {M : Type 1} → statement M
 grade-spec =
-    tie.close (tie.spec read-requires grade-read-requires same-length same-length-2 returns)
+    tie.close (tie.spec read-stages-requires grade-read-requires same-length same-length-2 returns)

@@ -6,7 +6,7 @@ use mathlib.Core.List.{List}
 use native.Mathlib.Omega.{arith}
 use borrow.Author.Needs.{needs}
 use Rattle.circuit.specs.Reading.{readingOf}
-use Rattle.circuit.specs.Answers.{Answers}
+use Rattle.circuit.specs.Answers.{Tells}
 use Rattle.circuit.specs.declared.Reading.{Reading as ReadingRecord}
 use Rattle.grading.specs.Grading.{gradingOf}
 use Rattle.grading.proofs.RowLaws.{few-rows}
@@ -23,8 +23,8 @@ start c = c .before .before .before
 
 returns : tie.Need-returns
 unfolding gradingOf
-returns c = λ file answers.
-    refused-meets (readingOf file) (start (c .before) .args .reading) answers (sym (c .before .refuses .ensures) ∙ c .if1 .taken) _ _ _ _
+returns c = λ file tells.
+    refused-meets (readingOf file) (start (c .before) .args .reading) tells (sym (c .before .refuses .ensures) ∙ c .if1 .taken) _ _ _ _
 
 -- ---- where reading does not refuse
 
@@ -33,11 +33,11 @@ module _ (c : tie.After-c) where
   read = start (c .before .before) .args .reading
 
   -- whatever file reads so
-  here : (file : List ℕ) → Answers (readingOf file) read → Accepted file (read .circuit)
-  here file answers = accepted-here file read answers (sym (c .before .before .refuses .ensures) ∙ c .before .if1 .left)
+  here : (file : List ℕ) → Tells (readingOf file) read → Accepted file (read .circuit)
+  here file tells = accepted-here file read tells (sym (c .before .before .refuses .ensures) ∙ c .before .if1 .left)
 
   known : Accepted (start (c .before .before) .pre .file) (read .circuit)
-  known = here (start (c .before .before) .pre .file) (start (c .before .before) .pre .answers)
+  known = here (start (c .before .before) .pre .file) (start (c .before .before) .pre .tells)
 
   few : read .circuit .faults ≤ 2048
   few = omega (arith, faults-are (known .circuit) (read .circuit) (known .is), few-rows (known .circuit) (good-here _ _ known))
@@ -46,10 +46,10 @@ mul-words : tie.Need-mul-words
 mul-words c = omega (arith, few c)
 
 returns-2 : tie.Need-returns-2
-returns-2 c = λ file answers. short-matrix _ _ (here (c .before) file answers) _ _ (c .if2 .taken)
+returns-2 c = λ file tells. short-matrix _ _ (here (c .before) file tells) _ _ (c .if2 .taken)
 
 returns-3 : tie.Need-returns-3
-returns-3 c = λ file answers. short-classes _ _ (here (c .before .before) file answers) _ _ (c .before .if2 .left) (c .if3 .taken)
+returns-3 c = λ file tells. short-classes _ _ (here (c .before .before) file tells) _ _ (c .before .if2 .left) (c .if3 .taken)
 
 grade-circuit-requires : tie.Need-grade-circuit-requires
 grade-circuit-requires c κs =
@@ -63,10 +63,10 @@ same-length-2 : tie.Need-same-length-2
 same-length-2 c = search needs
 
 returns-4 : tie.Need-returns-4
-returns-4 c = λ file answers.
+returns-4 c = λ file tells.
     let graded = c .before .before .before .before in
     let past = graded .before .before .before in
-    let this = here (past .before .before) file answers in
+    let this = here (past .before .before) file tells in
     graded-meets _ _ this _ _ (past .before .if2 .left) (past .if3 .left) (graded .grade-circuit .result) _ _
     (graded .grade-circuit .ensures (this .circuit) (this .is) (good-here _ _ this))
 

@@ -30,7 +30,7 @@ abbrev μ-loop : tie.MeasureT-loop
 μ-loop file from inputs type-count lists nodes labels all₀ count₀ faults₀ at₀ all count faults at = length file - at
 
 shapes-of-requires : tie.Need-shapes-of-requires Inv-loop μ-loop
-shapes-of-requires c κs = search needs
+shapes-of-requires c κs = let held = c .before .pre .1 .1 .held in omega (arith, held .within, held .counted)
 
 no-instance-requires : tie.Need-no-instance-requires Inv-loop μ-loop
 no-instance-requires c κs = search needs

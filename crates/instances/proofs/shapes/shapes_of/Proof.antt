@@ -6,7 +6,7 @@ use native.Mathlib.Numerals.{add-one}
 use native.Mathlib.Omega.{arith}
 use lib.ListN.{length, getD}
 use Rattle.words.specs.Tables.{table, upTo}
-use Rattle.words.proofs.Tables.{fill-none, fill-more, table-cong, up-below}
+use Rattle.words.proofs.Tables.{fill-none, fill-more}
 use Rattle.switch.specs.declared.ModuleType.{ModuleType as TypeRecord}
 use Rattle.circuit.specs.Records.{unusedType}
 use Rattle.circuit.proofs.CircuitLaws.{getD-any}
@@ -24,14 +24,11 @@ abbrev labels-at : List TypeRecord → ℕ → ℕ
 labels-at types m = getD types m unusedType .labels
 
 abbrev Inv-loop : tie.InvT-loop
-Inv-loop types nodes₀ labels₀ i₀ nodes labels i =
-    (i ≤ 16) × ((nodes ≡ table 16 (upTo i (highest-at types))) × (labels ≡ table 16 (upTo i (labels-at types))))
+Inv-loop count types nodes₀ labels₀ i₀ nodes labels i =
+    (i ≤ count) × ((nodes ≡ table 16 (upTo i (highest-at types))) × (labels ≡ table 16 (upTo i (labels-at types))))
 
 abbrev μ-loop : tie.MeasureT-loop
-μ-loop types nodes₀ labels₀ i₀ nodes labels i = 16 - i
-
-filled : (f : ℕ → ℕ) → table 16 (upTo 16 f) ≡ table 16 f
-filled f = table-cong 16 (upTo 16 f) f (λ i h. up-below 16 f i h)
+μ-loop count types nodes₀ labels₀ i₀ nodes labels i = count - i
 
 loop-holds : tie.Need-loop-holds Inv-loop μ-loop
 loop-holds c = (omega arith, (fill-none 16 _, fill-none 16 _))
@@ -69,10 +66,9 @@ loop-again c =
 
 returns : tie.Need-returns Inv-loop μ-loop
 returns c =
-    let types : List TypeRecord = c .before .before .args .t1 in
     let turn = c .before .loop in
-    let all : turn .i ≡ 16 = omega arith in
-    cc (rw all at (turn .inv .1 .0), rw all at (turn .inv .1 .1), filled (highest-at types), filled (labels-at types))
+    let all : turn .i ≡ c .before .before .args .count = omega arith in
+    cc (rw all at (turn .inv .1 .0), rw all at (turn .inv .1 .1))
 
 pub shapes-of-spec : {M : Type 1} → statement M
 shapes-of-spec =

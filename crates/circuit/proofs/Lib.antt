@@ -3,16 +3,11 @@
 --   Examples                                        01's examples, computed
 --   the others                                      what the crates that read cite
 pub mod AnswerLaws
-pub mod Bodies
-mod Called
 pub mod CircuitLaws
-pub mod Cuts
 mod Examples
 pub mod FaultLaws
-pub mod Gathering
 pub mod Padding
 pub mod RangeLaws
-pub mod ReferenceLaws
 pub mod StageLaws
 pub mod TagLaws
 pub mod Tested

@@ -6,7 +6,6 @@
 --   Records, Answers                   the code's records and answers in those words; the promise of `read`
 --   Laws                               theorems on reading, each with its name
 --   Stages                             how the crates `modules`, `instances` and `reader` read, stage by stage
---   Steps                              the promise of the reader's step
 pub mod Limits
 pub mod Fields
 pub mod Circuit
@@ -18,4 +17,3 @@ pub mod Records
 pub mod Answers
 pub mod Laws
 pub mod Stages
-pub mod Steps

@@ -1,49 +1,19 @@
 -- How the code reads: types with their edges, then bridges, instances and vectors, a stage each, and then the ending.
 -- That this order of work gives what Reading says is proved in proofs/StageLaws.
-use Prim.Native.Nat.{ℕ, _+_, _<_, _≤_}
-use mathlib.Core.Path.{_≡_}
+use Prim.Native.Nat.{ℕ, _+_}
 use mathlib.Core.Bool.{cond, not, _&&_}
 use mathlib.Core.List.{List, [], _∷_, _++_}
 use lib.Dec.{eqb, ltb}
-use lib.ListN.{length, take, drop}
+use lib.ListN.{length}
 use Rattle.switch.specs.Conduction.{Value}
 use Rattle.switch.specs.Modules.{ModuleType}
 use Rattle.circuit.specs.Limits.{mostBytes}
-use Rattle.circuit.specs.Fields.{Field, Cut, clean, broken, field, cutFrom, twoBytes}
+use Rattle.circuit.specs.Fields.{Cut, clean, broken, field, cutFrom, twoBytes}
 use Rattle.circuit.specs.Circuit.{Instance, Listed, faultCount}
 use Rattle.circuit.specs.Known.{typeIn, edgeIn, listedIn, instanceIn, vectorIn, latest, withEdge, edgeAdded, tagOf}
 use Rattle.circuit.specs.Table.{Test, Verdict, passes, refused, firstOf, notComplementary, isEmpty, isUnknown, inputsTests, typeTests, edgeTests, bridgeTests, instanceTests, vectorTests}
 use Rattle.circuit.specs.Reading.{Reading, accepted, refusal, unless}
 use Rattle.circuit.specs.Records.{emptyCircuit}
-use Rattle.circuit.specs.declared.fields.Field.{Field as FieldRecord}
-use Rattle.circuit.specs.declared.fields.Step.{Step}
-use Rattle.circuit.specs.declared.fields.Step.the-variants.{Whole, Broken, End}
-use Rattle.circuit.specs.declared.fields.Next.{Next}
-use Rattle.circuit.specs.declared.fields.Next.the-variants.{Found, Other}
-
--- ---- steps over the file
-
-unfoldable pub bodyOf : List ℕ → FieldRecord → List ℕ
-bodyOf file f = take (f .len) (drop (f .body) file)
-
-unfoldable pub fieldIn : List ℕ → FieldRecord → Field
-fieldIn file f = record { at = f .at; tag = f .tag; body = bodyOf file f }
-
--- a whole field stands at an offset
-pub record FieldAt (file : List ℕ) (at : ℕ) (f : FieldRecord) : Type 0 where
-  pub place : f .at ≡ at
-  pub inside : f .body + f .len ≤ length file
-  pub further : at < f .body + f .len
-  pub cut : cutFrom file at ≡ field (fieldIn file f) (cutFrom file (f .body + f .len))
-
-unfoldable pub StepIs : List ℕ → ℕ → Step → Type 0
-StepIs file at (Whole f) = FieldAt file at f
-StepIs file at Broken = cutFrom file at ≡ broken at
-StepIs file at End = cutFrom file at ≡ clean
-
-unfoldable pub NextIs : List ℕ → ℕ → ℕ → Next → Type 0
-NextIs file at tag (Found f) = FieldAt file at f × (f .tag ≡ tag)
-NextIs file at tag Other = (f : Field) (rest : Cut) → cutFrom file at ≡ field f rest → f .tag ≡ tag → ⊥
 
 -- ---- a stage
 

@@ -1,6 +1,4 @@
-// The circuit file: the circuit that it tells, its fields, and the refusals of the table.
-mod cursor;
-pub mod fields;
+// The circuit that a file tells, and the refusals of the table.
 pub mod limits;
 pub mod ranges;
 pub mod refusal;

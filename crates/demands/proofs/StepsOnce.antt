@@ -8,14 +8,14 @@ use borrow.Author.Tests.{eqb-true}
 use lib.Dec.{eqb, ltb}
 use lib.ListN.{length}
 use Rattle.circuit.specs.Fields.{Field, Cut, clean, broken, field, cutFrom}
-use Rattle.circuit.specs.Stages.{fieldIn, FieldAt, StepIs, NextIs}
-use Rattle.circuit.specs.declared.fields.Field.{Field as FieldRecord}
-use Rattle.circuit.specs.declared.fields.Step.{Step}
-use Rattle.circuit.specs.declared.fields.Step.the-variants.{Whole, Broken, End}
-use Rattle.circuit.specs.declared.fields.Next.{Next}
-use Rattle.circuit.specs.declared.fields.Next.the-variants.{Found, Other}
-use Rattle.circuit.proofs.Bodies.{length-body}
-use Rattle.circuit.proofs.Cuts.{behind, standing, cut-step}
+use Rattle.fields.specs.Steps.{fieldIn, FieldAt, StepIs, NextIs}
+use Rattle.fields.specs.declared.Field.{Field as FieldRecord}
+use Rattle.fields.specs.declared.Step.{Step}
+use Rattle.fields.specs.declared.Step.the-variants.{Whole, Broken, End}
+use Rattle.fields.specs.declared.Next.{Next}
+use Rattle.fields.specs.declared.Next.the-variants.{Found, Other}
+use Rattle.fields.proofs.Bodies.{length-body}
+use Rattle.fields.proofs.Cuts.{behind, standing, cut-step}
 use Rattle.demands.specs.Unique.{One}
 
 -- the offset that a cut begins at, in a file of a size

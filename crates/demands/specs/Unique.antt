@@ -25,15 +25,15 @@ use Rattle.circuit.specs.Fields.{twoBytes}
 use Rattle.circuit.specs.Laws.{CircuitGood}
 use Rattle.circuit.specs.Reading.{readingOf}
 use Rattle.circuit.specs.Records.{circuitRecord, unusedType, unusedBridge, unusedInstance, padded}
-use Rattle.circuit.specs.Stages.{bodyOf, StepIs, NextIs}
+use Rattle.fields.specs.Steps.{bodyOf, StepIs, NextIs}
 use Rattle.circuit.specs.declared.Bridge.{Bridge}
 use Rattle.circuit.specs.declared.Circuit.{Circuit}
 use Rattle.circuit.specs.declared.Instance.{Instance}
 use Rattle.circuit.specs.declared.Reading.{Reading}
 use Rattle.circuit.specs.declared.Vector.{Vector}
-use Rattle.circuit.specs.declared.fields.Field.{Field}
-use Rattle.circuit.specs.declared.fields.Next.{Next}
-use Rattle.circuit.specs.declared.fields.Step.{Step}
+use Rattle.fields.specs.declared.Field.{Field}
+use Rattle.fields.specs.declared.Next.{Next}
+use Rattle.fields.specs.declared.Step.{Step}
 use Rattle.circuit.specs.declared.refusal.Refusal.{Refusal}
 use Rattle.instances.specs.ListSums.{ListedBridges, SummedTo}
 use Rattle.instances.specs.declared.lists.Lists.{Lists}
@@ -88,14 +88,14 @@ pub record Unique : Type 0 where
   pub switch-join-type : (t : ModuleType) (ones zeros : List ℕ) → One λ (r : Rails). r ≡ railsOf (typeOf t) ones zeros
   -- switch::joining::output_planes
   pub switch-output-planes : (supply ground : ℕ) → One λ (r : Planes). r ≡ planesOf supply ground
-  -- circuit::fields::step_at
-  pub circuit-step-at : (file : List ℕ) (at : ℕ) → at ≤ length file → One λ (r : Step). StepIs file at r
-  -- circuit::fields::field_of
-  pub circuit-field-of : (file : List ℕ) (at tag : ℕ) → at ≤ length file → One λ (r : Next). NextIs file at tag r
-  -- circuit::fields::byte
-  pub circuit-byte : (file : List ℕ) (f : Field) (i : ℕ) → One λ (r : ℕ). r ≡ getD (bodyOf file f) i 0
-  -- circuit::fields::two_bytes
-  pub circuit-two-bytes : (file : List ℕ) (f : Field) (i : ℕ) → One λ (r : ℕ). r ≡ twoBytes (bodyOf file f) i
+  -- fields::step_at
+  pub fields-step-at : (file : List ℕ) (at : ℕ) → at ≤ length file → One λ (r : Step). StepIs file at r
+  -- fields::field_of
+  pub fields-field-of : (file : List ℕ) (at tag : ℕ) → at ≤ length file → One λ (r : Next). NextIs file at tag r
+  -- fields::byte
+  pub fields-byte : (file : List ℕ) (f : Field) (i : ℕ) → One λ (r : ℕ). r ≡ getD (bodyOf file f) i 0
+  -- fields::two_bytes
+  pub fields-two-bytes : (file : List ℕ) (f : Field) (i : ℕ) → One λ (r : ℕ). r ≡ twoBytes (bodyOf file f) i
   -- circuit::ranges::is_between
   pub circuit-is-between : (low high m : ℕ) → One λ (r : Bool). r ≡ between low high m
   -- circuit::refusal::refuses

@@ -18,15 +18,16 @@ use Rattle.circuit.specs.Known.{bridgeOf, listedIn}
 use Rattle.circuit.specs.Table.{Test, test, passes, refused, firstOf, bridgeInRange, bridgeTests}
 use Rattle.circuit.specs.Records.{unusedBridge, bridgeRecord, bridgeRecordIn}
 use Rattle.circuit.specs.Answers.{verdictOf, numberOf, placeOf, numberedVerdict, isRefused, orIf}
-use Rattle.circuit.specs.Stages.{bodyOf, FieldAt, NextIs, bridgeStage, stageOf}
+use Rattle.circuit.specs.Stages.{bridgeStage, stageOf}
+use Rattle.fields.specs.Steps.{bodyOf, FieldAt, NextIs}
 use Rattle.instances.specs.ReadBridges.{bridgeBelow, listedInRange, BridgesRead}
 use Rattle.circuit.specs.declared.Bridge.{Bridge as BridgeRecord}
-use Rattle.circuit.specs.declared.fields.Field.{Field as FieldRecord}
-use Rattle.circuit.specs.declared.fields.Next.the-variants.{Other}
+use Rattle.fields.specs.declared.Field.{Field as FieldRecord}
+use Rattle.fields.specs.declared.Next.the-variants.{Other}
 use Rattle.circuit.specs.declared.refusal.Refusal.{Refusal}
 use Rattle.circuit.specs.declared.refusal.Refusal.the-variants.{Nothing}
 use Rattle.circuit.proofs.Verdicts.{firstAfter, chain, first-passes}
-use Rattle.circuit.proofs.Gathering.{SoFar, none-yet, stops, fails, one-more}
+use Rattle.fields.proofs.Gathering.{SoFar, none-yet, stops, fails, one-more}
 
 -- ---- a bridge field that passes its tests
 

@@ -35,7 +35,7 @@ use Rattle.instances.specs.declared.lists.Lists.{Lists}
 use Rattle.circuit.proofs.Padding.{getD-padded, padded-nil}
 use Rattle.circuit.proofs.Verdicts.{first-passes}
 use Rattle.circuit.proofs.RangeLaws.{between-in, in-between}
-use Rattle.circuit.proofs.ReferenceLaws.{length-references}
+use Rattle.instances.proofs.ReferenceLaws.{length-references}
 use Rattle.instances.proofs.ListLaws.{unsuited, empty-length, count-at, node-at, label-at, length-list}
 
 -- ---- what a list choice gives

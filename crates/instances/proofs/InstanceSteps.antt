@@ -13,15 +13,16 @@ use Rattle.circuit.specs.Known.{instanceIn}
 use Rattle.circuit.specs.Table.{Test, passes, firstOf, instanceTests}
 use Rattle.circuit.specs.Records.{unusedInstance, instanceRecord}
 use Rattle.circuit.specs.Answers.{verdictOf, numberOf, placeOf, numberedVerdict, isRefused}
-use Rattle.circuit.specs.Stages.{bodyOf, FieldAt, NextIs, instanceStage, stageOf}
+use Rattle.circuit.specs.Stages.{instanceStage, stageOf}
+use Rattle.fields.specs.Steps.{bodyOf, FieldAt, NextIs}
 use Rattle.instances.specs.ReadInstances.{InstancesRead}
 use Rattle.circuit.specs.declared.Instance.{Instance as InstanceRecord}
 use Rattle.instances.specs.declared.lists.Lists.{Lists}
-use Rattle.circuit.specs.declared.fields.Field.{Field as FieldRecord}
-use Rattle.circuit.specs.declared.fields.Next.the-variants.{Other}
+use Rattle.fields.specs.declared.Field.{Field as FieldRecord}
+use Rattle.fields.specs.declared.Next.the-variants.{Other}
 use Rattle.circuit.specs.declared.refusal.Refusal.{Refusal}
 use Rattle.circuit.specs.declared.refusal.Refusal.the-variants.{Nothing}
-use Rattle.circuit.proofs.Gathering.{SoFar, none-yet, stops, fails, one-more}
+use Rattle.fields.proofs.Gathering.{SoFar, none-yet, stops, fails, one-more}
 use Rattle.instances.proofs.InstanceLaws.{ShapesAndLists, faults-more}
 
 abbrev testsAfter : ℕ → List ModuleType → List Listed → List Instance → ℕ → List ℕ → List Test

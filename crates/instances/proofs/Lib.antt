@@ -3,3 +3,4 @@ pub mod BridgeLaws
 pub mod InstanceLaws
 pub mod InstanceSteps
 pub mod ListLaws
+pub mod ReferenceLaws

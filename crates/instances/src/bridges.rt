@@ -1,13 +1,13 @@
 // Bridges: the fields with tag 4, kept in file order.
 use circuit::Bridge;
-use circuit::fields::Field;
-use circuit::fields::Next;
-use circuit::fields::byte;
-use circuit::fields::field_of;
 use circuit::limits::MOST_BRIDGES;
 use circuit::refusal::Refusal;
 use circuit::refusal::or_if;
 use circuit::refusal::refuses;
+use fields::Field;
+use fields::Next;
+use fields::byte;
+use fields::field_of;
 ghost use mathlib.Core.Path.{_≡_};
 ghost use Prim.Native.Nat.{_+_, _≤_};
 ghost use lib.ListN.{length, getD};
@@ -15,7 +15,7 @@ ghost use Rattle.circuit.specs.Known.{listedIn};
 ghost use Rattle.circuit.specs.Table.{firstOf, bridgeInRange, bridgeTests};
 ghost use Rattle.circuit.specs.Records.{unusedBridge, bridgeRecord};
 ghost use Rattle.circuit.specs.Answers.{verdictOf};
-ghost use Rattle.circuit.specs.Stages.{bodyOf};
+ghost use Rattle.fields.specs.Steps.{bodyOf};
 ghost use Rattle.instances.specs.ReadBridges.{BridgesRead};
 
 pub struct Bridges {

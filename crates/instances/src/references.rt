@@ -1,7 +1,7 @@
 // References: how many a field has, whether they are good, and the record of each.
 use circuit::Reference;
-use circuit::fields::Field;
-use circuit::fields::two_bytes;
+use fields::Field;
+use fields::two_bytes;
 ghost use mathlib.Core.Path.{_≡_};
 ghost use Prim.Native.Nat.{_+_, _-_, _/_, _≤_, _<_};
 ghost use lib.Dec.{T};
@@ -10,7 +10,7 @@ ghost use Rattle.switch.specs.Modules.{allOf};
 ghost use Rattle.circuit.specs.Numbers.{signed, referenceOf, referenceGood};
 ghost use Rattle.circuit.specs.Known.{referencesIn};
 ghost use Rattle.circuit.specs.Records.{referenceRecord};
-ghost use Rattle.circuit.specs.Stages.{bodyOf};
+ghost use Rattle.fields.specs.Steps.{bodyOf};
 
 // The number of references in a field of this length.
 pub fn reference_count(len: usize) -> usize

@@ -1,2 +1,3 @@
 -- What the functions that read types and edges rest on.
 pub mod ReadingTypes
+pub mod TypeStages

@@ -19,17 +19,19 @@ use Rattle.circuit.specs.Known.{typeIn, edgeIn, withEdge}
 use Rattle.circuit.specs.Table.{Verdict, passes, refused, firstOf, typeTests, edgeTests, edgeTestsOf}
 use Rattle.circuit.specs.Records.{padded, unusedType, edgeRecord, typeRecord}
 use Rattle.circuit.specs.Answers.{numberOf, placeOf, numberedVerdict, verdictOf, isRefused}
-use Rattle.circuit.specs.Stages.{bodyOf, NextIs, Stage, ifPasses, edgeStage, failingVerdict, typeStage, stageOf}
+use Rattle.circuit.specs.Stages.{Stage, ifPasses, edgeStage, failingVerdict, typeStage, stageOf}
+use Rattle.fields.specs.Steps.{bodyOf, NextIs}
 use Rattle.modules.specs.ReadTypes.{goodType, bareOf, BareType, EdgesRead, TypeRead, TypesRead}
-use Rattle.circuit.specs.declared.fields.Field.{Field as FieldRecord}
-use Rattle.circuit.specs.declared.fields.Next.the-variants.{Found, Other}
+use Rattle.fields.specs.declared.Field.{Field as FieldRecord}
+use Rattle.fields.specs.declared.Next.the-variants.{Found, Other}
 use Rattle.circuit.specs.declared.refusal.Refusal.{Refusal}
 use Rattle.circuit.specs.declared.refusal.Refusal.the-variants.{Nothing}
 use Rattle.modules.specs.declared.edges.OneType.{OneType}
 use Rattle.circuit.proofs.Padding.{padded-nil, padded-snoc}
 use Rattle.circuit.proofs.Verdicts.{first-passes, passes-is}
-use Rattle.circuit.proofs.Cuts.{section-step, section-stop}
-use Rattle.circuit.proofs.TypeLaws.{accepts, all-snoc, type-back, type-given, edge-passes, with-edge-ranges, with-edge-record, afterEdges, edges-first, failing-stage, failing-refuses, Settled, settled-none, settled-more, type-step, type-stop}
+use Rattle.fields.proofs.Cuts.{section-step, section-stop}
+use Rattle.circuit.proofs.TypeLaws.{accepts, all-snoc, type-back, type-given, edge-passes, with-edge-ranges, with-edge-record}
+use Rattle.modules.proofs.TypeStages.{afterEdges, edges-first, failing-stage, failing-refuses, Settled, settled-none, settled-more, type-step, type-stop}
 
 -- ---- a stage that fails
 

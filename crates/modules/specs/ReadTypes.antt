@@ -15,8 +15,9 @@ use Rattle.circuit.specs.Table.{passes}
 use Rattle.circuit.specs.Records.{padded, unusedType, typeRecord}
 use Rattle.circuit.specs.Answers.{verdictOf}
 use Rattle.circuit.specs.Known.{typeIn}
-use Rattle.circuit.specs.declared.fields.Field.{Field as FieldRecord}
-use Rattle.circuit.specs.Stages.{bodyOf, stageOf, ifPasses, edgeStage, typeStage}
+use Rattle.fields.specs.declared.Field.{Field as FieldRecord}
+use Rattle.circuit.specs.Stages.{stageOf, ifPasses, edgeStage, typeStage}
+use Rattle.fields.specs.Steps.{bodyOf}
 use Rattle.modules.specs.declared.edges.OneType.{OneType}
 use Rattle.modules.specs.declared.types.Types.{Types}
 

@@ -1,13 +1,13 @@
 // The edges of a type: the fields with tag 3 right after it.
-use circuit::fields::Field;
-use circuit::fields::Next;
-use circuit::fields::byte;
-use circuit::fields::field_of;
 use circuit::limits::MOST_EDGES;
 use circuit::ranges::is_between;
 use circuit::refusal::Refusal;
 use circuit::refusal::or_if;
 use circuit::refusal::refuses;
+use fields::Field;
+use fields::Next;
+use fields::byte;
+use fields::field_of;
 use switch::Edge;
 use switch::ModuleType;
 ghost use mathlib.Core.Path.{_≡_};
@@ -20,7 +20,7 @@ ghost use Rattle.circuit.specs.Known.{edgeIn};
 ghost use Rattle.circuit.specs.Table.{firstOf, edgeTestsOf};
 ghost use Rattle.circuit.specs.Records.{edgeRecord, unusedEdge};
 ghost use Rattle.circuit.specs.Answers.{verdictOf};
-ghost use Rattle.circuit.specs.Stages.{bodyOf};
+ghost use Rattle.fields.specs.Steps.{bodyOf};
 ghost use Rattle.modules.specs.ReadTypes.{edgeBetween, BareType, EdgesRead};
 
 // A type with its edges, and where reading goes on.

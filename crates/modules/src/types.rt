@@ -2,18 +2,18 @@
 use crate::edges::OneType;
 use crate::edges::no_edge;
 use crate::edges::read_edges;
-use circuit::fields::Field;
-use circuit::fields::Next;
-use circuit::fields::Step;
-use circuit::fields::byte;
-use circuit::fields::field_of;
-use circuit::fields::step_at;
 use circuit::limits::MOST_EDGES;
 use circuit::limits::MOST_TYPES;
 use circuit::ranges::is_between;
 use circuit::refusal::Refusal;
 use circuit::refusal::or_if;
 use circuit::refusal::refuses;
+use fields::Field;
+use fields::Next;
+use fields::Step;
+use fields::byte;
+use fields::field_of;
+use fields::step_at;
 use switch::ModuleType;
 use switch::complementary::check_type;
 ghost use mathlib.Core.Path.{_≡_};
@@ -26,7 +26,8 @@ ghost use Rattle.circuit.specs.Known.{typeIn};
 ghost use Rattle.circuit.specs.Table.{firstOf, typeTests};
 ghost use Rattle.circuit.specs.Records.{unusedType, typeRecord};
 ghost use Rattle.circuit.specs.Answers.{verdictOf};
-ghost use Rattle.circuit.specs.Stages.{bodyOf, FieldAt, failingBefore, failingVerdict};
+ghost use Rattle.circuit.specs.Stages.{failingBefore, failingVerdict};
+ghost use Rattle.fields.specs.Steps.{bodyOf, FieldAt};
 ghost use Rattle.modules.specs.ReadTypes.{TypeRead, TypesRead};
 
 pub struct Types {

@@ -19,7 +19,8 @@ use Rattle.circuit.specs.Table.{Verdict, passes, refused, firstOf, test, isUnkn
 use Rattle.circuit.specs.Reading.{Reading, accepted, refusal, unless, readingOf}
 use Rattle.circuit.specs.Records.{unusedType, unusedBridge, unusedInstance, unusedVector, circuitRecord, emptyCircuit}
 use Rattle.circuit.specs.Answers.{verdictOf, isRefused, orIf, Tells, Answers}
-use Rattle.circuit.specs.Stages.{bodyOf, fieldIn, FieldAt, NextIs, Stage, bridgeStage, instanceStage, vectorStage, endedVerdict, pastVerdict, endingVerdict, afterStage, afterInputs, fromStart, staged, stageOf}
+use Rattle.circuit.specs.Stages.{Stage, bridgeStage, instanceStage, vectorStage, endedVerdict, pastVerdict, endingVerdict, afterStage, afterInputs, fromStart, staged, stageOf}
+use Rattle.fields.specs.Steps.{bodyOf, fieldIn, FieldAt, NextIs}
 use Rattle.modules.specs.ReadTypes.{TypesRead}
 use Rattle.instances.specs.ReadBridges.{BridgesRead}
 use Rattle.instances.specs.ListSums.{SummedTo}
@@ -32,8 +33,8 @@ use Rattle.circuit.specs.declared.Instance.{Instance as InstanceRecord}
 use Rattle.circuit.specs.declared.Vector.{Vector as VectorRecord}
 use Rattle.circuit.specs.declared.Circuit.{Circuit as CircuitRecord}
 use Rattle.circuit.specs.declared.Reading.{Reading as ReadingRecord}
-use Rattle.circuit.specs.declared.fields.Field.{Field as FieldRecord}
-use Rattle.circuit.specs.declared.fields.Next.the-variants.{Other}
+use Rattle.fields.specs.declared.Field.{Field as FieldRecord}
+use Rattle.fields.specs.declared.Next.the-variants.{Other}
 use Rattle.circuit.specs.declared.refusal.Refusal.{Refusal}
 use Rattle.modules.specs.declared.types.Types.{Types}
 use Rattle.instances.specs.declared.bridges.Bridges.{Bridges}

@@ -22,15 +22,16 @@ use Rattle.circuit.specs.Known.{letterOf, vectorIn}
 use Rattle.circuit.specs.Table.{Test, test, passes, firstOf, isLetter, vectorTests}
 use Rattle.circuit.specs.Records.{unusedVector, vectorRecord}
 use Rattle.circuit.specs.Answers.{verdictOf, numberOf, placeOf, numberedVerdict, isRefused}
-use Rattle.circuit.specs.Stages.{bodyOf, FieldAt, NextIs, vectorStage, stageOf}
+use Rattle.circuit.specs.Stages.{vectorStage, stageOf}
+use Rattle.fields.specs.Steps.{bodyOf, FieldAt, NextIs}
 use Rattle.reader.specs.ReadVectors.{VectorsRead}
 use Rattle.circuit.specs.declared.Vector.{Vector as VectorRecord}
-use Rattle.circuit.specs.declared.fields.Field.{Field as FieldRecord}
-use Rattle.circuit.specs.declared.fields.Next.the-variants.{Other}
+use Rattle.fields.specs.declared.Field.{Field as FieldRecord}
+use Rattle.fields.specs.declared.Next.the-variants.{Other}
 use Rattle.circuit.specs.declared.refusal.Refusal.{Refusal}
 use Rattle.circuit.specs.declared.refusal.Refusal.the-variants.{Nothing}
 use Rattle.circuit.proofs.Verdicts.{first-passes}
-use Rattle.circuit.proofs.Gathering.{SoFar, none-yet, stops, fails, one-more}
+use Rattle.fields.proofs.Gathering.{SoFar, none-yet, stops, fails, one-more}
 
 -- ---- letters
 

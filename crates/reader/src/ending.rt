@@ -1,7 +1,7 @@
 // The end of a file: after the last vector nothing may stand, and an instance and a vector must have been there.
-use circuit::fields::Step;
-use circuit::fields::step_at;
 use circuit::refusal::Refusal;
+use fields::Step;
+use fields::step_at;
 ghost use mathlib.Core.Path.{_≡_};
 ghost use Prim.Native.Nat.{_≤_};
 ghost use lib.ListN.{length};

@@ -1,13 +1,13 @@
 // Vectors: the fields with tag 6, one letter for each primary input.
 use circuit::Vector;
-use circuit::fields::Field;
-use circuit::fields::Next;
-use circuit::fields::byte;
-use circuit::fields::field_of;
 use circuit::limits::MOST_VECTORS;
 use circuit::refusal::Refusal;
 use circuit::refusal::or_if;
 use circuit::refusal::refuses;
+use fields::Field;
+use fields::Next;
+use fields::byte;
+use fields::field_of;
 ghost use mathlib.Core.Path.{_≡_};
 ghost use Prim.Native.Nat.{_+_, _≤_};
 ghost use lib.ListN.{length};
@@ -16,7 +16,7 @@ ghost use Rattle.circuit.specs.Known.{vectorIn};
 ghost use Rattle.circuit.specs.Table.{firstOf, isLetter, vectorTests};
 ghost use Rattle.circuit.specs.Records.{unusedVector, vectorRecord};
 ghost use Rattle.circuit.specs.Answers.{verdictOf};
-ghost use Rattle.circuit.specs.Stages.{bodyOf};
+ghost use Rattle.fields.specs.Steps.{bodyOf};
 ghost use Rattle.reader.specs.ReadVectors.{VectorsRead};
 
 pub struct Vectors {

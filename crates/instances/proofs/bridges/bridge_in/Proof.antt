@@ -1,6 +1,6 @@
 -- `instances::bridges::bridge_in` meets its contract: four bytes of a body are the record of its bridge. Assumes nothing.
 use borrow.Author.Needs.{needs}
-use Rattle.circuit.specs.Stages.{bodyOf}
+use Rattle.fields.specs.Steps.{bodyOf}
 use Rattle.instances.proofs.BridgeLaws.{record-in}
 use Rattle.instances.proofs.bridges.bridge_in.Statement.{statement}
 use Rattle.instances.proofs.bridges.bridge_in.Tie as tie

@@ -4,8 +4,8 @@ use mathlib.Core.List.{List}
 use Prim.Native.Nat.{ℕ}
 use borrow.Author.Needs.{needs}
 use Rattle.circuit.specs.Answers.{verdictOf, numberedVerdict, numberOf, placeOf}
-use Rattle.circuit.specs.Stages.{bodyOf}
-use Rattle.circuit.proofs.Bodies.{length-body}
+use Rattle.fields.specs.Steps.{bodyOf}
+use Rattle.fields.proofs.Bodies.{length-body}
 use Rattle.instances.proofs.BridgeLaws.{one-by-one}
 use Rattle.instances.proofs.bridges.bridge_verdict.Statement.{statement}
 use Rattle.instances.proofs.bridges.bridge_verdict.Tie as tie

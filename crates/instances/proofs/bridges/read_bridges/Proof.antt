@@ -8,8 +8,8 @@ use borrow.Author.Needs.{needs}
 use lib.ListN.{length}
 use Rattle.circuit.specs.Table.{passes}
 use Rattle.circuit.specs.Answers.{verdictOf}
-use Rattle.circuit.specs.Stages.{bodyOf, NextIs, FieldAt}
-use Rattle.circuit.specs.declared.fields.Field.{Field as FieldRecord}
+use Rattle.fields.specs.Steps.{bodyOf, NextIs, FieldAt}
+use Rattle.fields.specs.declared.Field.{Field as FieldRecord}
 use Rattle.circuit.proofs.Verdicts.{passes-is}
 use Rattle.instances.proofs.BridgeLaws.{BridgesSoFar, no-bridges, bridges-stop, bridges-refused, BridgeFits, bridge-fits, one-bridge-more}
 use Rattle.instances.proofs.bridges.read_bridges.Statement.{statement}

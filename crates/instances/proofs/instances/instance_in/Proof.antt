@@ -7,9 +7,10 @@ use lib.ListN.{length, getD}
 use Rattle.circuit.specs.Numbers.{signed, referenceOf}
 use Rattle.circuit.specs.Known.{instanceIn}
 use Rattle.circuit.specs.Records.{referenceRecord, instanceRecord}
-use Rattle.circuit.specs.Stages.{bodyOf}
-use Rattle.circuit.proofs.Bodies.{length-body}
-use Rattle.circuit.proofs.ReferenceLaws.{byte-small, length-references, good-at, filled, none-filled, one-filled, all-filled, choice-kept}
+use Rattle.fields.specs.Steps.{bodyOf}
+use Rattle.fields.proofs.Bodies.{length-body}
+use Rattle.instances.proofs.ReferenceLaws.{length-references, good-at, filled, none-filled, one-filled, all-filled, choice-kept}
+use Rattle.fields.proofs.Bodies.{byte-small}
 use Rattle.instances.proofs.instances.instance_in.Statement.{statement}
 use Rattle.instances.proofs.instances.instance_in.Tie as tie
 

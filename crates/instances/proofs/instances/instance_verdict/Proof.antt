@@ -14,11 +14,11 @@ use Rattle.circuit.specs.Circuit.{Reference}
 use Rattle.circuit.specs.Numbers.{referenceGood}
 use Rattle.circuit.specs.Known.{referencesIn}
 use Rattle.circuit.specs.Answers.{numberOf, placeOf, numberedVerdict, verdictOf}
-use Rattle.circuit.specs.Stages.{bodyOf}
+use Rattle.fields.specs.Steps.{bodyOf}
 use Rattle.instances.specs.ReadInstances.{gatheredTests}
 use Rattle.circuit.proofs.Verdicts.{firstAfter, chain}
-use Rattle.circuit.proofs.Bodies.{length-body}
-use Rattle.circuit.proofs.ReferenceLaws.{length-references}
+use Rattle.fields.proofs.Bodies.{length-body}
+use Rattle.instances.proofs.ReferenceLaws.{length-references}
 use Rattle.instances.proofs.instances.instance_verdict.Statement.{statement}
 use Rattle.instances.proofs.instances.instance_verdict.Tie as tie
 

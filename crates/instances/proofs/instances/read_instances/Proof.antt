@@ -12,10 +12,10 @@ use Rattle.circuit.specs.Circuit.{Listed, numbered, noType, typeOfInstance}
 use Rattle.circuit.specs.Known.{instanceIn}
 use Rattle.circuit.specs.Table.{passes, firstOf, instanceTests}
 use Rattle.circuit.specs.Answers.{verdictOf}
-use Rattle.circuit.specs.Stages.{bodyOf, NextIs, FieldAt}
+use Rattle.fields.specs.Steps.{bodyOf, NextIs, FieldAt}
 use Rattle.instances.specs.ReadInstances.{TypesAndLists, InstancesRead}
 use Rattle.instances.specs.declared.choices.Chosen.{Chosen}
-use Rattle.circuit.specs.declared.fields.Field.{Field as FieldRecord}
+use Rattle.fields.specs.declared.Field.{Field as FieldRecord}
 use Rattle.circuit.proofs.Verdicts.{passes-is}
 use Rattle.instances.proofs.InstanceLaws.{ShapesAndLists, shapes-told, meant, given-is, gathered, Passed, passed, given-small}
 use Rattle.instances.proofs.InstanceSteps.{AtLoop, no-instances, instances-stop, instances-refused, one-instance-more}

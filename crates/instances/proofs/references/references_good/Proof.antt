@@ -8,9 +8,10 @@ use borrow.Author.Needs.{needs}
 use borrow.Author.Tests.{not-true, not-false}
 use lib.ListN.{length}
 use Rattle.circuit.specs.Numbers.{signed, referenceOf, referenceGood}
-use Rattle.circuit.specs.Stages.{bodyOf}
-use Rattle.circuit.proofs.Bodies.{length-body}
-use Rattle.circuit.proofs.ReferenceLaws.{byte-small, two-small, referenceAt, all-good, one-bad}
+use Rattle.fields.specs.Steps.{bodyOf}
+use Rattle.fields.proofs.Bodies.{length-body}
+use Rattle.instances.proofs.ReferenceLaws.{two-small, referenceAt, all-good, one-bad}
+use Rattle.fields.proofs.Bodies.{byte-small}
 use Rattle.instances.proofs.references.references_good.Statement.{statement}
 use Rattle.instances.proofs.references.references_good.Tie as tie
 

@@ -8,8 +8,8 @@ use lib.Seq.{getD-drop}
 use Rattle.words.specs.Tables.{table}
 use Rattle.circuit.specs.Known.{edgeIn}
 use Rattle.circuit.specs.Records.{padded, edgeRecord}
-use Rattle.circuit.specs.Stages.{bodyOf}
-use Rattle.circuit.proofs.Bodies.{length-body}
+use Rattle.fields.specs.Steps.{bodyOf}
+use Rattle.fields.proofs.Bodies.{length-body}
 use Rattle.modules.proofs.edges.edge_in.Statement.{statement}
 use Rattle.modules.proofs.edges.edge_in.Tie as tie
 

@@ -16,8 +16,8 @@ use Rattle.circuit.specs.Limits.{mostEdges}
 use Rattle.circuit.specs.Known.{edgeIn}
 use Rattle.circuit.specs.Table.{passes, refused, firstOf, edgeTestsOf}
 use Rattle.circuit.specs.Answers.{numberOf, placeOf, numberedVerdict, verdictOf, orIf}
-use Rattle.circuit.specs.Stages.{bodyOf}
-use Rattle.circuit.proofs.Bodies.{length-body}
+use Rattle.fields.specs.Steps.{bodyOf}
+use Rattle.fields.proofs.Bodies.{length-body}
 use Rattle.circuit.proofs.Verdicts.{chain, firstAfter}
 use Rattle.circuit.proofs.RangeLaws.{between-in, between-below, between-above, in-between}
 use Rattle.circuit.proofs.TypeLaws.{and-came}

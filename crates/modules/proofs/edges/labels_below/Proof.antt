@@ -8,8 +8,8 @@ use mathlib.Core.List.{[]}
 use lib.Dec.{ltb}
 use lib.ListN.{length, getD, drop, drop-of-length-le}
 use Rattle.switch.specs.Modules.{allOf}
-use Rattle.circuit.specs.Stages.{bodyOf}
-use Rattle.circuit.proofs.Bodies.{length-body}
+use Rattle.fields.specs.Steps.{bodyOf}
+use Rattle.fields.proofs.Bodies.{length-body}
 use Rattle.circuit.proofs.TypeLaws.{all-from}
 use Rattle.modules.proofs.edges.labels_below.Statement.{statement}
 use Rattle.modules.proofs.edges.labels_below.Tie as tie

@@ -8,9 +8,9 @@ use borrow.Author.Needs.{needs}
 use lib.ListN.{length}
 use Rattle.circuit.specs.Limits.{mostEdges}
 use Rattle.circuit.specs.Answers.{verdictOf, isRefused}
-use Rattle.circuit.specs.Stages.{FieldAt, NextIs}
-use Rattle.circuit.specs.declared.fields.Next.the-variants.{Found, Other}
-use Rattle.circuit.proofs.Bodies.{length-body}
+use Rattle.fields.specs.Steps.{FieldAt, NextIs}
+use Rattle.fields.specs.declared.Next.the-variants.{Found, Other}
+use Rattle.fields.proofs.Bodies.{length-body}
 use Rattle.modules.proofs.ReadingTypes.{EdgesSoFar, edges-start, edges-stop, edges-refused, edge-fits, edges-more}
 use Rattle.modules.proofs.edges.read_edges.Statement.{statement}
 use Rattle.modules.proofs.edges.read_edges.Tie as tie

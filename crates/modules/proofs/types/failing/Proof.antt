@@ -6,10 +6,11 @@ use borrow.Author.Needs.{needs}
 use Rattle.circuit.specs.Fields.{cutFrom}
 use Rattle.circuit.specs.Table.{refused}
 use Rattle.circuit.specs.Answers.{numberOf, placeOf, numberedVerdict, verdictOf}
-use Rattle.circuit.specs.Stages.{fieldIn, FieldAt, StepIs, failingBefore, failingVerdict}
-use Rattle.circuit.specs.declared.fields.Field.{Field as FieldRecord}
-use Rattle.circuit.specs.declared.fields.Step.{Step}
-use Rattle.circuit.specs.declared.fields.Step.the-variants.{Whole, Broken, End}
+use Rattle.circuit.specs.Stages.{failingBefore, failingVerdict}
+use Rattle.fields.specs.Steps.{fieldIn, FieldAt, StepIs}
+use Rattle.fields.specs.declared.Field.{Field as FieldRecord}
+use Rattle.fields.specs.declared.Step.{Step}
+use Rattle.fields.specs.declared.Step.the-variants.{Whole, Broken, End}
 use Rattle.modules.proofs.types.failing.Statement.{statement}
 use Rattle.modules.proofs.types.failing.Tie as tie
 

@@ -1,7 +1,7 @@
 -- `modules::types::read_type` meets its contract: its edges failed, or it is complementary, or it notComplementary. Assumes nothing.
 use mathlib.Core.Path.{sym, _∙_}
 use borrow.Author.Needs.{needs}
-use Rattle.circuit.specs.Stages.{bodyOf}
+use Rattle.fields.specs.Steps.{bodyOf}
 use Rattle.modules.proofs.ReadingTypes.{bare-type, type-refused, type-read-given, type-complementary, type-failing}
 use Rattle.modules.proofs.types.read_type.Statement.{statement}
 use Rattle.modules.proofs.types.read_type.Tie as tie

@@ -12,8 +12,8 @@ use Rattle.switch.specs.Modules.{typeInRange}
 use Rattle.switch.specs.declared.ModuleType.{ModuleType as TypeRecord}
 use Rattle.circuit.specs.Limits.{mostTypes}
 use Rattle.circuit.specs.Answers.{verdictOf, isRefused}
-use Rattle.circuit.specs.Stages.{bodyOf, FieldAt, NextIs}
-use Rattle.circuit.specs.declared.fields.Next.the-variants.{Found, Other}
+use Rattle.fields.specs.Steps.{bodyOf, FieldAt, NextIs}
+use Rattle.fields.specs.declared.Next.the-variants.{Found, Other}
 use Rattle.modules.specs.ReadTypes.{TypesRead}
 use Rattle.modules.proofs.ReadingTypes.{TypesSoFar, types-start, types-stop, types-refused, type-fits, types-refused-after, types-more}
 use Rattle.modules.proofs.types.read_types.Statement.{statement}

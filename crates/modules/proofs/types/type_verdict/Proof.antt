@@ -11,8 +11,8 @@ use Rattle.switch.specs.Modules.{typeInRange}
 use Rattle.circuit.specs.Limits.{mostTypes}
 use Rattle.circuit.specs.Table.{passes, refused, firstOf, typeTests}
 use Rattle.circuit.specs.Answers.{numberOf, placeOf, numberedVerdict, verdictOf, orIf}
-use Rattle.circuit.specs.Stages.{bodyOf}
-use Rattle.circuit.proofs.Bodies.{length-body}
+use Rattle.fields.specs.Steps.{bodyOf}
+use Rattle.fields.proofs.Bodies.{length-body}
 use Rattle.circuit.proofs.Verdicts.{chain, firstAfter}
 use Rattle.circuit.proofs.TypeLaws.{and-came}
 use Rattle.modules.proofs.types.type_verdict.Statement.{statement}

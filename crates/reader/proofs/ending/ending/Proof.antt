@@ -7,10 +7,11 @@ use lib.ListN.{length}
 use Rattle.circuit.specs.Fields.{cutFrom}
 use Rattle.circuit.specs.Table.{refused}
 use Rattle.circuit.specs.Answers.{numberOf, placeOf, numberedVerdict, verdictOf}
-use Rattle.circuit.specs.Stages.{fieldIn, FieldAt, StepIs, endedVerdict, pastVerdict, endingVerdict}
-use Rattle.circuit.specs.declared.fields.Field.{Field as FieldRecord}
-use Rattle.circuit.specs.declared.fields.Step.{Step}
-use Rattle.circuit.specs.declared.fields.Step.the-variants.{Whole, Broken, End}
+use Rattle.circuit.specs.Stages.{endedVerdict, pastVerdict, endingVerdict}
+use Rattle.fields.specs.Steps.{fieldIn, FieldAt, StepIs}
+use Rattle.fields.specs.declared.Field.{Field as FieldRecord}
+use Rattle.fields.specs.declared.Step.{Step}
+use Rattle.fields.specs.declared.Step.the-variants.{Whole, Broken, End}
 use Rattle.reader.proofs.ending.ending.Statement.{statement}
 use Rattle.reader.proofs.ending.ending.Tie as tie
 

@@ -4,8 +4,8 @@ use mathlib.Core.Logic.{⊎-elim}
 use borrow.Author.Needs.{needs}
 use Rattle.circuit.specs.Table.{inputsTests}
 use Rattle.circuit.specs.Answers.{verdictOf, numberOf, placeOf, numberedVerdict}
-use Rattle.circuit.specs.Stages.{bodyOf}
-use Rattle.circuit.proofs.Bodies.{length-body}
+use Rattle.fields.specs.Steps.{bodyOf}
+use Rattle.fields.proofs.Bodies.{length-body}
 use Rattle.circuit.proofs.Verdicts.{firstAfter, chain}
 use Rattle.reader.proofs.ReadLaws.{inputs-few, inputs-many}
 use Rattle.reader.proofs.read.inputs_verdict.Statement.{statement}

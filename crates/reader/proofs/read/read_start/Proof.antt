@@ -8,10 +8,11 @@ use borrow.Author.Needs.{needs}
 use lib.ListN.{length}
 use Rattle.circuit.specs.Fields.{cutFrom, twoBytes}
 use Rattle.circuit.specs.Answers.{verdictOf, numberOf, placeOf, numberedVerdict, isRefused}
-use Rattle.circuit.specs.Stages.{bodyOf, FieldAt, NextIs, afterInputs}
+use Rattle.circuit.specs.Stages.{afterInputs}
+use Rattle.fields.specs.Steps.{bodyOf, FieldAt, NextIs}
 use Rattle.circuit.specs.Reading.{unless, readingOf, accepted}
 use Rattle.circuit.specs.Records.{emptyCircuit}
-use Rattle.circuit.specs.declared.fields.Field.{Field as FieldRecord}
+use Rattle.fields.specs.declared.Field.{Field as FieldRecord}
 use Rattle.circuit.specs.declared.refusal.Refusal.the-variants.{TooLong}
 use Rattle.circuit.proofs.Verdicts.{passes-is}
 use Rattle.circuit.proofs.StageLaws.{staged-is-reading}

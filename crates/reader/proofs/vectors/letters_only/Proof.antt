@@ -11,8 +11,8 @@ use borrow.Author.Tests.{not-true, not-false}
 use lib.ListN.{drop, getD}
 use Rattle.switch.specs.Modules.{allOf}
 use Rattle.circuit.specs.Table.{isLetter}
-use Rattle.circuit.specs.Stages.{bodyOf}
-use Rattle.circuit.proofs.Bodies.{length-body}
+use Rattle.fields.specs.Steps.{bodyOf}
+use Rattle.fields.proofs.Bodies.{length-body}
 use Rattle.reader.proofs.VectorLaws.{letter-kept, letter-lost, letters-next, letters-end}
 use Rattle.reader.proofs.vectors.letters_only.Statement.{statement}
 use Rattle.reader.proofs.vectors.letters_only.Tie as tie

@@ -8,9 +8,9 @@ use borrow.Author.Needs.{needs}
 use lib.ListN.{length}
 use Rattle.circuit.specs.Table.{passes}
 use Rattle.circuit.specs.Answers.{verdictOf}
-use Rattle.circuit.specs.Stages.{bodyOf, FieldAt, NextIs}
-use Rattle.circuit.specs.declared.fields.Field.{Field as FieldRecord}
-use Rattle.circuit.proofs.Bodies.{length-body}
+use Rattle.fields.specs.Steps.{bodyOf, FieldAt, NextIs}
+use Rattle.fields.specs.declared.Field.{Field as FieldRecord}
+use Rattle.fields.proofs.Bodies.{length-body}
 use Rattle.circuit.proofs.Verdicts.{passes-is}
 use Rattle.reader.proofs.VectorLaws.{VectorsSoFar, no-vectors, vectors-stop, vectors-refused, VectorFits, vector-fits, one-vector-more}
 use Rattle.reader.proofs.vectors.read_vectors.Statement.{statement}

@@ -5,8 +5,8 @@ use mathlib.Core.Logic.{⊎-elim}
 use native.Mathlib.Numerals.{add-one}
 use native.Mathlib.Omega.{arith}
 use Rattle.switch.specs.Promises.{isAt0, isAt1}
-use Rattle.circuit.specs.Stages.{bodyOf}
-use Rattle.circuit.proofs.Bodies.{length-body}
+use Rattle.fields.specs.Steps.{bodyOf}
+use Rattle.fields.proofs.Bodies.{length-body}
 use Rattle.reader.proofs.VectorLaws.{planeTo, plane-none, plane-set, plane-kept, planes-whole, letter-1, letter-0, letter-not-1, letter-not-0, at1-le-one, at0-le-one}
 use Rattle.reader.proofs.vectors.vector_in.Statement.{statement}
 use Rattle.reader.proofs.vectors.vector_in.Tie as tie

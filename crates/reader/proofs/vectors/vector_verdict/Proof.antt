@@ -3,8 +3,8 @@ use mathlib.Core.Path.{sym, _∙_}
 use borrow.Author.Needs.{needs}
 use Rattle.circuit.specs.Table.{vectorTests}
 use Rattle.circuit.specs.Answers.{verdictOf, numberOf, placeOf, numberedVerdict}
-use Rattle.circuit.specs.Stages.{bodyOf}
-use Rattle.circuit.proofs.Bodies.{length-body}
+use Rattle.fields.specs.Steps.{bodyOf}
+use Rattle.fields.proofs.Bodies.{length-body}
 use Rattle.circuit.proofs.Verdicts.{firstAfter, chain}
 use Rattle.reader.proofs.vectors.vector_verdict.Statement.{statement}
 use Rattle.reader.proofs.vectors.vector_verdict.Tie as tie

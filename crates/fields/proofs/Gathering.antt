@@ -6,15 +6,16 @@ use mathlib.Core.Bool.{true}
 use mathlib.Core.List.{List, [], _∷_, _++_, map, map-append}
 use native.Mathlib.Omega.{arith}
 use lib.ListN.{length, set, replicate, length-append, length-map}
 use Rattle.circuit.specs.Fields.{Cut, cutFrom}
 use Rattle.circuit.specs.Table.{Test, Verdict, passes, refused, firstOf}
 use Rattle.circuit.specs.Records.{padded}
 use Rattle.circuit.specs.Answers.{isRefused}
-use Rattle.circuit.specs.Stages.{bodyOf, FieldAt, NextIs, Stage, stopped, ifPasses, section, stageOf}
-use Rattle.circuit.specs.declared.fields.Field.{Field as FieldRecord}
-use Rattle.circuit.specs.declared.fields.Next.the-variants.{Other}
+use Rattle.circuit.specs.Stages.{Stage, stopped, ifPasses, section, stageOf}
+use Rattle.fields.specs.Steps.{bodyOf, FieldAt, NextIs}
+use Rattle.fields.specs.declared.Field.{Field as FieldRecord}
+use Rattle.fields.specs.declared.Next.the-variants.{Other}
 use Rattle.circuit.proofs.Padding.{padded-nil, padded-snoc}
-use Rattle.circuit.proofs.Cuts.{section-step, section-stop}
+use Rattle.fields.proofs.Cuts.{section-step, section-stop}
 
 refused-here : {A : Type 0} (v : Verdict) (a : A) (cut : Cut) (more : Stage A) → isRefused v ≡ true → ifPasses v more ≡ stageOf v a cut
 unfolding isRefused ifPasses stageOf

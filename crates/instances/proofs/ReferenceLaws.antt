@@ -3,37 +3,23 @@ use Prim.Native.Nat.{ℕ, zero, suc, _+_, _-_, _*_, _/_, _<_, _≤_}
 use mathlib.Core.Path.{_≡_, refl, sym}
 use mathlib.Core.Bool.{Bool, true, false, cond}
 use mathlib.Core.List.{List, [], _∷_, _++_, map, map-append}
-use native.Mathlib.Decide.{decLt}
 use native.Mathlib.Numerals.{add-one}
 use native.Mathlib.Omega.{arith}
 use lib.Dec.{T, ltb, eqb→eq}
-use lib.ListN.{length, getD, take, drop, replicate, set, length-take, length-map, List·getD-eq-default}
-use lib.Seq.{getD-take, getD-drop, take-suc, take-all}
+use lib.ListN.{length, getD, take, replicate, set, length-take, length-map}
+use lib.Seq.{take-suc, take-all}
 use Rattle.words.proofs.Tables.{length-table, getD-table}
 use Rattle.switch.specs.Modules.{allOf}
 use Rattle.switch.proofs.Deciding.{all-of}
 use Rattle.circuit.specs.Fields.{twoBytes}
 use Rattle.circuit.specs.Circuit.{Reference, primary}
 use Rattle.circuit.specs.Numbers.{plus, minus, signed, choiceOf, choiceInRange, referenceOf, referenceGood}
 use Rattle.circuit.specs.Known.{referencesIn}
 use Rattle.circuit.specs.Records.{padded, unusedReference, referenceRecord, choiceByte}
-use Rattle.circuit.specs.Stages.{bodyOf}
 use Rattle.circuit.specs.declared.Reference.{Reference as ReferenceRecord}
-use Rattle.circuit.specs.declared.fields.Field.{Field as FieldRecord}
 use Rattle.circuit.proofs.Padding.{padded-nil, padded-snoc}
 
 -- ---- bytes
-
--- the bytes of a body are the file's, or 0
-pub byte-small : (file : List ℕ) (f : FieldRecord) → ((i : ℕ) → getD file i 0 < 256) → (i : ℕ) → getD (bodyOf file f) i 0 < 256
-unfolding bodyOf
-byte-small file f small i = go (decLt i (f .len))
-  where
-    go : Dec (i < f .len) → getD (take (f .len) (drop (f .body) file)) i 0 < 256
-    go (yes h) = rw (getD-take, getD-drop) (small (f .body + i))
-    go (no h) =
-        rw (List·getD-eq-default (take (f .len) (drop (f .body) file)) 0 {n = i} (omega (arith, length-take (f .len) (drop (f .body) file))))
-        (omega arith)
 
 pub two-small : (body : List ℕ) → ((i : ℕ) → getD body i 0 < 256) → (i : ℕ) → twoBytes body i < 65536
 unfolding twoBytes

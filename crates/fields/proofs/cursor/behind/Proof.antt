@@ -1,13 +1,13 @@
--- `circuit::cursor::behind` meets its contract: the place behind a field is where its body ends, and without one it stays. Assumes nothing.
+-- `fields::cursor::behind` meets its contract: the place behind a field is where its body ends, and without one it stays. Assumes nothing.
 use Prim.Native.Nat.{ℕ, _+_, _<_, _^_}
 use mathlib.Core.Path.{_≡_, refl, sym, subst}
 use borrow.Author.Needs.{needs}
-use Rattle.circuit.specs.Steps.{behindStep}
-use Rattle.circuit.specs.declared.fields.Field.{Field as FieldRecord}
-use Rattle.circuit.specs.declared.fields.Step.{Step}
-use Rattle.circuit.specs.declared.fields.Step.the-variants.{Whole, Broken, End}
-use Rattle.circuit.proofs.cursor.behind.Statement.{statement}
-use Rattle.circuit.proofs.cursor.behind.Tie as tie
+use Rattle.fields.specs.Steps.{behindStep}
+use Rattle.fields.specs.declared.Field.{Field as FieldRecord}
+use Rattle.fields.specs.declared.Step.{Step}
+use Rattle.fields.specs.declared.Step.the-variants.{Whole, Broken, End}
+use Rattle.fields.proofs.cursor.behind.Statement.{statement}
+use Rattle.fields.proofs.cursor.behind.Tie as tie
 
 module _ (step : Step) (at : ℕ) where
   at-whole : (f : FieldRecord) → step ≡ Whole f → f .body + f .len ≡ behindStep step at

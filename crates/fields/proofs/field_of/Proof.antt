@@ -1,4 +1,4 @@
--- `circuit::fields::field_of` meets its contract: the field at the offset if it has the tag, and else there is none with it. Assumes nothing.
+-- `fields::field_of` meets its contract: the field at the offset if it has the tag, and else there is none with it. Assumes nothing.
 use Prim.Native.Nat.{ℕ}
 use mathlib.Core.Path.{_≡_, _∙_}
 use mathlib.Core.List.{List, [], _∷_}
@@ -7,14 +7,14 @@ use native.Mathlib.Omega.{arith}
 use borrow.Author.Needs.{needs}
 use denote.Enum.Declared.{tagOf}
 use types.Run.{OneOf}
-use Rattle.circuit.specs.Stages.{fieldIn, FieldAt, StepIs, NextIs}
-use Rattle.circuit.specs.declared.fields.Field.{Field as FieldRecord}
-use Rattle.circuit.specs.declared.fields.Step.{Step}
-use Rattle.circuit.specs.declared.fields.Step.the-variants.{Whole, Broken, End}
-use Rattle.circuit.specs.declared.fields.Next.the-variants.{Other}
-use Rattle.circuit.proofs.fields.Step.{the-type}
-use Rattle.circuit.proofs.fields.field_of.Statement.{statement}
-use Rattle.circuit.proofs.fields.field_of.Tie as tie
+use Rattle.fields.specs.Steps.{fieldIn, FieldAt, StepIs, NextIs}
+use Rattle.fields.specs.declared.Field.{Field as FieldRecord}
+use Rattle.fields.specs.declared.Step.{Step}
+use Rattle.fields.specs.declared.Step.the-variants.{Whole, Broken, End}
+use Rattle.fields.specs.declared.Next.the-variants.{Other}
+use Rattle.fields.proofs.Step.{the-type}
+use Rattle.fields.proofs.field_of.Statement.{statement}
+use Rattle.fields.proofs.field_of.Tie as tie
 
 module _ (file : List ℕ) (at tag : ℕ) where
   -- no field stands there

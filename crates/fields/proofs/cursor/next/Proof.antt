@@ -1,4 +1,4 @@
--- `circuit::cursor::next` meets its contract: a walk of its MIR, by hand. The borrow is opened, `place` is called on a copy of the struct, `cut_at` on the slice that the struct holds and the place that was told, `behind` on the step told, the new place is stored beside the slice, and the borrow is closed at the struct with it.
+-- `fields::cursor::next` meets its contract: a walk of its MIR, by hand. The borrow is opened, `place` is called on a copy of the struct, `cut_at` on the slice that the struct holds and the place that was told, `behind` on the step told, the new place is stored beside the slice, and the borrow is closed at the struct with it.
 -- All that the proof knows of the three is that each meets its contract. The struct is Copy: what it owns is had once more for each call that needs it, whole for `place` and what file owns for `cut_at`, and stays for the closing.
 -- Assumes nothing.
 use mathlib.Core.Path.{_≡_, refl, ap, _∙_}
@@ -44,32 +44,32 @@ use denote.Triple.Entry.{alive, onEntry}
 use denote.Triple.Spec.{Meets, tripleOf}
 use denote.Triple.Table.{entered, cited}
 use denote.Triple.Walked.{says, needs, Stays, stay-ref, walkOf, goes-ref, Walks, ends-at, walked, walk-meets}
-use Rattle.circuit.specs.Stages.{StepIs}
-use Rattle.circuit.specs.Steps.{behindStep}
-use Rattle.circuit.specs.declared.cursor.Reader.{Reader}
-use Rattle.circuit.specs.declared.fields.Step.{Step}
-use Rattle.circuit.specs.declared.fields.Step.the-variants.{Whole, Broken, End}
-use Rattle.circuit.proofs.Called.{called}
-use Rattle.circuit.proofs.cursor.Reader as T
-use Rattle.circuit.proofs.cursor.Reader.Laws as T′
-use Rattle.circuit.proofs.fields.Step as S
-use Rattle.circuit.proofs.fields.Step.Laws as S′
-use Rattle.circuit.proofs.cursor.behind as behind
-use Rattle.circuit.proofs.cursor.behind.Symbol as behind-def
-use Rattle.circuit.proofs.cursor.behind.Symbol.{name as #circuit·behind}
-use Rattle.circuit.proofs.cursor.behind.Met as behind-thm
-use Rattle.circuit.proofs.cursor.cut_at as cut
-use Rattle.circuit.proofs.cursor.cut_at.Symbol as cut-def
-use Rattle.circuit.proofs.cursor.cut_at.Symbol.{name as #circuit·cut-at}
-use Rattle.circuit.proofs.cursor.cut_at.Met as cut-thm
-use Rattle.circuit.proofs.cursor.place as place
-use Rattle.circuit.proofs.cursor.place.Symbol as place-def
-use Rattle.circuit.proofs.cursor.place.Symbol.{name as #circuit·place}
-use Rattle.circuit.proofs.cursor.place.Met as place-thm
-use Rattle.circuit.proofs.cursor.next.Key.{name as #circuit·next}
-use Rattle.circuit.proofs.cursor.next as next
-use Rattle.circuit.proofs.cursor.next.Statement as stated
-use Rattle.circuit.proofs.cursor.next.Code as code
+use Rattle.fields.specs.Steps.{StepIs}
+use Rattle.fields.specs.Steps.{behindStep}
+use Rattle.fields.specs.declared.cursor.Reader.{Reader}
+use Rattle.fields.specs.declared.Step.{Step}
+use Rattle.fields.specs.declared.Step.the-variants.{Whole, Broken, End}
+use Rattle.fields.proofs.Called.{called}
+use Rattle.fields.proofs.cursor.Reader as T
+use Rattle.fields.proofs.cursor.Reader.Laws as T′
+use Rattle.fields.proofs.Step as S
+use Rattle.fields.proofs.Step.Laws as S′
+use Rattle.fields.proofs.cursor.behind as behind
+use Rattle.fields.proofs.cursor.behind.Symbol as behind-def
+use Rattle.fields.proofs.cursor.behind.Symbol.{name as #fields·behind}
+use Rattle.fields.proofs.cursor.behind.Met as behind-thm
+use Rattle.fields.proofs.cursor.cut_at as cut
+use Rattle.fields.proofs.cursor.cut_at.Symbol as cut-def
+use Rattle.fields.proofs.cursor.cut_at.Symbol.{name as #fields·cut-at}
+use Rattle.fields.proofs.cursor.cut_at.Met as cut-thm
+use Rattle.fields.proofs.cursor.place as place
+use Rattle.fields.proofs.cursor.place.Symbol as place-def
+use Rattle.fields.proofs.cursor.place.Symbol.{name as #fields·place}
+use Rattle.fields.proofs.cursor.place.Met as place-thm
+use Rattle.fields.proofs.cursor.next.Key.{name as #fields·next}
+use Rattle.fields.proofs.cursor.next as next
+use Rattle.fields.proofs.cursor.next.Statement as stated
+use Rattle.fields.proofs.cursor.next.Code as code
 
 -- 'a, and the struct's type at it
 abbrev α : Lft → NamedLft
@@ -180,7 +180,7 @@ module _ {M : Type 1} (𝓤 : URA M) (H : Heap 𝓤) (A : Atoms 𝓤) (W : Given
       move ! (2 ∷ 4 ∷ []) $ join ! $
       frame ! $ feqI ! (List Val) (vptr b o ∷ []) (vptr b o ∷ []) refl $ fjoin3 ! $ nothing ! $ move ! (1 ∷ 0 ∷ []) $ fjoin ! $ frame ! $ done !
 
-  module _ (C : Calls 𝓤 H) (Λ : Loops 𝓤 H) (fm : FmC 𝓤 H (W .laws) C) (known-place : Triple 𝓤 (C #circuit·place) (Place 𝓤 H A at-mem run)) (known-cut : Triple 𝓤 (C #circuit·cut-at) (CutAt 𝓤 H A at-mem run)) (known-behind : Triple 𝓤 (C #circuit·behind) (Behind 𝓤 H A at-mem run)) where
+  module _ (C : Calls 𝓤 H) (Λ : Loops 𝓤 H) (fm : FmC 𝓤 H (W .laws) C) (known-place : Triple 𝓤 (C #fields·place) (Place 𝓤 H A at-mem run)) (known-cut : Triple 𝓤 (C #fields·cut-at) (CutAt 𝓤 H A at-mem run)) (known-behind : Triple 𝓤 (C #fields·behind) (Behind 𝓤 H A at-mem run)) where
     walk : ent 𝓤 (onEntry 𝓤 H A next.signature (κ, (κ′, tt)) (q, (q′, tt)) x vals) (WpFn 𝓤 H C Λ code.function (vptr b o ∷ []) Post)
     walk =
         qed W ((‵ (flft κ q) ⊛ ‵ (flft κ′ q′) ⊛ ‵ ftrue) ∷ ‵ (owns (MutRef (named 0) κ (B κ′) ∷ []) x vals) ∷ []) ∵ enter ! C Λ code.function (vptr b o ∷ []) _ $
@@ -218,13 +218,13 @@ module _ {M : Type 1} (𝓤 : URA M) (H : Heap 𝓤) (A : Atoms 𝓤) (W : Given
         keep ! (0 ∷ 1 ∷ 2 ∷ 3 ∷ 4 ∷ []) $ by ! (exits t u′ m found e″)))))))))))))
 
 module _ {M : Type 1} (𝓤 : URA M) (H : Heap 𝓤) (A : Atoms 𝓤) (W : Given 𝓤 H A) (mem : Memory → SProp 𝓤) (run : Routine → Fun 𝓤) where
-  next-walks : (C : Calls 𝓤 H) (Λ : Loops 𝓤 H) → FmC 𝓤 H (W .laws) C → Triple 𝓤 (C #circuit·place) (Place 𝓤 H A mem run) → Triple 𝓤 (C #circuit·cut-at) (CutAt 𝓤 H A mem run) → Triple 𝓤 (C #circuit·behind) (Behind 𝓤 H A mem run)
+  next-walks : (C : Calls 𝓤 H) (Λ : Loops 𝓤 H) → FmC 𝓤 H (W .laws) C → Triple 𝓤 (C #fields·place) (Place 𝓤 H A mem run) → Triple 𝓤 (C #fields·cut-at) (CutAt 𝓤 H A mem run) → Triple 𝓤 (C #fields·behind) (Behind 𝓤 H A mem run)
       → Walks 𝓤 H A next.ended stayed (WpFn 𝓤 H C Λ code.function) (next.clauses 𝓤 H A mem run)
   next-walks C Λ fm known-place known-cut known-behind = walked 𝓤 H A next.ended stayed (next.clauses 𝓤 H A mem run) (WpFn 𝓤 H C Λ code.function) (λ κs. (ptr-vals, tt)) (λ κs. (mut-tells (named 0) (κs .0) (B (κs .1 .0)), tt))
       (λ κs qs bounds a _ are. needs 𝓤 _ _ (λ within. walk 𝓤 H A W mem run (κs .0) (κs .1 .0) (qs .0) (qs .1 .0) bounds (a .0 .ptr .0) (a .0 .ptr .1) (a .0 .name) (a .0 .now) within C Λ fm known-place known-cut known-behind))
 
 next-meets : {M : Type 1} (𝓤 : URA M) (H : Heap 𝓤) (A : Atoms 𝓤) (W : Given 𝓤 H A) (mem : Memory → SProp 𝓤) (run : Routine → Fun 𝓤) (𝓣 : Tables 𝓤 H)
-    → Triple 𝓤 (𝓣 .C #circuit·place) (Place 𝓤 H A mem run) → Triple 𝓤 (𝓣 .C #circuit·cut-at) (CutAt 𝓤 H A mem run) → Triple 𝓤 (𝓣 .C #circuit·behind) (Behind 𝓤 H A mem run)
+    → Triple 𝓤 (𝓣 .C #fields·place) (Place 𝓤 H A mem run) → Triple 𝓤 (𝓣 .C #fields·cut-at) (CutAt 𝓤 H A mem run) → Triple 𝓤 (𝓣 .C #fields·behind) (Behind 𝓤 H A mem run)
     → Meets 𝓤 H A next.signature (WpFn 𝓤 H (𝓣 .C) (𝓣 .Λ) code.function) (next.spec 𝓤 H A mem run)
 next-meets 𝓤 H A W mem run 𝓣 known-place known-cut known-behind = walk-meets 𝓤 H A next.ended stayed W (goes-ref 𝓤 H A W 2 0 tt lent, tt) (next.clauses 𝓤 H A mem run) (WpFn 𝓤 H (𝓣 .C) (𝓣 .Λ) code.function) (WpFn-mono 𝓤 H (W .laws) 𝓣 code.function)
     (next-walks 𝓤 H A W mem run (𝓣 .C) (𝓣 .Λ) (fmOf 𝓤 H (W .laws) 𝓣) known-place known-cut known-behind)
@@ -233,8 +233,8 @@ pub next-spec : {M : Type 1} → stated.statement M
 unfolding code.routine tablesOf
 next-spec 𝓤 H 𝓜 𝓖 𝓡 =
     entered 𝓤 H (tripleOf 𝓤 H (𝓖 .A) next.signature (next.spec 𝓤 H (𝓖 .A) (𝓜 .mem) (𝓡 .run)))
-    (tables 𝓤 H 𝓜 𝓡 code.env .C) (tables 𝓤 H 𝓜 𝓡 code.env .Λ) #circuit·next code.function (code.unfolded 𝓤 H 𝓜 𝓡)
+    (tables 𝓤 H 𝓜 𝓡 code.env .C) (tables 𝓤 H 𝓜 𝓡 code.env .Λ) #fields·next code.function (code.unfolded 𝓤 H 𝓜 𝓡)
     (next-meets 𝓤 H (𝓖 .A) (givenOf 𝓤 H 𝓜 𝓖) (𝓜 .mem) (𝓡 .run) (tablesOf 𝓤 H 𝓜 (tables 𝓤 H 𝓜 𝓡 code.env))
-    (cited 𝓤 H (Place 𝓤 H (𝓖 .A) (𝓜 .mem) (𝓡 .run)) 𝓜 𝓡 code.env #circuit·place place-def.routine code.calls-circuit·cursor·place (place-thm.met 𝓤 H 𝓜 𝓖 𝓡))
-    (cited 𝓤 H (CutAt 𝓤 H (𝓖 .A) (𝓜 .mem) (𝓡 .run)) 𝓜 𝓡 code.env #circuit·cut-at cut-def.routine code.calls-circuit·cursor·cut-at (cut-thm.met 𝓤 H 𝓜 𝓖 𝓡))
-    (cited 𝓤 H (Behind 𝓤 H (𝓖 .A) (𝓜 .mem) (𝓡 .run)) 𝓜 𝓡 code.env #circuit·behind behind-def.routine code.calls-circuit·cursor·behind (behind-thm.met 𝓤 H 𝓜 𝓖 𝓡)))
+    (cited 𝓤 H (Place 𝓤 H (𝓖 .A) (𝓜 .mem) (𝓡 .run)) 𝓜 𝓡 code.env #fields·place place-def.routine code.calls-fields·cursor·place (place-thm.met 𝓤 H 𝓜 𝓖 𝓡))
+    (cited 𝓤 H (CutAt 𝓤 H (𝓖 .A) (𝓜 .mem) (𝓡 .run)) 𝓜 𝓡 code.env #fields·cut-at cut-def.routine code.calls-fields·cursor·cut-at (cut-thm.met 𝓤 H 𝓜 𝓖 𝓡))
+    (cited 𝓤 H (Behind 𝓤 H (𝓖 .A) (𝓜 .mem) (𝓡 .run)) 𝓜 𝓡 code.env #fields·behind behind-def.routine code.calls-fields·cursor·behind (behind-thm.met 𝓤 H 𝓜 𝓖 𝓡)))

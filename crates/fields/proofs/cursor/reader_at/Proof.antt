@@ -1,4 +1,4 @@
--- `circuit::cursor::reader_at` meets its contract: a walk of its MIR, by hand. A `Reader` is made of the slice and the place passed, in the result's local.
+-- `fields::cursor::reader_at` meets its contract: a walk of its MIR, by hand. A `Reader` is made of the slice and the place passed, in the result's local.
 -- A `&[u8]` is Copy, so what it owns is had twice: once for file at exit, and once inside the result, beside the facts of at.
 -- Assumes nothing.
 use mathlib.Core.Path.{refl}
@@ -34,13 +34,13 @@ use denote.Triple.Spec.{Meets, tripleOf}
 use denote.Triple.Table.{entered}
 use denote.Triple.Walked.{says, Stays, stay-none, stay-none-slice, walkOf, goes-none, goes-none-slice, Walks, ends-at, walked, walk-meets}
 use denote.Exit.{yes}
-use Rattle.circuit.specs.declared.cursor.Reader.{Reader}
-use Rattle.circuit.proofs.cursor.Reader as T
-use Rattle.circuit.proofs.cursor.Reader.Laws as T′
-use Rattle.circuit.proofs.cursor.reader_at.Key.{name as #circuit·reader-at}
-use Rattle.circuit.proofs.cursor.reader_at as reader-at
-use Rattle.circuit.proofs.cursor.reader_at.Statement as stated
-use Rattle.circuit.proofs.cursor.reader_at.Code as code
+use Rattle.fields.specs.declared.cursor.Reader.{Reader}
+use Rattle.fields.proofs.cursor.Reader as T
+use Rattle.fields.proofs.cursor.Reader.Laws as T′
+use Rattle.fields.proofs.cursor.reader_at.Key.{name as #fields·reader-at}
+use Rattle.fields.proofs.cursor.reader_at as reader-at
+use Rattle.fields.proofs.cursor.reader_at.Statement as stated
+use Rattle.fields.proofs.cursor.reader_at.Code as code
 
 abbrev stayed : Stays (reader-at.ended .signature .params) (reader-at.ended .kept)
 stayed = (stay-none-slice (0 ∷ []) tt (plain (λ _. u8)) yes, (stay-none (λ _. usize) yes, tt))
@@ -94,5 +94,5 @@ pub reader-at-spec : {M : Type 1} → stated.statement M
 unfolding code.routine tablesOf
 reader-at-spec 𝓤 H 𝓜 𝓖 𝓡 =
     entered 𝓤 H (tripleOf 𝓤 H (𝓖 .A) reader-at.signature (reader-at.spec 𝓤 H (𝓖 .A) (𝓜 .mem) (𝓡 .run)))
-    (tables 𝓤 H 𝓜 𝓡 code.env .C) (tables 𝓤 H 𝓜 𝓡 code.env .Λ) #circuit·reader-at code.function (code.unfolded 𝓤 H 𝓜 𝓡)
+    (tables 𝓤 H 𝓜 𝓡 code.env .C) (tables 𝓤 H 𝓜 𝓡 code.env .Λ) #fields·reader-at code.function (code.unfolded 𝓤 H 𝓜 𝓡)
     (reader-at-meets 𝓤 H (𝓖 .A) (givenOf 𝓤 H 𝓜 𝓖) (𝓜 .mem) (𝓡 .run) (tablesOf 𝓤 H 𝓜 (tables 𝓤 H 𝓜 𝓡 code.env)))

@@ -1,15 +1,15 @@
--- `circuit::cursor::cut_at` meets its contract: what is left of the file decides between its end, no whole field, and a field. Assumes nothing.
+-- `fields::cursor::cut_at` meets its contract: what is left of the file decides between its end, no whole field, and a field. Assumes nothing.
 use Prim.Native.Nat.{ℕ, _+_, _*_, _≤_}
 use mathlib.Core.Path.{_≡_, refl, ap}
 use mathlib.Core.List.{List}
 use native.Mathlib.Omega.{arith}
 use borrow.Author.Needs.{needs}
 use lib.ListN.{length, getD}
 use Rattle.circuit.specs.Fields.{twoBytes}
-use Rattle.circuit.specs.Stages.{bodyOf, fieldIn, FieldAt, StepIs}
-use Rattle.circuit.proofs.Cuts.{behind, cut-clean, cut-broken, cut-field}
-use Rattle.circuit.proofs.cursor.cut_at.Statement.{statement}
-use Rattle.circuit.proofs.cursor.cut_at.Tie as tie
+use Rattle.fields.specs.Steps.{bodyOf, fieldIn, FieldAt, StepIs}
+use Rattle.fields.proofs.Cuts.{behind, cut-clean, cut-broken, cut-field}
+use Rattle.fields.proofs.cursor.cut_at.Statement.{statement}
+use Rattle.fields.proofs.cursor.cut_at.Tie as tie
 
 -- the length that the code adds up
 len-is : (file : List ℕ) (at : ℕ) → getD file (at + 1) 0 * 256 + getD file (at + 2) 0 ≡ twoBytes file (at + 1)

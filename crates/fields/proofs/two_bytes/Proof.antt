@@ -1,9 +1,9 @@
--- `circuit::fields::two_bytes` meets its contract: 256 times the one byte, and the byte after it. Assumes nothing.
+-- `fields::two_bytes` meets its contract: 256 times the one byte, and the byte after it. Assumes nothing.
 use native.Mathlib.Omega.{arith}
 use borrow.Author.Needs.{needs}
 use Rattle.circuit.specs.Fields.{twoBytes}
-use Rattle.circuit.proofs.fields.two_bytes.Statement.{statement}
-use Rattle.circuit.proofs.fields.two_bytes.Tie as tie
+use Rattle.fields.proofs.two_bytes.Statement.{statement}
+use Rattle.fields.proofs.two_bytes.Tie as tie
 
 byte-requires : tie.Need-byte-requires
 byte-requires c κs = search needs

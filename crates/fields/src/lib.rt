@@ -1,11 +1,13 @@
 // The file cut into fields, a step at a time.
+mod cursor;
+
 use crate::cursor::next;
 use crate::cursor::reader_at;
 ghost use mathlib.Core.Path.{_≡_};
 ghost use Prim.Native.Nat.{_+_, _≤_};
 ghost use lib.ListN.{length, getD};
 ghost use Rattle.circuit.specs.Fields.{twoBytes};
-ghost use Rattle.circuit.specs.Stages.{bodyOf, StepIs, NextIs};
+ghost use Rattle.fields.specs.Steps.{bodyOf, StepIs, NextIs};
 
 // A whole field: the offset of its tag byte, its tag, and where its body starts and how long that is.
 pub struct Field {

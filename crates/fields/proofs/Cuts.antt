@@ -8,11 +8,12 @@ use native.Mathlib.Omega.{arith}
 use borrow.Author.Tests.{ltb-false, lt-ltb, le-ltb, eq-eqb, ne-eqb}
 use lib.Dec.{eqb, ltb}
 use lib.ListN.{length, getD, take, drop}
 use Rattle.circuit.specs.Fields.{Field, Cut, clean, broken, field, cutIn, cutFrom, twoBytes}
 use Rattle.circuit.specs.Table.{Test, firstOf}
-use Rattle.circuit.specs.Stages.{bodyOf, fieldIn, FieldAt, NextIs, stopped, ifPasses, section}
-use Rattle.circuit.specs.declared.fields.Field.{Field as FieldRecord}
-use Rattle.circuit.specs.declared.fields.Next.the-variants.{Other}
+use Rattle.circuit.specs.Stages.{stopped, ifPasses, section}
+use Rattle.fields.specs.Steps.{bodyOf, fieldIn, FieldAt, NextIs}
+use Rattle.fields.specs.declared.Field.{Field as FieldRecord}
+use Rattle.fields.specs.declared.Next.the-variants.{Other}
 
 -- the offset behind the field that stands at an offset, if one does
 abbrev pub behind : List ℕ → ℕ → ℕ

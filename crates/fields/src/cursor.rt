@@ -1,11 +1,11 @@
 // A reader: the file, and its place in it. No function over a struct that holds a slice is covered, so each is thin and proved by hand.
-use crate::fields::Field;
-use crate::fields::Step;
+use crate::Field;
+use crate::Step;
 ghost use mathlib.Core.Path.{_≡_};
 ghost use Prim.Native.Nat.{_<_, _≤_, _^_};
 ghost use lib.ListN.{length};
-ghost use Rattle.circuit.specs.Stages.{StepIs};
-ghost use Rattle.circuit.specs.Steps.{behindStep, Stepped};
+ghost use Rattle.fields.specs.Steps.{StepIs};
+ghost use Rattle.fields.specs.Steps.{behindStep, Stepped};
 
 pub struct Reader<'a> {
     pub file: &'a [u8],

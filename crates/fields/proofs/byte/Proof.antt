@@ -1,9 +1,9 @@
--- `circuit::fields::byte` meets its contract: inside the body it gives the byte of the file there, past its end 0. Assumes nothing.
+-- `fields::byte` meets its contract: inside the body it gives the byte of the file there, past its end 0. Assumes nothing.
 use mathlib.Core.Path.{sym}
 use borrow.Author.Needs.{needs}
-use Rattle.circuit.proofs.Bodies.{getD-body, getD-body-past}
-use Rattle.circuit.proofs.fields.byte.Statement.{statement}
-use Rattle.circuit.proofs.fields.byte.Tie as tie
+use Rattle.fields.proofs.Bodies.{getD-body, getD-body-past}
+use Rattle.fields.proofs.byte.Statement.{statement}
+use Rattle.fields.proofs.byte.Tie as tie
 
 add-result : tie.Need-add-result
 add-result c = search needs

@@ -1,4 +1,4 @@
--- `circuit::cursor::place` meets its contract: a walk of its MIR, by hand. A number is read from a field of the struct, and the struct is seen at exit as it was passed.
+-- `fields::cursor::place` meets its contract: a walk of its MIR, by hand. A number is read from a field of the struct, and the struct is seen at exit as it was passed.
 -- That the number fits its type is in the struct's relation, at the field's place.
 -- Assumes nothing.
 use mathlib.Core.Path.{refl}
@@ -32,13 +32,13 @@ use denote.Triple.Spec.{Meets, tripleOf}
 use denote.Triple.Table.{entered}
 use denote.Triple.Walked.{says, Stays, stay-none, walkOf, goes-none, Walks, ends-at, walked, walk-meets}
 use denote.Exit.{yes}
-use Rattle.circuit.specs.declared.cursor.Reader.{Reader}
-use Rattle.circuit.proofs.cursor.Reader as T
-use Rattle.circuit.proofs.cursor.Reader.Laws as T′
-use Rattle.circuit.proofs.cursor.place.Key.{name as #circuit·place}
-use Rattle.circuit.proofs.cursor.place as place
-use Rattle.circuit.proofs.cursor.place.Statement as stated
-use Rattle.circuit.proofs.cursor.place.Code as code
+use Rattle.fields.specs.declared.cursor.Reader.{Reader}
+use Rattle.fields.proofs.cursor.Reader as T
+use Rattle.fields.proofs.cursor.Reader.Laws as T′
+use Rattle.fields.proofs.cursor.place.Key.{name as #fields·place}
+use Rattle.fields.proofs.cursor.place as place
+use Rattle.fields.proofs.cursor.place.Statement as stated
+use Rattle.fields.proofs.cursor.place.Code as code
 
 -- the struct's type, over the signature's lifetimes
 abbrev B : Lfts 1 → RattleType
@@ -82,5 +82,5 @@ pub place-spec : {M : Type 1} → stated.statement M
 unfolding code.routine tablesOf
 place-spec 𝓤 H 𝓜 𝓖 𝓡 =
     entered 𝓤 H (tripleOf 𝓤 H (𝓖 .A) place.signature (place.spec 𝓤 H (𝓖 .A) (𝓜 .mem) (𝓡 .run)))
-    (tables 𝓤 H 𝓜 𝓡 code.env .C) (tables 𝓤 H 𝓜 𝓡 code.env .Λ) #circuit·place code.function (code.unfolded 𝓤 H 𝓜 𝓡)
+    (tables 𝓤 H 𝓜 𝓡 code.env .C) (tables 𝓤 H 𝓜 𝓡 code.env .Λ) #fields·place code.function (code.unfolded 𝓤 H 𝓜 𝓡)
     (place-meets 𝓤 H (𝓖 .A) (givenOf 𝓤 H 𝓜 𝓖) (𝓜 .mem) (𝓡 .run) (tablesOf 𝓤 H 𝓜 (tables 𝓤 H 𝓜 𝓡 code.env)))

@@ -1,4 +1,4 @@
--- `circuit::fields::step_at` meets its contract: a walk of its MIR, by hand. The `Reader` that `reader_at` returns is stored in a local, which is lent to `next` for a lifetime that is made for the call, and comes back. All that the proof knows of the two is that each meets its contract.
+-- `fields::step_at` meets its contract: a walk of its MIR, by hand. The `Reader` that `reader_at` returns is stored in a local, which is lent to `next` for a lifetime that is made for the call, and comes back. All that the proof knows of the two is that each meets its contract.
 -- The lifetime of the loan lies within the file's, as `next` asks: it is the meet of a new one and of the file's (`borrow.Within.Token`). In a local of a body MIR erases the lifetime of the struct's type, so the value is shown to have the type at `erased`.
 -- Assumes nothing.
 use mathlib.Core.Path.{_≡_, refl, sym, subst}
@@ -46,27 +46,27 @@ use denote.Triple.Spec.{Meets, tripleOf}
 use denote.Triple.Table.{entered, cited}
 use denote.Triple.Walked.{says, needs, Stays, stay-none, stay-none-slice, walkOf, goes-none, goes-none-slice, Walks, ends-at, walked, walk-meets}
 use denote.Exit.{yes}
-use Rattle.circuit.specs.Stages.{StepIs}
-use Rattle.circuit.specs.Steps.{Stepped}
-use Rattle.circuit.specs.declared.cursor.Reader.{Reader}
-use Rattle.circuit.specs.declared.fields.Step.{Step}
-use Rattle.circuit.proofs.cursor.Reader as T
-use Rattle.circuit.proofs.cursor.Reader.Laws as T′
-use Rattle.circuit.proofs.fields.Step as S
-use Rattle.circuit.proofs.fields.Step.Laws as S′
-use Rattle.circuit.proofs.Called.{called}
-use Rattle.circuit.proofs.cursor.reader_at as made
-use Rattle.circuit.proofs.cursor.reader_at.Symbol as made-def
-use Rattle.circuit.proofs.cursor.reader_at.Symbol.{name as #circuit·reader-at}
-use Rattle.circuit.proofs.cursor.reader_at.Met as made-thm
-use Rattle.circuit.proofs.cursor.next as next
-use Rattle.circuit.proofs.cursor.next.Symbol as next-def
-use Rattle.circuit.proofs.cursor.next.Symbol.{name as #circuit·next}
-use Rattle.circuit.proofs.cursor.next.Met as next-thm
-use Rattle.circuit.proofs.fields.step_at.Key.{name as #circuit·step-at}
-use Rattle.circuit.proofs.fields.step_at as step-at
-use Rattle.circuit.proofs.fields.step_at.Statement as stated
-use Rattle.circuit.proofs.fields.step_at.Code as code
+use Rattle.fields.specs.Steps.{StepIs}
+use Rattle.fields.specs.Steps.{Stepped}
+use Rattle.fields.specs.declared.cursor.Reader.{Reader}
+use Rattle.fields.specs.declared.Step.{Step}
+use Rattle.fields.proofs.cursor.Reader as T
+use Rattle.fields.proofs.cursor.Reader.Laws as T′
+use Rattle.fields.proofs.Step as S
+use Rattle.fields.proofs.Step.Laws as S′
+use Rattle.fields.proofs.Called.{called}
+use Rattle.fields.proofs.cursor.reader_at as made
+use Rattle.fields.proofs.cursor.reader_at.Symbol as made-def
+use Rattle.fields.proofs.cursor.reader_at.Symbol.{name as #fields·reader-at}
+use Rattle.fields.proofs.cursor.reader_at.Met as made-thm
+use Rattle.fields.proofs.cursor.next as next
+use Rattle.fields.proofs.cursor.next.Symbol as next-def
+use Rattle.fields.proofs.cursor.next.Symbol.{name as #fields·next}
+use Rattle.fields.proofs.cursor.next.Met as next-thm
+use Rattle.fields.proofs.step_at.Key.{name as #fields·step-at}
+use Rattle.fields.proofs.step_at as step-at
+use Rattle.fields.proofs.step_at.Statement as stated
+use Rattle.fields.proofs.step_at.Code as code
 
 -- the struct's type, over the signature's lifetimes
 abbrev B : Lfts 1 → RattleType
@@ -191,7 +191,7 @@ module _ {M : Type 1} (𝓤 : URA M) (H : Heap 𝓤) (A : Atoms 𝓤) (W : Given
   found : (r : Reader) (t : Step) → Made r → StepIs (now (r .file)) (r .at) t → StepIs (now s) n t
   found r t e is = subst (λ (m : ℕ). StepIs (now s) m t) (e .1) (subst (λ (x : RefT (List ℕ)). StepIs (now x) (r .at) t) (e .0) is)
 
-  module _ (C : Calls 𝓤 H) (Λ : Loops 𝓤 H) (fm : FmC 𝓤 H (W .laws) C) (known-made : Triple 𝓤 (C #circuit·reader-at) (ReaderAt 𝓤 H A mem run)) (known-next : Triple 𝓤 (C #circuit·next) (Next 𝓤 H A mem run)) where
+  module _ (C : Calls 𝓤 H) (Λ : Loops 𝓤 H) (fm : FmC 𝓤 H (W .laws) C) (known-made : Triple 𝓤 (C #fields·reader-at) (ReaderAt 𝓤 H A mem run)) (known-next : Triple 𝓤 (C #fields·next) (Next 𝓤 H A mem run)) where
     walk : Is (ShrSlice (named 0) κ u8) s (v ∷ []) → ent 𝓤 (onEntry 𝓤 H A step-at.signature (κ, tt) (q, tt) a vals) (WpFn 𝓤 H C Λ code.function (v ∷ vint w64 n ∷ []) Post)
     walk p =
         qed W (raw (onEntry 𝓤 H A step-at.signature (κ, tt) (q, tt) a vals) ∷ []) ∵ enter ! C Λ code.function (v ∷ vint w64 n ∷ []) _ $
@@ -220,13 +220,13 @@ module _ {M : Type 1} (𝓤 : URA M) (H : Heap 𝓤) (A : Atoms 𝓤) (W : Given
         move ! (1 ∷ 0 ∷ []) $ by ! (exits t u′ (found r t e (e′ .stands)))))))))))))
 
 module _ {M : Type 1} (𝓤 : URA M) (H : Heap 𝓤) (A : Atoms 𝓤) (W : Given 𝓤 H A) (mem : Memory → SProp 𝓤) (run : Routine → Fun 𝓤) where
-  step-at-walks : (C : Calls 𝓤 H) (Λ : Loops 𝓤 H) → FmC 𝓤 H (W .laws) C → Triple 𝓤 (C #circuit·reader-at) (ReaderAt 𝓤 H A mem run) → Triple 𝓤 (C #circuit·next) (Next 𝓤 H A mem run)
+  step-at-walks : (C : Calls 𝓤 H) (Λ : Loops 𝓤 H) → FmC 𝓤 H (W .laws) C → Triple 𝓤 (C #fields·reader-at) (ReaderAt 𝓤 H A mem run) → Triple 𝓤 (C #fields·next) (Next 𝓤 H A mem run)
       → Walks 𝓤 H A step-at.ended stayed (WpFn 𝓤 H C Λ code.function) (step-at.clauses 𝓤 H A mem run)
   step-at-walks C Λ fm known-made known-next = walked 𝓤 H A step-at.ended stayed (step-at.clauses 𝓤 H A mem run) (WpFn 𝓤 H C Λ code.function) (λ κs. (slice-vals, (uint-vals w64, tt))) (λ κs. (shr-slice-tells (named 0) (κs .0) u8, (uint-tells w64, tt)))
       (λ κs qs bounds a g are. needs 𝓤 _ _ (λ within. walk 𝓤 H A W mem run (κs .0) (qs .0) (a .0) (a .1 .0) (are .1 .0 .1) within C Λ fm known-made known-next (are .0)))
 
 step-at-meets : {M : Type 1} (𝓤 : URA M) (H : Heap 𝓤) (A : Atoms 𝓤) (W : Given 𝓤 H A) (mem : Memory → SProp 𝓤) (run : Routine → Fun 𝓤) (𝓣 : Tables 𝓤 H)
-    → Triple 𝓤 (𝓣 .C #circuit·reader-at) (ReaderAt 𝓤 H A mem run) → Triple 𝓤 (𝓣 .C #circuit·next) (Next 𝓤 H A mem run)
+    → Triple 𝓤 (𝓣 .C #fields·reader-at) (ReaderAt 𝓤 H A mem run) → Triple 𝓤 (𝓣 .C #fields·next) (Next 𝓤 H A mem run)
     → Meets 𝓤 H A step-at.signature (WpFn 𝓤 H (𝓣 .C) (𝓣 .Λ) code.function) (step-at.spec 𝓤 H A mem run)
 step-at-meets 𝓤 H A W mem run 𝓣 known-made known-next = walk-meets 𝓤 H A step-at.ended stayed W (goes-none-slice 𝓤 H A W 1 (0 ∷ []) tt (plain (λ _. u8)) yes, (goes-none 𝓤 H A W 1 (λ _. usize) yes (λ κs x f. refl), tt)) (step-at.clauses 𝓤 H A mem run) (WpFn 𝓤 H (𝓣 .C) (𝓣 .Λ) code.function) (WpFn-mono 𝓤 H (W .laws) 𝓣 code.function)
     (step-at-walks 𝓤 H A W mem run (𝓣 .C) (𝓣 .Λ) (fmOf 𝓤 H (W .laws) 𝓣) known-made known-next)
@@ -235,7 +235,7 @@ pub step-at-spec : {M : Type 1} → stated.statement M
 unfolding code.routine tablesOf
 step-at-spec 𝓤 H 𝓜 𝓖 𝓡 =
     entered 𝓤 H (tripleOf 𝓤 H (𝓖 .A) step-at.signature (step-at.spec 𝓤 H (𝓖 .A) (𝓜 .mem) (𝓡 .run)))
-    (tables 𝓤 H 𝓜 𝓡 code.env .C) (tables 𝓤 H 𝓜 𝓡 code.env .Λ) #circuit·step-at code.function (code.unfolded 𝓤 H 𝓜 𝓡)
+    (tables 𝓤 H 𝓜 𝓡 code.env .C) (tables 𝓤 H 𝓜 𝓡 code.env .Λ) #fields·step-at code.function (code.unfolded 𝓤 H 𝓜 𝓡)
     (step-at-meets 𝓤 H (𝓖 .A) (givenOf 𝓤 H 𝓜 𝓖) (𝓜 .mem) (𝓡 .run) (tablesOf 𝓤 H 𝓜 (tables 𝓤 H 𝓜 𝓡 code.env))
-    (cited 𝓤 H (ReaderAt 𝓤 H (𝓖 .A) (𝓜 .mem) (𝓡 .run)) 𝓜 𝓡 code.env #circuit·reader-at made-def.routine code.calls-circuit·cursor·reader-at (made-thm.met 𝓤 H 𝓜 𝓖 𝓡))
-    (cited 𝓤 H (Next 𝓤 H (𝓖 .A) (𝓜 .mem) (𝓡 .run)) 𝓜 𝓡 code.env #circuit·next next-def.routine code.calls-circuit·cursor·next (next-thm.met 𝓤 H 𝓜 𝓖 𝓡)))
+    (cited 𝓤 H (ReaderAt 𝓤 H (𝓖 .A) (𝓜 .mem) (𝓡 .run)) 𝓜 𝓡 code.env #fields·reader-at made-def.routine code.calls-fields·cursor·reader-at (made-thm.met 𝓤 H 𝓜 𝓖 𝓡))
+    (cited 𝓤 H (Next 𝓤 H (𝓖 .A) (𝓜 .mem) (𝓡 .run)) 𝓜 𝓡 code.env #fields·next next-def.routine code.calls-fields·cursor·next (next-thm.met 𝓤 H 𝓜 𝓖 𝓡)))

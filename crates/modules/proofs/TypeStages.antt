@@ -1,0 +1,155 @@
+-- Reading a type and its edges field by field is reading the type, then all its edges, then judging it; and judged types stop, or go on with the next type.
+use Prim.Native.Nat.{ℕ, _+_, _-_}
+use mathlib.Core.Path.{_≡_, refl, sym, ap, _∙_}
+use mathlib.Core.Bool.{Bool, true, false, cond, not, _&&_}
+use mathlib.Core.List.{List, [], _∷_, _++_}
+use native.Mathlib.Omega.{arith}
+use borrow.Author.Tests.{eq-eqb, ne-eqb}
+use lib.Dec.{T, eqb}
+use lib.ListN.{length, length-append}
+use lib.Seq.{getD-append-seam, set-append-seam}
+use Rattle.switch.specs.Conduction.{Edge}
+use Rattle.switch.specs.Modules.{ModuleType}
+use Rattle.switch.specs.Deciding.{isComplementary}
+use Rattle.circuit.specs.Fields.{Field, Cut, clean, broken, field, cutFrom}
+use Rattle.circuit.specs.Circuit.{noType}
+use Rattle.circuit.specs.Known.{tagOf, typeIn, edgeIn, latest, withEdge, edgeAdded}
+use Rattle.circuit.specs.Table.{Verdict, passes, refused, firstOf, notComplementary, isEmpty, isUnknown, typeTests, edgeTests}
+use Rattle.circuit.specs.Answers.{isRefused}
+use Rattle.circuit.specs.Stages.{Stage, stopped, failed, ifPasses, section, edgeStage, failingBefore, failingVerdict, judged, typeStage}
+use Rattle.fields.specs.Steps.{bodyOf, fieldIn, FieldAt, NextIs}
+use Rattle.fields.specs.declared.Field.{Field as FieldRecord}
+use Rattle.fields.specs.declared.Next.the-variants.{Other}
+
+-- ---- a type, then its edges
+
+not-empty : {A : Type 0} (as′ : List A) (a : A) → isEmpty (as′ ++ (a ∷ [])) ≡ false
+unfolding isEmpty
+not-empty [] a = refl
+not-empty (b ∷ bs) a = refl
+
+last-place : {A : Type 0} (as′ : List A) (a : A) → length (as′ ++ (a ∷ [])) - 1 ≡ length as′
+last-place as′ a = omega (arith, length-append as′ (a ∷ []))
+
+pub latest-snoc : (types : List ModuleType) (t : ModuleType) → latest (types ++ (t ∷ [])) ≡ t
+unfolding latest
+latest-snoc types t = rw (last-place types t) (getD-append-seam types t [] noType)
+
+edge-added-snoc : (types : List ModuleType) (t : ModuleType) (e : Edge) → edgeAdded (types ++ (t ∷ [])) e ≡ types ++ (withEdge t e ∷ [])
+unfolding edgeAdded
+edge-added-snoc types t e = rw (latest-snoc types t, last-place types t) (set-append-seam types t [] (withEdge t e))
+
+-- what comes of a type after its edges
+unfoldable pub afterEdges : List ModuleType → ℕ → Stage ModuleType → Stage (List ModuleType)
+afterEdges types typeAt (stopped t cut) = typeStage (types ++ (t ∷ [])) typeAt cut
+afterEdges types typeAt (failed number place) = failed number place
+
+after-if : (types : List ModuleType) (typeAt : ℕ) (v : Verdict) (s : Stage ModuleType)
+    → ifPasses v (afterEdges types typeAt s) ≡ afterEdges types typeAt (ifPasses v s)
+unfolding ifPasses afterEdges
+after-if types typeAt passes s = refl
+after-if types typeAt (refused number place) s = refl
+
+-- an edge at a time, or all edges first
+pub edges-first : (types : List ModuleType) (t : ModuleType) (typeAt : ℕ) (cut : Cut)
+    → typeStage (types ++ (t ∷ [])) typeAt cut ≡ afterEdges types typeAt (edgeStage t cut)
+unfolding section afterEdges typeStage
+edges-first types t typeAt clean = refl
+edges-first types t typeAt (broken at) = refl
+edges-first types t typeAt (field f rest) = go (eqb (f .tag) 3) refl (edges-first types (withEdge t (edgeIn (f .body))) typeAt rest)
+  where
+    go : (b : Bool) → eqb (f .tag) 3 ≡ b
+        → typeStage (types ++ (withEdge t (edgeIn (f .body)) ∷ [])) typeAt rest ≡ afterEdges types typeAt (edgeStage (withEdge t (edgeIn (f .body))) rest)
+        → typeStage (types ++ (t ∷ [])) typeAt (field f rest) ≡ afterEdges types typeAt (edgeStage t (field f rest))
+    go true e later =
+        rw (typeStage, e, not-empty types t, latest-snoc types t, edge-added-snoc types t (edgeIn (f .body)), later)
+        (after-if types typeAt (firstOf (edgeTests t (f .at) (f .body))) (edgeStage (withEdge t (edgeIn (f .body))) rest))
+    go false e later =
+        let stays : edgeStage t (field f rest) ≡ stopped t (field f rest) = rw e in ap (afterEdges types typeAt) (sym stays)
+
+-- ---- a type judged
+
+-- a verdict that refuses leaves nothing of what comes after
+refused-leaves : {A : Type 0} (v : Verdict) → isRefused v ≡ true → (s u : Stage A) → ifPasses v s ≡ ifPasses v u
+unfolding ifPasses isRefused
+refused-leaves passes e s u = cc
+refused-leaves (refused number place) e s u = refl
+
+pub failing-refuses : (typeAt : ℕ) (cut : Cut) → isRefused (failingVerdict typeAt cut) ≡ true
+unfolding failingVerdict failingBefore isRefused
+failing-refuses typeAt clean = refl
+failing-refuses typeAt (broken at) = refl
+failing-refuses typeAt (field f rest) = go (isUnknown (tagOf (f .tag))) (eqb (f .tag) 1)
+  where
+    go : (a b : Bool) → isRefused (cond a (refused 3 (f .at)) (cond b (refused 4 (f .at)) (refused 9 typeAt))) ≡ true
+    go true b = refl
+    go false true = refl
+    go false false = refl
+
+failing-leaves : {A : Type 0} (typeAt : ℕ) (cut : Cut) (s u : Stage A) → ifPasses (failingVerdict typeAt cut) s ≡ ifPasses (failingVerdict typeAt cut) u
+failing-leaves typeAt cut s u = refused-leaves (failingVerdict typeAt cut) (failing-refuses typeAt cut) s u
+
+-- where no edge stands the latest type is judged before anything else
+abbrev pub NoEdge : Cut → Type 0
+NoEdge cut = (f : Field) (rest : Cut) → cut ≡ field f rest → f .tag ≡ 3 → ⊥
+
+module _ (types : List ModuleType) (t : ModuleType) (typeAt : ℕ) where
+  judged-latest : (cut : Cut) → judged (types ++ (t ∷ [])) typeAt cut ≡ cond (not (isComplementary t)) (failingVerdict typeAt cut) passes
+  unfolding judged notComplementary
+  judged-latest cut = rw (not-empty types t, latest-snoc types t)
+
+  -- a type that is not complementary is refused where its edges end
+  pub failing-stage : (cut : Cut) → NoEdge cut → isComplementary t ≡ false → (s : Stage (List ModuleType))
+      → typeStage (types ++ (t ∷ [])) typeAt cut ≡ ifPasses (failingVerdict typeAt cut) s
+  unfolding typeStage
+  failing-stage clean none e s = rw (judged-latest clean, e) (failing-leaves typeAt clean _ s)
+  failing-stage (broken at) none e s = rw (judged-latest (broken at), e) (failing-leaves typeAt (broken at) _ s)
+  failing-stage (field f rest) none e s =
+      rw (ne-eqb (f .tag) 3 (none f rest refl), judged-latest (field f rest), e) (failing-leaves typeAt (field f rest) _ s)
+
+-- ---- types that are judged, before what stands next
+
+-- every type is complementary, and what stands next is no edge of the latest type
+pub record Settled (types : List ModuleType) (cut : Cut) : Type 0 where
+  pub sound : (typeAt : ℕ) → judged types typeAt cut ≡ passes
+  pub no-edge : (f : Field) (rest : Cut) → cut ≡ field f rest → (eqb (f .tag) 3 && not (isEmpty types)) ≡ false
+
+pub settled-none : (cut : Cut) → Settled [] cut
+unfolding judged isEmpty
+settled-none cut = record { sound = λ typeAt. refl; no-edge = λ f rest e. never (eqb (f .tag) 3) }
+  where
+    never : (b : Bool) → (b && false) ≡ false
+    never true = refl
+    never false = refl
+
+pub settled-more : (types : List ModuleType) (t : ModuleType) (cut : Cut) → T (isComplementary t) → NoEdge cut → Settled (types ++ (t ∷ [])) cut
+settled-more types t cut p none = record {
+  sound = λ typeAt. judged-latest types t typeAt cut ∙ rw (is-true (isComplementary t) p);
+  no-edge = λ f rest e. rw (ne-eqb (f .tag) 3 (none f rest e));
+}
+  where
+    is-true : (b : Bool) → T b → b ≡ true
+    is-true true q = refl
+    is-true false q = absurd q
+
+module _ (types : List ModuleType) (typeAt : ℕ) (file : List ℕ) (at : ℕ) (settled : Settled types (cutFrom file at)) where
+  -- at a type
+  pub type-step : (f : FieldRecord) → FieldAt file at f → f .tag ≡ 2
+      → typeStage types typeAt (cutFrom file at)
+      ≡ ifPasses (firstOf (typeTests (length types) (f .at) (bodyOf file f)))
+      (typeStage (types ++ (typeIn (bodyOf file f) ∷ [])) (f .at) (cutFrom file (f .body + f .len)))
+  unfolding typeStage fieldIn ifPasses
+  type-step f here own =
+      let cut : Cut = field (fieldIn file f) (cutFrom file (f .body + f .len)) in
+      let sound : judged types typeAt cut ≡ passes = rw (here .cut) at (settled .sound typeAt) in
+      rw (here .cut, settled .no-edge (fieldIn file f) (cutFrom file (f .body + f .len)) (here .cut), sound, eq-eqb (f .tag) 2 own)
+
+  -- at anything else
+  pub type-stop : NextIs file at 2 Other → typeStage types typeAt (cutFrom file at) ≡ stopped types (cutFrom file at)
+  unfolding NextIs typeStage ifPasses
+  type-stop other = go (cutFrom file at) refl (settled .sound typeAt)
+    where
+      go : (cut : Cut) → cutFrom file at ≡ cut → judged types typeAt cut ≡ passes → typeStage types typeAt cut ≡ stopped types cut
+      go clean e sound = rw sound
+      go (broken place) e sound = rw sound
+      go (field f rest) e sound = rw (settled .no-edge f rest e, sound, ne-eqb (f .tag) 2 (other f rest e))

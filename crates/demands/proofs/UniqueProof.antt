@@ -106,9 +106,9 @@ unique = record {
   circuit-number-of = λ r. by-equation;
   circuit-place-of = λ r. by-equation;
   modules-no-type = by-equation;
-  instances-no-bridge = by-equation;
+  bridges-no-bridge = by-equation;
   instances-no-instance = by-equation;
-  instances-lists-of = λ bridges count listed r s p q.
+  bridges-lists-of = λ bridges count listed r s p q.
       by-equation r s (p (listed .bridges) (listed .counted) (listed .within) (listed .ranges) (listed .is))
       (q (listed .bridges) (listed .counted) (listed .within) (listed .ranges) (listed .is));
   reader-read = λ file. answers-unique (readingOf file);

@@ -35,8 +35,8 @@ use Rattle.fields.specs.declared.Field.{Field}
 use Rattle.fields.specs.declared.Next.{Next}
 use Rattle.fields.specs.declared.Step.{Step}
 use Rattle.circuit.specs.declared.refusal.Refusal.{Refusal}
-use Rattle.instances.specs.ListSums.{ListedBridges, SummedTo}
-use Rattle.instances.specs.declared.lists.Lists.{Lists}
+use Rattle.bridges.specs.ListSums.{ListedBridges, SummedTo}
+use Rattle.bridges.specs.declared.lists.Lists.{Lists}
 use Rattle.grading.specs.Given.{CircuitGiven, Read}
 use Rattle.grading.specs.Promise.{numberOf, placeOf, countsOf, countsMeant, Promise, PromiseOfRead}
 use Rattle.grading.specs.declared.Answer.{Answer}
@@ -108,12 +108,12 @@ pub record Unique : Type 0 where
   pub circuit-place-of : (r : Refusal) → One λ (p : ℕ). p ≡ reading.placeOf r
   -- modules::types::no_type
   pub modules-no-type : One λ (r : ModuleType). r ≡ unusedType
-  -- instances::bridges::no_bridge
-  pub instances-no-bridge : One λ (r : Bridge). r ≡ unusedBridge
+  -- bridges::no_bridge
+  pub bridges-no-bridge : One λ (r : Bridge). r ≡ unusedBridge
   -- instances::instances::no_instance
   pub instances-no-instance : One λ (r : Instance). r ≡ unusedInstance
-  -- instances::lists::lists_of
-  pub instances-lists-of : (bridges : List Bridge) (count : ℕ) → ListedBridges bridges count → One λ (r : Lists). SummedTo bridges count r
+  -- bridges::lists::lists_of
+  pub bridges-lists-of : (bridges : List Bridge) (count : ℕ) → ListedBridges bridges count → One λ (r : Lists). SummedTo bridges count r
   -- reader::read::read
   pub reader-read : (file : List ℕ) → One λ (r : Reading). Answers (readingOf file) r
   -- grading::answers::number_of

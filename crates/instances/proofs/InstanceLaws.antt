@@ -25,18 +25,18 @@ use Rattle.circuit.specs.Numbers.{signed, choiceOf, choiceInRange, referenceGoo
 use Rattle.circuit.specs.Known.{referencesIn, instanceIn}
 use Rattle.circuit.specs.Records.{padded, unusedEdge, unusedType, typeRecord}
 use Rattle.circuit.specs.Table.{Test, passes, firstOf, listUnsuited, listEmpty, instanceTests}
-use Rattle.instances.specs.ListSums.{topNode, labelsNamed, most, listsOf}
+use Rattle.bridges.specs.ListSums.{topNode, labelsNamed, most, listsOf}
 use Rattle.instances.specs.Choices.{listNamed, chosenOf, givenBy}
 use Rattle.instances.specs.ReadInstances.{shapesOf, gatheredTests, InstanceFits, TypesAndLists}
 use Rattle.modules.specs.ReadTypes.{goodType}
 use Rattle.instances.specs.declared.choices.Chosen.{Chosen}
 use Rattle.instances.specs.declared.shapes.Shapes.{Shapes}
-use Rattle.instances.specs.declared.lists.Lists.{Lists}
+use Rattle.bridges.specs.declared.lists.Lists.{Lists}
 use Rattle.circuit.proofs.Padding.{getD-padded, padded-nil}
 use Rattle.circuit.proofs.Verdicts.{first-passes}
 use Rattle.circuit.proofs.RangeLaws.{between-in, in-between}
 use Rattle.instances.proofs.ReferenceLaws.{length-references}
-use Rattle.instances.proofs.ListLaws.{unsuited, empty-length, count-at, node-at, label-at, length-list}
+use Rattle.bridges.proofs.ListLaws.{unsuited, empty-length, count-at, node-at, label-at, length-list}
 
 -- ---- what a list choice gives
 

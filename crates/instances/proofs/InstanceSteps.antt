@@ -17,7 +17,7 @@ use Rattle.circuit.specs.Stages.{instanceStage, stageOf}
 use Rattle.fields.specs.Steps.{bodyOf, FieldAt, NextIs}
 use Rattle.instances.specs.ReadInstances.{InstancesRead}
 use Rattle.circuit.specs.declared.Instance.{Instance as InstanceRecord}
-use Rattle.instances.specs.declared.lists.Lists.{Lists}
+use Rattle.bridges.specs.declared.lists.Lists.{Lists}
 use Rattle.fields.specs.declared.Field.{Field as FieldRecord}
 use Rattle.fields.specs.declared.Next.the-variants.{Other}
 use Rattle.circuit.specs.declared.refusal.Refusal.{Refusal}

@@ -1,6 +1,4 @@
--- What the functions that read bridges and instances rest on.
-pub mod BridgeLaws
+-- What the functions that read instances rest on.
 pub mod InstanceLaws
 pub mod InstanceSteps
-pub mod ListLaws
 pub mod ReferenceLaws

@@ -5,7 +5,7 @@ use lib.Dec.{leb, ltb, eqb}
 use lib.ListN.{getD}
 use Rattle.circuit.specs.Circuit.{exhaustiveSize}
 use Rattle.instances.specs.declared.choices.Chosen.{Chosen}
-use Rattle.instances.specs.declared.lists.Lists.{Lists}
+use Rattle.bridges.specs.declared.lists.Lists.{Lists}
 
 -- the number of the user list that a choice names, 0 where it names none
 unfoldable pub listNamed : ℕ → ℕ

@@ -1,5 +1,3 @@
 -- What the functions of the crate `instances` promise. What reading means is in the crate `circuit`.
-pub mod ReadBridges
-pub mod ListSums
 pub mod Choices
 pub mod ReadInstances

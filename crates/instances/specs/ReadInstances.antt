@@ -18,13 +18,13 @@ use Rattle.circuit.specs.Answers.{verdictOf}
 use Rattle.circuit.specs.Known.{referencesIn}
 use Rattle.circuit.specs.Numbers.{signed, choiceInRange, referenceGood}
 use Rattle.circuit.specs.Stages.{stageOf, instanceStage}
-use Rattle.instances.specs.declared.lists.Lists.{Lists}
+use Rattle.bridges.specs.declared.lists.Lists.{Lists}
 use Rattle.instances.specs.declared.instances.Instances.{Instances}
 use Rattle.instances.specs.declared.shapes.Shapes.{Shapes}
 use Rattle.instances.specs.declared.choices.Chosen.{Chosen}
 use Rattle.modules.specs.ReadTypes.{goodType}
-use Rattle.instances.specs.ReadBridges.{listedInRange}
-use Rattle.instances.specs.ListSums.{listsOf}
+use Rattle.bridges.specs.ReadBridges.{listedInRange}
+use Rattle.bridges.specs.ListSums.{listsOf}
 
 -- of each of the first n places for types, the highest node and the number of labels; 0 in the others
 abbrev pub shapesOf : List TypeRecord → ℕ → Shapes

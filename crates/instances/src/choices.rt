@@ -1,5 +1,5 @@
 // List choices: what a choice gives an instance, told from the lists in sum.
-use crate::lists::Lists;
+use bridges::lists::Lists;
 ghost use mathlib.Core.Path.{_≡_};
 ghost use Rattle.instances.specs.Choices.{listNamed, chosenOf, givenBy};
 

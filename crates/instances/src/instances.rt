@@ -1,12 +1,12 @@
 // Instances: the fields with tag 5, each held to its type, to what stands before it, and to its list.
 use crate::choices::Chosen;
 use crate::choices::given_by;
-use crate::lists::Lists;
 use crate::references::reference_count;
 use crate::references::reference_in;
 use crate::references::references_good;
 use crate::shapes::of_type;
 use crate::shapes::shapes_of;
+use bridges::lists::Lists;
 use circuit::Instance;
 use circuit::Reference;
 use circuit::limits::MOST_FAULTS;

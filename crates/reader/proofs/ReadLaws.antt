@@ -22,8 +22,8 @@ use Rattle.circuit.specs.Answers.{verdictOf, isRefused, orIf, Tells, Answers}
 use Rattle.circuit.specs.Stages.{Stage, bridgeStage, instanceStage, vectorStage, endedVerdict, pastVerdict, endingVerdict, afterStage, afterInputs, fromStart, staged, stageOf}
 use Rattle.fields.specs.Steps.{bodyOf, fieldIn, FieldAt, NextIs}
 use Rattle.modules.specs.ReadTypes.{TypesRead}
-use Rattle.instances.specs.ReadBridges.{BridgesRead}
-use Rattle.instances.specs.ListSums.{SummedTo}
+use Rattle.bridges.specs.ReadBridges.{BridgesRead}
+use Rattle.bridges.specs.ListSums.{SummedTo}
 use Rattle.instances.specs.ReadInstances.{TypesAndLists, InstancesRead}
 use Rattle.reader.specs.ReadVectors.{VectorsRead}
 use Rattle.reader.specs.Whole.{StartRead, wholeOf}
@@ -37,8 +37,8 @@ use Rattle.fields.specs.declared.Field.{Field as FieldRecord}
 use Rattle.fields.specs.declared.Next.the-variants.{Other}
 use Rattle.circuit.specs.declared.refusal.Refusal.{Refusal}
 use Rattle.modules.specs.declared.types.Types.{Types}
-use Rattle.instances.specs.declared.bridges.Bridges.{Bridges}
-use Rattle.instances.specs.declared.lists.Lists.{Lists}
+use Rattle.bridges.specs.declared.Bridges.{Bridges}
+use Rattle.bridges.specs.declared.lists.Lists.{Lists}
 use Rattle.instances.specs.declared.instances.Instances.{Instances}
 use Rattle.reader.specs.declared.read.Start.{Start}
 use Rattle.reader.specs.declared.vectors.Vectors.{Vectors}

@@ -1,4 +1,6 @@
-// Bridges: the fields with tag 4, kept in file order.
+// Bridges: the fields with tag 4, kept in file order; and the user lists in sum.
+pub mod lists;
+
 use circuit::Bridge;
 use circuit::limits::MOST_BRIDGES;
 use circuit::refusal::Refusal;
@@ -16,7 +18,7 @@ ghost use Rattle.circuit.specs.Table.{firstOf, bridgeInRange, bridgeTests};
 ghost use Rattle.circuit.specs.Records.{unusedBridge, bridgeRecord};
 ghost use Rattle.circuit.specs.Answers.{verdictOf};
 ghost use Rattle.fields.specs.Steps.{bodyOf};
-ghost use Rattle.instances.specs.ReadBridges.{BridgesRead};
+ghost use Rattle.bridges.specs.ReadBridges.{BridgesRead};
 
 pub struct Bridges {
     pub refusal: Refusal,

@@ -1,9 +1,9 @@
--- `instances::bridges::bridge_in` meets its contract: four bytes of a body are the record of its bridge. Assumes nothing.
+-- `bridges::bridge_in` meets its contract: four bytes of a body are the record of its bridge. Assumes nothing.
 use borrow.Author.Needs.{needs}
 use Rattle.fields.specs.Steps.{bodyOf}
-use Rattle.instances.proofs.BridgeLaws.{record-in}
-use Rattle.instances.proofs.bridges.bridge_in.Statement.{statement}
-use Rattle.instances.proofs.bridges.bridge_in.Tie as tie
+use Rattle.bridges.proofs.BridgeLaws.{record-in}
+use Rattle.bridges.proofs.bridge_in.Statement.{statement}
+use Rattle.bridges.proofs.bridge_in.Tie as tie
 
 byte-requires : tie.Need-byte-requires
 byte-requires c κs = search needs

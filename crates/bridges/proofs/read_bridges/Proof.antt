@@ -1,4 +1,4 @@
--- `instances::bridges::read_bridges` meets its contract. The loop's invariant: some bridges are read, they stand in the record, and the stage goes on
+-- `bridges::read_bridges` meets its contract. The loop's invariant: some bridges are read, they stand in the record, and the stage goes on
 -- from them. The measure is what is left of the file. Assumes nothing.
 use Prim.Native.Nat.{ℕ, _-_}
 use mathlib.Core.Path.{_≡_, sym, _∙_}
@@ -11,9 +11,9 @@ use Rattle.circuit.specs.Answers.{verdictOf}
 use Rattle.fields.specs.Steps.{bodyOf, NextIs, FieldAt}
 use Rattle.fields.specs.declared.Field.{Field as FieldRecord}
 use Rattle.circuit.proofs.Verdicts.{passes-is}
-use Rattle.instances.proofs.BridgeLaws.{BridgesSoFar, no-bridges, bridges-stop, bridges-refused, BridgeFits, bridge-fits, one-bridge-more}
-use Rattle.instances.proofs.bridges.read_bridges.Statement.{statement}
-use Rattle.instances.proofs.bridges.read_bridges.Tie as tie
+use Rattle.bridges.proofs.BridgeLaws.{BridgesSoFar, no-bridges, bridges-stop, bridges-refused, BridgeFits, bridge-fits, one-bridge-more}
+use Rattle.bridges.proofs.read_bridges.Statement.{statement}
+use Rattle.bridges.proofs.read_bridges.Tie as tie
 
 abbrev Inv-loop : tie.InvT-loop
 Inv-loop file from all₀ count₀ at₀ all count at = BridgesSoFar file from all count at

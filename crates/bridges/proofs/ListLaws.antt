@@ -20,8 +20,8 @@ use Rattle.circuit.specs.Limits.{mostBridges}
 use Rattle.circuit.specs.Circuit.{Listed, userList}
 use Rattle.circuit.specs.Table.{bridgeSuits, isEmpty}
 use Rattle.circuit.specs.Records.{padded, unusedBridge, bridgeRecord, bridgeRecordIn}
-use Rattle.instances.specs.ListSums.{topNode, labelsNamed, most, listsOf, topOfRecord, labelsOfRecord}
-use Rattle.instances.specs.ReadBridges.{bridgeBelow, listedInRange}
+use Rattle.bridges.specs.ListSums.{topNode, labelsNamed, most, listsOf, topOfRecord, labelsOfRecord}
+use Rattle.bridges.specs.ReadBridges.{bridgeBelow, listedInRange}
 use Rattle.circuit.specs.declared.Bridge.{Bridge as BridgeRecord}
 use Rattle.circuit.proofs.Padding.{getD-padded}
 

@@ -12,8 +12,8 @@ use Rattle.circuit.specs.Limits.{mostBridges}
 use Rattle.circuit.specs.Circuit.{Listed, userList}
 use Rattle.circuit.specs.Records.{padded, unusedBridge, bridgeRecord}
 use Rattle.circuit.specs.declared.Bridge.{Bridge as BridgeRecord}
-use Rattle.instances.specs.declared.lists.Lists.{Lists}
-use Rattle.instances.specs.ReadBridges.{listedInRange}
+use Rattle.bridges.specs.declared.lists.Lists.{Lists}
+use Rattle.bridges.specs.ReadBridges.{listedInRange}
 
 unfoldable pub topNode : Bridge → ℕ
 topNode (nodes a b) = max a b

@@ -1,4 +1,4 @@
--- `instances::bridges::bridge_verdict` meets its contract: one call for each test of the table. Assumes nothing.
+-- `bridges::bridge_verdict` meets its contract: one call for each test of the table. Assumes nothing.
 use mathlib.Core.Path.{_∙_}
 use mathlib.Core.List.{List}
 use Prim.Native.Nat.{ℕ}
@@ -6,9 +6,9 @@ use borrow.Author.Needs.{needs}
 use Rattle.circuit.specs.Answers.{verdictOf, numberedVerdict, numberOf, placeOf}
 use Rattle.fields.specs.Steps.{bodyOf}
 use Rattle.fields.proofs.Bodies.{length-body}
-use Rattle.instances.proofs.BridgeLaws.{one-by-one}
-use Rattle.instances.proofs.bridges.bridge_verdict.Statement.{statement}
-use Rattle.instances.proofs.bridges.bridge_verdict.Tie as tie
+use Rattle.bridges.proofs.BridgeLaws.{one-by-one}
+use Rattle.bridges.proofs.bridge_verdict.Statement.{statement}
+use Rattle.bridges.proofs.bridge_verdict.Tie as tie
 
 byte-requires : tie.Need-byte-requires
 byte-requires c κs = search needs

@@ -1,4 +1,4 @@
--- `instances::lists::lists_of` meets its contract. The loop's invariant: the columns are the sums of the first `i` bridges. Assumes nothing.
+-- `bridges::lists::lists_of` meets its contract. The loop's invariant: the columns are the sums of the first `i` bridges. Assumes nothing.
 use Prim.Native.Nat.{ℕ, _+_, _-_, _≤_, _<_, max}
 use mathlib.Core.Path.{refl, ap, _∙_}
 use mathlib.Core.List.{List}
@@ -10,9 +10,9 @@ use lib.Seq.{take-all}
 use Rattle.circuit.specs.Circuit.{Listed}
 use Rattle.circuit.specs.Records.{unusedBridge}
 use Rattle.circuit.specs.declared.Bridge.{Bridge as BridgeRecord}
-use Rattle.instances.proofs.ListLaws.{ToldBy, SumsOf, no-sums, sums-more, bridge-at, taken-more, read-at, counted-at, length-list}
-use Rattle.instances.proofs.lists.lists_of.Statement.{statement}
-use Rattle.instances.proofs.lists.lists_of.Tie as tie
+use Rattle.bridges.proofs.ListLaws.{ToldBy, SumsOf, no-sums, sums-more, bridge-at, taken-more, read-at, counted-at, length-list}
+use Rattle.bridges.proofs.lists.lists_of.Statement.{statement}
+use Rattle.bridges.proofs.lists.lists_of.Tie as tie
 
 abbrev Inv-loop : tie.InvT-loop
 Inv-loop count bridges counts₀ nodes₀ labels₀ i₀ counts nodes labels i =

@@ -1,10 +1,10 @@
--- `instances::lists::labels_named` meets its contract. Assumes nothing.
+-- `bridges::lists::labels_named` meets its contract. Assumes nothing.
 use native.Mathlib.Numerals.{add-one}
 use borrow.Author.Needs.{needs}
 use borrow.Author.Tests.{eq-eqb, ne-eqb}
-use Rattle.instances.specs.ListSums.{labelsOfRecord}
-use Rattle.instances.proofs.lists.labels_named.Statement.{statement}
-use Rattle.instances.proofs.lists.labels_named.Tie as tie
+use Rattle.bridges.specs.ListSums.{labelsOfRecord}
+use Rattle.bridges.proofs.lists.labels_named.Statement.{statement}
+use Rattle.bridges.proofs.lists.labels_named.Tie as tie
 
 returns : tie.Need-returns
 unfolding labelsOfRecord

@@ -1,10 +1,10 @@
--- `instances::lists::top_node` meets its contract. Assumes nothing.
+-- `bridges::lists::top_node` meets its contract. Assumes nothing.
 use mathlib.Core.Path.{_∙_}
 use borrow.Author.Needs.{needs}
 use borrow.Author.Tests.{eq-eqb, ne-eqb}
-use Rattle.instances.specs.ListSums.{topOfRecord}
-use Rattle.instances.proofs.lists.top_node.Statement.{statement}
-use Rattle.instances.proofs.lists.top_node.Tie as tie
+use Rattle.bridges.specs.ListSums.{topOfRecord}
+use Rattle.bridges.proofs.lists.top_node.Statement.{statement}
+use Rattle.bridges.proofs.lists.top_node.Tie as tie
 
 larger-requires : tie.Need-larger-requires
 larger-requires c κs = search needs

@@ -14,7 +14,7 @@ use Rattle.circuit.specs.Circuit.{Listed}
 use Rattle.circuit.specs.Records.{padded, unusedBridge, bridgeRecord}
 use Rattle.circuit.specs.Answers.{verdictOf}
 use Rattle.circuit.specs.Stages.{stageOf, bridgeStage}
-use Rattle.instances.specs.declared.bridges.Bridges.{Bridges}
+use Rattle.bridges.specs.declared.Bridges.{Bridges}
 
 -- a bridge that has passed its tests
 unfoldable pub bridgeBelow : Bridge → Bool

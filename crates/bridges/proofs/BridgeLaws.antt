@@ -20,7 +20,7 @@ use Rattle.circuit.specs.Records.{unusedBridge, bridgeRecord, bridgeRecordIn}
 use Rattle.circuit.specs.Answers.{verdictOf, numberOf, placeOf, numberedVerdict, isRefused, orIf}
 use Rattle.circuit.specs.Stages.{bridgeStage, stageOf}
 use Rattle.fields.specs.Steps.{bodyOf, FieldAt, NextIs}
-use Rattle.instances.specs.ReadBridges.{bridgeBelow, listedInRange, BridgesRead}
+use Rattle.bridges.specs.ReadBridges.{bridgeBelow, listedInRange, BridgesRead}
 use Rattle.circuit.specs.declared.Bridge.{Bridge as BridgeRecord}
 use Rattle.fields.specs.declared.Field.{Field as FieldRecord}
 use Rattle.fields.specs.declared.Next.the-variants.{Other}

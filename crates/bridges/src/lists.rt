@@ -3,7 +3,7 @@ use circuit::Bridge;
 use circuit::limits::MOST_BRIDGES;
 ghost use mathlib.Core.Path.{_≡_};
 ghost use Prim.Native.Nat.{_≤_, max};
-ghost use Rattle.instances.specs.ListSums.{ListedBridges, SummedTo, topOfRecord, labelsOfRecord};
+ghost use Rattle.bridges.specs.ListSums.{ListedBridges, SummedTo, topOfRecord, labelsOfRecord};
 
 // For each list number: the number of its bridges, the highest node that they name, and one more than the highest label, 0 where they name none.
 pub struct Lists {

@@ -1,4 +1,4 @@
--- `instances::bridges::in_range` meets its contract. Assumes nothing.
+-- `bridges::in_range` meets its contract. Assumes nothing.
 use Prim.Native.Nat.{ℕ, _≤_, _<_}
 use mathlib.Core.Path.{_≡_, sym}
 use mathlib.Core.Logic.{⊎-elim}
@@ -7,8 +7,8 @@ use borrow.Author.Tests.{le-leb, lt-leb, ltb-true, ltb-false, ne-eqb}
 use lib.Dec.{eqb, leb, ltb}
 use Rattle.switch.specs.Conduction.{between}
 use Rattle.circuit.specs.Table.{bridgeInRange}
-use Rattle.instances.proofs.bridges.in_range.Statement.{statement}
-use Rattle.instances.proofs.bridges.in_range.Tie as tie
+use Rattle.bridges.proofs.in_range.Statement.{statement}
+use Rattle.bridges.proofs.in_range.Tie as tie
 
 -- with the list number and the first node in range, the kind and the second end decide
 by-kind : (list kind first second : ℕ) → 1 ≤ list → ltb 127 list ≡ false → first ≤ 31

@@ -1,0 +1,3 @@
+-- What the functions that read bridges and sum their lists rest on.
+pub mod BridgeLaws
+pub mod ListLaws

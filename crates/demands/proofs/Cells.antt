@@ -11,7 +11,7 @@ use lib.ListN.{length, drop}
 use Rattle.words.specs.Bits.{ofBool}
 use Rattle.words.specs.Tables.{upTo}
 use Rattle.words.specs.Rows.{markAt}
-use Rattle.words.proofs.Laws.{ofBool-le-one}
+use Rattle.words.proofs.Laws.{ofBool-le-one, set-bit, bit-set}
 use Rattle.words.proofs.Tables.{up-below, up-past}
 use Rattle.words.proofs.Rows.{row-mark}
 use Rattle.switch.specs.Conduction.{Value}
@@ -20,7 +20,6 @@ use Rattle.switch.specs.Statements.{Accepted}
 use Rattle.switch.proofs.Apart.{rails-apart}
 use Rattle.switch.proofs.Deciding.{mark-decides}
 use Rattle.switch.proofs.Marks.{closed-path-is-ends}
-use Rattle.switch.proofs.RailWords.{set-bit, bit-set}
 use Rattle.circuit.specs.Circuit.{Circuit}
 use Rattle.circuit.specs.Laws.{CircuitGood}
 use Rattle.grading.specs.Rows.{Row, rowsOf, rowValues, CellMarked, cell, markOf, rowWords, matrixOf}

@@ -11,8 +11,7 @@ use lib.Dec.{T}
 use lib.ListN.{length, getD, length-append, List·getD-append}
 use lib.Seq.{getD-at}
 use Rattle.words.specs.Bits.{ofBool, sumTo}
-use Rattle.words.proofs.Laws.{ofBool-le-one}
-use Rattle.switch.proofs.RailWords.{set-bit, bit-set}
+use Rattle.words.proofs.Laws.{ofBool-le-one, set-bit, bit-set}
 use Rattle.circuit.specs.Circuit.{Circuit}
 use Rattle.grading.specs.Rows.{Row, rowsOf}
 use Rattle.grading.specs.Classes.{classAmong, largest, classesAfter, classesOf, classFound, foundAmong, classCount, foundCount}

@@ -7,9 +7,8 @@ use native.Mathlib.Omega.{arith}
 use lib.Dec.{T}
 use lib.ListN.{length, getD}
 use Rattle.words.specs.Bits.{ofBool}
-use Rattle.words.proofs.Laws.{ofBool-le-one}
+use Rattle.words.proofs.Laws.{ofBool-le-one, set-bit, bit-set}
 use Rattle.words.proofs.Sums.{sum-into, sum-ones}
-use Rattle.switch.proofs.RailWords.{set-bit, bit-set}
 use Rattle.circuit.specs.Circuit.{Circuit}
 use Rattle.grading.specs.Rows.{Row, rowsOf, markOf}
 use Rattle.grading.specs.Classes.{sameClass, classesOf, classFound, foundAmong, classCount, foundCount}

@@ -75,19 +75,19 @@ pub record Unique : Type 0 where
   pub text-put-bytes : (out : List ℕ) (at : ℕ) (bytes : List ℕ) → OneAndBuffer λ (r : ℕ) (out′ : List ℕ). (r ≡ at + length bytes) × (out′ ≡ written out at bytes)
   -- text::put_number
   pub text-put-number : (out : List ℕ) (at n : ℕ) → OneAndBuffer λ (r : ℕ) (out′ : List ℕ). (r ≡ at + length (decimal n)) × (out′ ≡ written out at (decimal n))
-  -- switch::complementary::complementary
-  pub switch-complementary : (edges : List Edge) (highest output labels : ℕ) → One λ (r : Bool). r ≡ isComplementary (typeWith highest output labels edges)
-  -- switch::complementary::check_type
-  pub switch-check-type : (t : ModuleType) → One λ (r : Bool). r ≡ isComplementary (typeOf t)
-  -- switch::joining::joining
-  pub switch-joining : (edges : List Edge) (highest output labels : ℕ) (ones zeros : List ℕ)
+  -- joining::complementary::complementary
+  pub joining-complementary : (edges : List Edge) (highest output labels : ℕ) → One λ (r : Bool). r ≡ isComplementary (typeWith highest output labels edges)
+  -- joining::complementary::check_type
+  pub joining-check-type : (t : ModuleType) → One λ (r : Bool). r ≡ isComplementary (typeOf t)
+  -- joining::rails::joining
+  pub joining-joining : (edges : List Edge) (highest output labels : ℕ) (ones zeros : List ℕ)
       → One λ (r : Rails). r ≡ railsOf (typeWith highest output labels edges) ones zeros
-  -- switch::joining::joining_of
-  pub switch-joining-of : (t : ModuleType) (ones zeros : List ℕ) → One λ (r : Rails). r ≡ railsOf (typeOf t) ones zeros
-  -- switch::joining::join_type
-  pub switch-join-type : (t : ModuleType) (ones zeros : List ℕ) → One λ (r : Rails). r ≡ railsOf (typeOf t) ones zeros
-  -- switch::joining::output_planes
-  pub switch-output-planes : (supply ground : ℕ) → One λ (r : Planes). r ≡ planesOf supply ground
+  -- joining::rails::joining_of
+  pub joining-joining-of : (t : ModuleType) (ones zeros : List ℕ) → One λ (r : Rails). r ≡ railsOf (typeOf t) ones zeros
+  -- joining::rails::join_type
+  pub joining-join-type : (t : ModuleType) (ones zeros : List ℕ) → One λ (r : Rails). r ≡ railsOf (typeOf t) ones zeros
+  -- joining::rails::output_planes
+  pub joining-output-planes : (supply ground : ℕ) → One λ (r : Planes). r ≡ planesOf supply ground
   -- fields::step_at
   pub fields-step-at : (file : List ℕ) (at : ℕ) → at ≤ length file → One λ (r : Step). StepIs file at r
   -- fields::field_of

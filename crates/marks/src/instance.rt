@@ -1,9 +1,9 @@
 // One instance: each label's planes and each node's words for each rail, four words each; from them its rows, and the planes of its output.
 use crate::marks::write_rows;
 use circuit::Instance;
+use joining::rails::join_type;
+use joining::rails::output_planes;
 use switch::ModuleType;
-use switch::joining::join_type;
-use switch::joining::output_planes;
 ghost use mathlib.Core.Path.{_≡_};
 ghost use Prim.Native.Nat.{_+_, _*_, _<_, _≤_};
 ghost use lib.ListN.{length};

@@ -1,46 +1,13 @@
--- The channel of an edge by the position of its ends: when it is p-channel, and that an edge that is not refused is of exactly one channel.
--- Assumes nothing.
-use Prim.Native.Nat.{ℕ, _≤_, _<_}
+-- The channel of an edge by the position of its ends: an edge that is not refused is of exactly one channel. Assumes nothing.
+use Prim.Native.Nat.{ℕ, _≤_}
 use mathlib.Core.Path.{_≡_, refl, sym, subst, _∙_}
-use mathlib.Core.Bool.{Bool, true, false, cond, _&&_, _||_, not, and-false}
-use mathlib.Core.Logic.{_⊎_, inl, inr}
+use mathlib.Core.Bool.{Bool, true, false, _||_, not}
 use native.Mathlib.Omega.{arith}
-use borrow.Author.Tests.{le-leb, lt-leb, eqb-true, eqb-false}
+use borrow.Author.Tests.{eqb-true, eqb-false}
 use lib.Dec.{T, leb, eqb, leb→le}
-use Rattle.switch.specs.Conduction.{p-channel, n-channel, Edge, between, pEnds, nEnd, nEnds, badEnds, channelOf}
+use Rattle.switch.specs.Conduction.{Edge, between, pEnds, nEnd, nEnds, badEnds}
 use Rattle.switch.specs.Statements.{OneChannel}
-use Rattle.switch.specs.Model.{isP}
 use Rattle.switch.proofs.Paths.{both}
-
--- ---- p-channel or not
-
-is-p-between : (o : ℕ) (e : Edge) → isP (channelOf o e) ≡ (between 1 o (e .first) && between 1 o (e .second))
-unfolding isP channelOf pEnds
-is-p-between o e = told (between 1 o (e .first) && between 1 o (e .second))
-  where
-    told : (b : Bool) → isP (cond b p-channel n-channel) ≡ b
-    told true = refl
-    told false = refl
-
-inside : (o m : ℕ) → 1 ≤ m → m ≤ o → between 1 o m ≡ true
-unfolding between
-inside o m low high = rw (le-leb 1 m low, le-leb m o high)
-
-outside : (o m : ℕ) → (m < 1) ⊎ (o < m) → between 1 o m ≡ false
-unfolding between
-outside o m (inl low) = rw (lt-leb 1 m low)
-outside o m (inr high) = rw (lt-leb m o high) (and-false (leb 1 m))
-
-pub p-inside : (o : ℕ) (e : Edge) → 1 ≤ e .first → e .first ≤ o → 1 ≤ e .second → e .second ≤ o → isP (channelOf o e) ≡ true
-p-inside o e a b c d = rw (is-p-between, inside o (e .first) a b, inside o (e .second) c d)
-
-pub n-first-outside : (o : ℕ) (e : Edge) → (e .first < 1) ⊎ (o < e .first) → isP (channelOf o e) ≡ false
-n-first-outside o e out = rw (is-p-between, outside o (e .first) out)
-
-pub n-second-outside : (o : ℕ) (e : Edge) → (e .second < 1) ⊎ (o < e .second) → isP (channelOf o e) ≡ false
-n-second-outside o e out = rw (is-p-between, outside o (e .second) out) (and-false (between 1 o (e .first)))
-
--- ---- exactly one channel
 
 pub in-between : (low high m : ℕ) → T (between low high m) → (low ≤ m) × (m ≤ high)
 unfolding between

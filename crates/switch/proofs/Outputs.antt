@@ -1,11 +1,10 @@
 -- Values in planes: the two planes of a value tell it, and those that two words of joining give are of the output's value by 01, under each vector.
 -- Assumes nothing.
-use Prim.Native.Nat.{ℕ, _-_, _^_, _<_}
-use mathlib.Core.Path.{_≡_, refl, ap, _∙_}
+use Prim.Native.Nat.{ℕ, _<_}
+use mathlib.Core.Path.{_≡_, refl, ap}
 use mathlib.Core.Bool.{Bool, true, false, cond}
 use mathlib.Core.List.{List}
 use native.Mathlib.Omega.{arith}
-use lib.Bits.{bitAnd}
 use lib.ListN.{getD}
 use Rattle.words.specs.Bits.{bit, ofBool, word}
 use Rattle.words.proofs.Laws.{ofBool-le-one, pack-cong, bit-word}
@@ -14,28 +13,27 @@ use Rattle.switch.specs.Conduction.{Value, at0, at1, atX, p-channel, n-c
 use Rattle.switch.specs.Modules.{ModuleType, linksOf}
 use Rattle.switch.specs.Deciding.{joins, outputOf}
 use Rattle.switch.specs.Records.{valueOf, valuesAt}
-use Rattle.switch.specs.Promises.{railWords, isAt1, isAt0, planes, planesOf}
-use Rattle.switch.specs.Model.{transistorWord}
+use Rattle.switch.specs.Promises.{railWords, isAt1, isAt0, planes}
 use Rattle.switch.specs.Statements.{PlanesAreValues, OutputPlanes}
 use Rattle.switch.specs.declared.Planes.{Planes}
-use Rattle.switch.proofs.OnWords.{transistor-p, transistor-n}
 
-word-cong : (f g : ℕ → ℕ) → ((v : ℕ) → v < 64 → f v ≡ g v) → word f ≡ word g
+pub word-cong : (f g : ℕ → ℕ) → ((v : ℕ) → v < 64 → f v ≡ g v) → word f ≡ word g
 unfolding word
 word-cong f g same = pack-cong 64 f g same
 
-planes-eq : (a b c d : ℕ) → a ≡ c → b ≡ d → _≡_ {A = Planes} (record { ones = a; zeros = b }) (record { ones = c; zeros = d })
+pub planes-eq : (a b c d : ℕ) → a ≡ c → b ≡ d → _≡_ {A = Planes} (record { ones = a; zeros = b }) (record { ones = c; zeros = d })
 planes-eq a b c d p q = rw (p, q)
 
--- ---- the planes of two words
+-- ---- a value in two planes
 
-is-1 : (x : Value) → ofBool (transistorOn n-channel x) ≡ isAt1 x
+-- its bit in the known-1 plane is 1 where an n-channel transistor is on, that in the known-0 plane where a p-channel one is
+pub is-1 : (x : Value) → ofBool (transistorOn n-channel x) ≡ isAt1 x
 unfolding transistorOn isAt1
 is-1 at0 = refl
 is-1 at1 = refl
 is-1 atX = refl
 
-is-0 : (x : Value) → ofBool (transistorOn p-channel x) ≡ isAt0 x
+pub is-0 : (x : Value) → ofBool (transistorOn p-channel x) ≡ isAt0 x
 unfolding transistorOn isAt0
 is-0 at0 = refl
 is-0 at1 = refl
@@ -55,15 +53,6 @@ planes-are-values f v h =
       bit-word (λ (u : ℕ). isAt0 (f u)) (λ u. omega (arith, is-0 (f u), ofBool-le-one (transistorOn p-channel (f u)))) v h,
     )
     (value-again (f v))
-
--- the known-1 plane is the word of an n-channel transistor, the known-0 plane that of a p-channel one
-pub planesOf-is : (s g : ℕ) → s < 2 ^ 64 → g < 2 ^ 64 → _≡_ {A = Planes} (record { ones = s; zeros = bitAnd g ((2 ^ 64 - 1) - s) }) (planesOf s g)
-unfolding transistorWord
-planesOf-is s g h k =
-    let x : ℕ → Value = λ (v : ℕ). valueOf (bit s v) (bit g v) in
-    planes-eq s (bitAnd g ((2 ^ 64 - 1) - s)) (word (λ (v : ℕ). isAt1 (x v))) (word (λ (v : ℕ). isAt0 (x v)))
-    (transistor-n s g h ∙ word-cong (λ (v : ℕ). ofBool (transistorOn n-channel (x v))) (λ (v : ℕ). isAt1 (x v)) (λ v l. is-1 (x v)))
-    (transistor-p s g h k ∙ word-cong (λ (v : ℕ). ofBool (transistorOn p-channel (x v))) (λ (v : ℕ). isAt0 (x v)) (λ v l. is-0 (x v)))
 
 -- ---- the output
 

@@ -1,6 +1,6 @@
 -- What it tells of a type's record that a file can give it: its numbers are in 01's ranges, its labels and nodes are those that the code's tables hold.
 -- Past the end of a list of edges stands an edge without labels, so each fact holds of every place. Assumes nothing.
-use Prim.Native.Nat.{ℕ, zero, suc, _+_, _*_, _≤_, _<_}
+use Prim.Native.Nat.{ℕ, zero, suc, _≤_, _<_}
 use native.Mathlib.Omega.{arith}
 use mathlib.Core.Path.{_≡_, ap, subst, _∙_}
 use mathlib.Core.Bool.{Bool, _&&_}
@@ -11,13 +11,10 @@ use lib.Seq.{getD-take}
 use Rattle.switch.specs.Conduction.{Edge, between}
 use Rattle.switch.specs.Modules.{allOf, typeInRange, edgeInRange, inRange}
 use Rattle.switch.specs.Records.{noEdge, edgeOf, edgesOf, typeOf, EdgesFit, Given}
-use Rattle.switch.specs.Model.{endsOf, WideEdges}
 use Rattle.switch.specs.declared.Edge.{Edge as EdgeRecord}
-use Rattle.switch.specs.declared.Ends.{Ends}
 use Rattle.switch.specs.declared.ModuleType.{ModuleType as TypeRecord}
 use Rattle.switch.proofs.Paths.{both}
 use Rattle.switch.proofs.Channels.{in-between}
-use Rattle.switch.proofs.OnWords.{getD-firstNodes, getD-secondNodes}
 
 -- what a test gives of each element, and what holds of that which stands past the end, holds at every place
 every-place : {A : Type 0} (P : A → Type 0) (test : A → Bool) (d : A) → P d → ((a : A) → T (test a) → P a)
@@ -92,7 +89,7 @@ module _ (r : TypeRecord) (given : Given r) where
   pub given-edges : T (allOf (edgeInRange (r .highest) (r .labels)) (edgesOf (take (r .count) (r .edges))))
   given-edges = in-ranges .1
 
-  given-edge : (i : ℕ) → i < r .count → EdgeRanges (r .highest) (edgeOf (getD (r .edges) i noEdge))
+  pub given-edge : (i : ℕ) → i < r .count → EdgeRanges (r .highest) (edgeOf (getD (r .edges) i noEdge))
   given-edge i l =
       subst (EdgeRanges (r .highest)) (edge-at (r .edges) (r .count) i l)
       (every-place
@@ -118,17 +115,4 @@ module _ (r : TypeRecord) (given : Given r) where
           let e = getD (r .edges) i noEdge in
           rw (getD-take (e .count) (e .labels) j 0 k) at (given-edge i l .labels j);
     };
-  }
-
-  -- no edge has a node past the highest
-  pub wide-edges : (ends : Ends) (on : List ℕ) (width : ℕ) → ends ≡ endsOf (r .edges) (r .count) → width ≤ 4 → length on ≡ width * 64
-      → WideEdges (ends .firsts) (ends .seconds) on (r .count) width (r .highest + 1)
-  unfolding edgeOf
-  wide-edges ends on width e few long = record {
-    places = given .places;
-    first = λ i l. rw (e, getD-firstNodes (r .edges) (r .count) i l (given .places)) (omega (arith, given-edge i l .first));
-    second = λ i l. rw (e, getD-secondNodes (r .edges) (r .count) i l (given .places)) (omega (arith, given-edge i l .second));
-    few-nodes = omega (arith, given-type .highest);
-    few-words = few;
-    on-words = long;
   }

@@ -1,9 +1,8 @@
--- What the crate `switch` means, from meaning to model:
+-- What holds inside one module, from meaning to statements; the code that computes it is in the crate `joining`:
 --   Conduction, Modules, Bridges   the words of 01; a reader needs these three
 --   Deciding                       Boolean tests that compute what the three say of paths
 --   Records, Promises              the code's records in those words, and the words that a caller is promised
 --   Statements                     the theorems that all later crates rest on
---   Model                          the lists that the code computes on the way
 --   Examples                       01's known results on the NAND and the inverter
 pub mod Conduction
 pub mod Modules
@@ -12,5 +11,4 @@ pub mod Deciding
 pub mod Records
 pub mod Promises
 pub mod Statements
-pub mod Model
 pub mod Examples

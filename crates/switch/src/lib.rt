@@ -1,10 +1,4 @@
-// Switch-level modules, 64 vectors to a word: edge records, which nodes are joined to each rail, and whether a type is complementary.
-pub mod complementary;
-mod conduction;
-mod edges;
-pub mod joining;
-mod rounds;
-mod settings;
+// Switch-level modules: the limits of a module type and the records that the other crates hand on. No function: the code is in the crate `joining`.
 
 // The limits of a module type: its edges, its nodes (0 to 31), its labels, and the labels of one edge.
 pub const MOST_EDGES: usize = 64;
@@ -42,10 +36,4 @@ pub struct Rails {
 pub struct Planes {
     pub ones: u64,
     pub zeros: u64,
-}
-
-// The nodes of a type's edges, in two columns.
-pub struct Ends {
-    pub firsts: [u8; MOST_EDGES],
-    pub seconds: [u8; MOST_EDGES],
 }

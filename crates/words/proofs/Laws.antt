@@ -46,6 +46,15 @@ ofBool-le true true f = omega arith
 ofBool-le true false f = absurd (f tt)
 ofBool-le false b f = omega arith
 
+-- a test holds exactly when its number is 1
+pub set-bit : (b : Bool) → ofBool b ≡ 1 → T b
+set-bit true e = tt
+set-bit false e = absurd (omega arith)
+
+pub bit-set : (b : Bool) → T b → ofBool b ≡ 1
+bit-set true t = refl
+bit-set false t = absurd t
+
 -- ---- the operations on words
 
 pub bit-or : (a b v : ℕ) → bit (bitOr a b) v ≡ max (bit a v) (bit b v)

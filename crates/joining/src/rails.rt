@@ -1,0 +1,74 @@
+// The joining of every node to each rail, and the output's planes, from a module type and its labels' planes, four words each.
+use crate::conduction::ends_of;
+use crate::conduction::on_words;
+use crate::edges::spread;
+use crate::rounds::joined_to;
+use switch::Edge;
+use switch::ModuleType;
+use switch::Planes;
+use switch::Rails;
+ghost use mathlib.Core.Path.{_≡_};
+ghost use Rattle.switch.specs.Records.{Given, EdgesGiven, typeOf, typeWith};
+ghost use Rattle.switch.specs.Promises.{railsOf, planesOf};
+
+// Under which of 256 vectors each node is joined to supply, and to ground: the work, on a type by value.
+pub fn joining_of(t: ModuleType, ones: &[u64; 48], zeros: &[u64; 48]) -> Rails
+    requires { ⌜ Given t ⌝ }
+    ensures { λ r. ⌜ r ≡ railsOf (typeOf t) (now (ones .entry)) (now (zeros .entry)) ⌝ }
+{
+    let edges = t.edges;
+    let count = t.count;
+    let nodes = (t.highest as usize) + 1;
+    let mut on = [0u64; 256];
+    on_words(edges, count, t.output, ones, zeros, 4, &mut on);
+    let ends = ends_of(edges, count);
+    let a = ends.firsts;
+    let b = ends.seconds;
+    let mut supply = [0u64; 128];
+    let mut next = [0u64; 128];
+    joined_to(&a, &b, &on, count, 4, nodes, 1, &mut supply, &mut next);
+    let mut ground = [0u64; 128];
+    next = [0u64; 128];
+    joined_to(&a, &b, &on, count, 4, nodes, 0, &mut ground, &mut next);
+    Rails { supply, ground }
+}
+
+// The same, on a lent slice of edges and the type's three numbers.
+pub fn joining(
+    edges: &[Edge],
+    highest: u8,
+    output: u8,
+    labels: u8,
+    ones: &[u64; 48],
+    zeros: &[u64; 48],
+) -> Rails
+    requires { ⌜ EdgesGiven highest output labels (now edges) ⌝ }
+    ensures { λ r. ⌜ r ≡ railsOf (typeWith highest output labels (now (edges .entry))) (now (ones .entry)) (now (zeros .entry)) ⌝ }
+{
+    joining_of(spread(edges, highest, output, labels), ones, zeros)
+}
+
+// The same, on a type whose edges are lent.
+pub fn join_type(t: ModuleType, ones: &[u64; 48], zeros: &[u64; 48]) -> Rails
+    requires { ⌜ Given t ⌝ }
+    ensures { λ r. ⌜ r ≡ railsOf (typeOf t) (now (ones .entry)) (now (zeros .entry)) ⌝ }
+{
+    joining(
+        &t.edges[..t.count],
+        t.highest,
+        t.output,
+        t.labels,
+        ones,
+        zeros,
+    )
+}
+
+// The planes of an output, from its two words: 1 where it is joined to supply, 0 where it is joined to ground, X where it is joined to neither.
+pub fn output_planes(supply: u64, ground: u64) -> Planes
+    ensures { λ r. ⌜ r ≡ planesOf supply ground ⌝ }
+{
+    Planes {
+        ones: supply,
+        zeros: ground & !supply,
+    }
+}

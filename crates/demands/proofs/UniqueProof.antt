@@ -111,6 +111,7 @@ unique = record {
   bridges-lists-of = λ bridges count listed r s p q.
       by-equation r s (p (listed .bridges) (listed .counted) (listed .within) (listed .ranges) (listed .is))
       (q (listed .bridges) (listed .counted) (listed .within) (listed .ranges) (listed .is));
+  vectors-no-vector = by-equation;
   reader-read = λ file. answers-unique (readingOf file);
   grading-number-of = λ answer. by-equation;
   grading-place-of = λ answer. by-equation;

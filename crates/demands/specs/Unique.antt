@@ -24,7 +24,7 @@ use Rattle.circuit.specs.Circuit.{Circuit as CircuitMeant}
 use Rattle.circuit.specs.Fields.{twoBytes}
 use Rattle.circuit.specs.Laws.{CircuitGood}
 use Rattle.circuit.specs.Reading.{readingOf}
-use Rattle.circuit.specs.Records.{circuitRecord, unusedType, unusedBridge, unusedInstance, padded}
+use Rattle.circuit.specs.Records.{circuitRecord, unusedType, unusedBridge, unusedInstance, unusedVector, padded}
 use Rattle.fields.specs.Steps.{bodyOf, StepIs, NextIs}
 use Rattle.circuit.specs.declared.Bridge.{Bridge}
 use Rattle.circuit.specs.declared.Circuit.{Circuit}
@@ -114,6 +114,8 @@ pub record Unique : Type 0 where
   pub instances-no-instance : One λ (r : Instance). r ≡ unusedInstance
   -- bridges::lists::lists_of
   pub bridges-lists-of : (bridges : List Bridge) (count : ℕ) → ListedBridges bridges count → One λ (r : Lists). SummedTo bridges count r
+  -- vectors::no_vector
+  pub vectors-no-vector : One λ (r : Vector). r ≡ unusedVector
   -- reader::read::read
   pub reader-read : (file : List ℕ) → One λ (r : Reading). Answers (readingOf file) r
   -- grading::answers::number_of

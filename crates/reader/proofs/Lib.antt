@@ -1,3 +1,2 @@
--- What reading as a whole, and the reading of vectors, rest on.
+-- What reading as a whole rests on.
 pub mod ReadLaws
-pub mod VectorLaws

@@ -25,7 +25,7 @@ use Rattle.modules.specs.ReadTypes.{TypesRead}
 use Rattle.bridges.specs.ReadBridges.{BridgesRead}
 use Rattle.bridges.specs.ListSums.{SummedTo}
 use Rattle.instances.specs.ReadInstances.{TypesAndLists, InstancesRead}
-use Rattle.reader.specs.ReadVectors.{VectorsRead}
+use Rattle.vectors.specs.ReadVectors.{VectorsRead}
 use Rattle.reader.specs.Whole.{StartRead, wholeOf}
 use Rattle.switch.specs.declared.ModuleType.{ModuleType as TypeRecord}
 use Rattle.circuit.specs.declared.Bridge.{Bridge as BridgeRecord}
@@ -41,7 +41,7 @@ use Rattle.bridges.specs.declared.Bridges.{Bridges}
 use Rattle.bridges.specs.declared.lists.Lists.{Lists}
 use Rattle.instances.specs.declared.instances.Instances.{Instances}
 use Rattle.reader.specs.declared.read.Start.{Start}
-use Rattle.reader.specs.declared.vectors.Vectors.{Vectors}
+use Rattle.vectors.specs.declared.Vectors.{Vectors}
 use Rattle.circuit.proofs.Padding.{padded-nil}
 use Rattle.circuit.proofs.Verdicts.{first-passes}
 

@@ -1,4 +1,3 @@
--- What the functions of the crate `reader` promise of vectors and of a file's start, and the answer put together from the stages.
+-- What the functions of the crate `reader` promise of a file's start, and the answer put together from the stages.
 -- What reading means, and the promise of `read`, is in the crate `circuit`.
-pub mod ReadVectors
 pub mod Whole

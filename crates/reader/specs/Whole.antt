@@ -13,7 +13,7 @@ use Rattle.modules.specs.declared.types.Types.{Types}
 use Rattle.bridges.specs.declared.Bridges.{Bridges}
 use Rattle.instances.specs.declared.instances.Instances.{Instances}
 use Rattle.reader.specs.declared.read.Start.{Start}
-use Rattle.reader.specs.declared.vectors.Vectors.{Vectors}
+use Rattle.vectors.specs.declared.Vectors.{Vectors}
 
 -- the start of a file: it is refused there, or it reads as the rest does with this many inputs
 pub record StartRead (file : List ℕ) (r : Start) : Type 0 where

@@ -1,8 +1,5 @@
 // Reading a file: the stages in file order, and then the ending.
 use crate::ending::ending;
-use crate::vectors::Vectors;
-use crate::vectors::no_vector;
-use crate::vectors::read_vectors;
 use bridges::Bridges;
 use bridges::lists::lists_of;
 use bridges::no_bridge;
@@ -27,6 +24,9 @@ use instances::instances::read_instances;
 use modules::types::Types;
 use modules::types::no_type;
 use modules::types::read_types;
+use vectors::Vectors;
+use vectors::no_vector;
+use vectors::read_vectors;
 ghost use mathlib.Core.Path.{_≡_};
 ghost use Prim.Native.Nat.{_+_, _≤_};
 ghost use lib.ListN.{length};

@@ -17,7 +17,7 @@ ghost use Rattle.circuit.specs.Table.{firstOf, isLetter, vectorTests};
 ghost use Rattle.circuit.specs.Records.{unusedVector, vectorRecord};
 ghost use Rattle.circuit.specs.Answers.{verdictOf};
 ghost use Rattle.fields.specs.Steps.{bodyOf};
-ghost use Rattle.reader.specs.ReadVectors.{VectorsRead};
+ghost use Rattle.vectors.specs.ReadVectors.{VectorsRead};
 
 pub struct Vectors {
     pub refusal: Refusal,

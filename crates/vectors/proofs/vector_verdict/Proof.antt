@@ -1,4 +1,4 @@
--- `reader::vectors::vector_verdict` meets its contract: the tests one after the other give the first that refuses. Assumes nothing.
+-- `vectors::vector_verdict` meets its contract: the tests one after the other give the first that refuses. Assumes nothing.
 use mathlib.Core.Path.{sym, _∙_}
 use borrow.Author.Needs.{needs}
 use Rattle.circuit.specs.Table.{vectorTests}
@@ -6,8 +6,8 @@ use Rattle.circuit.specs.Answers.{verdictOf, numberOf, placeOf, numberedVerdict
 use Rattle.fields.specs.Steps.{bodyOf}
 use Rattle.fields.proofs.Bodies.{length-body}
 use Rattle.circuit.proofs.Verdicts.{firstAfter, chain}
-use Rattle.reader.proofs.vectors.vector_verdict.Statement.{statement}
-use Rattle.reader.proofs.vectors.vector_verdict.Tie as tie
+use Rattle.vectors.proofs.vector_verdict.Statement.{statement}
+use Rattle.vectors.proofs.vector_verdict.Tie as tie
 
 letters-only-requires : tie.Need-letters-only-requires
 letters-only-requires c κs = search needs

@@ -1,8 +1,8 @@
--- `reader::vectors::is_letter` meets its contract. Assumes nothing.
+-- `vectors::is_letter` meets its contract. Assumes nothing.
 use borrow.Author.Tests.{ne-eqb}
 use Rattle.circuit.specs.Table.{isLetter}
-use Rattle.reader.proofs.vectors.is_letter.Statement.{statement}
-use Rattle.reader.proofs.vectors.is_letter.Tie as tie
+use Rattle.vectors.proofs.is_letter.Statement.{statement}
+use Rattle.vectors.proofs.is_letter.Tie as tie
 
 returns : tie.Need-returns
 unfolding isLetter

@@ -9,7 +9,7 @@ use Rattle.circuit.specs.Fields.{cutFrom}
 use Rattle.circuit.specs.Records.{padded, unusedVector, vectorRecord}
 use Rattle.circuit.specs.Answers.{verdictOf}
 use Rattle.circuit.specs.Stages.{stageOf, vectorStage}
-use Rattle.reader.specs.declared.vectors.Vectors.{Vectors}
+use Rattle.vectors.specs.declared.Vectors.{Vectors}
 
 pub record VectorsRead (file : List ℕ) (from P : ℕ) (r : Vectors) : Type 0 where
   pub vectors : List (List Value)

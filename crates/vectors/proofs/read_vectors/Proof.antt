@@ -1,4 +1,4 @@
--- `reader::vectors::read_vectors` meets its contract. The loop's invariant: some vectors are read, they stand in the record, and the stage goes on
+-- `vectors::read_vectors` meets its contract. The loop's invariant: some vectors are read, they stand in the record, and the stage goes on
 -- from them. The measure is what is left of the file. Assumes nothing.
 use Prim.Native.Nat.{ℕ, _-_}
 use mathlib.Core.Path.{_≡_, sym, _∙_}
@@ -12,9 +12,9 @@ use Rattle.fields.specs.Steps.{bodyOf, FieldAt, NextIs}
 use Rattle.fields.specs.declared.Field.{Field as FieldRecord}
 use Rattle.fields.proofs.Bodies.{length-body}
 use Rattle.circuit.proofs.Verdicts.{passes-is}
-use Rattle.reader.proofs.VectorLaws.{VectorsSoFar, no-vectors, vectors-stop, vectors-refused, VectorFits, vector-fits, one-vector-more}
-use Rattle.reader.proofs.vectors.read_vectors.Statement.{statement}
-use Rattle.reader.proofs.vectors.read_vectors.Tie as tie
+use Rattle.vectors.proofs.VectorLaws.{VectorsSoFar, no-vectors, vectors-stop, vectors-refused, VectorFits, vector-fits, one-vector-more}
+use Rattle.vectors.proofs.read_vectors.Statement.{statement}
+use Rattle.vectors.proofs.read_vectors.Tie as tie
 
 abbrev Inv-loop : tie.InvT-loop
 Inv-loop file from inputs all₀ count₀ at₀ all count at = VectorsSoFar file from inputs all count at

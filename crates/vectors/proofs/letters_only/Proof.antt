@@ -1,4 +1,4 @@
--- `reader::vectors::letters_only` meets its contract. The loop's invariant: the whole body is letters exactly when those before `i` are and the rest
+-- `vectors::letters_only` meets its contract. The loop's invariant: the whole body is letters exactly when those before `i` are and the rest
 -- from `i` on is. Assumes nothing.
 use Prim.Native.Nat.{_≤_, _-_}
 use mathlib.Core.Path.{_≡_, refl, sym, ap, _∙_}
@@ -13,9 +13,9 @@ use Rattle.switch.specs.Modules.{allOf}
 use Rattle.circuit.specs.Table.{isLetter}
 use Rattle.fields.specs.Steps.{bodyOf}
 use Rattle.fields.proofs.Bodies.{length-body}
-use Rattle.reader.proofs.VectorLaws.{letter-kept, letter-lost, letters-next, letters-end}
-use Rattle.reader.proofs.vectors.letters_only.Statement.{statement}
-use Rattle.reader.proofs.vectors.letters_only.Tie as tie
+use Rattle.vectors.proofs.VectorLaws.{letter-kept, letter-lost, letters-next, letters-end}
+use Rattle.vectors.proofs.letters_only.Statement.{statement}
+use Rattle.vectors.proofs.letters_only.Tie as tie
 
 abbrev Inv-loop : tie.InvT-loop
 Inv-loop file f len only₀ i₀ only i = (i ≤ len) × (allOf isLetter (bodyOf file f) ≡ (only && allOf isLetter (drop i (bodyOf file f))))

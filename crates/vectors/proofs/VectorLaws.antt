@@ -24,7 +24,7 @@ use Rattle.circuit.specs.Records.{unusedVector, vectorRecord}
 use Rattle.circuit.specs.Answers.{verdictOf, numberOf, placeOf, numberedVerdict, isRefused}
 use Rattle.circuit.specs.Stages.{vectorStage, stageOf}
 use Rattle.fields.specs.Steps.{bodyOf, FieldAt, NextIs}
-use Rattle.reader.specs.ReadVectors.{VectorsRead}
+use Rattle.vectors.specs.ReadVectors.{VectorsRead}
 use Rattle.circuit.specs.declared.Vector.{Vector as VectorRecord}
 use Rattle.fields.specs.declared.Field.{Field as FieldRecord}
 use Rattle.fields.specs.declared.Next.the-variants.{Other}

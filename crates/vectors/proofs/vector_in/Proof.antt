@@ -1,4 +1,4 @@
--- `reader::vectors::vector_in` meets its contract. The loop's invariant: the planes hold the letters below `i`. Assumes nothing.
+-- `vectors::vector_in` meets its contract. The loop's invariant: the planes hold the letters below `i`. Assumes nothing.
 use Prim.Native.Nat.{_≤_, _-_}
 use mathlib.Core.Path.{_≡_, sym, _∙_}
 use mathlib.Core.Logic.{⊎-elim}
@@ -7,9 +7,9 @@ use native.Mathlib.Omega.{arith}
 use Rattle.switch.specs.Promises.{isAt0, isAt1}
 use Rattle.fields.specs.Steps.{bodyOf}
 use Rattle.fields.proofs.Bodies.{length-body}
-use Rattle.reader.proofs.VectorLaws.{planeTo, plane-none, plane-set, plane-kept, planes-whole, letter-1, letter-0, letter-not-1, letter-not-0, at1-le-one, at0-le-one}
-use Rattle.reader.proofs.vectors.vector_in.Statement.{statement}
-use Rattle.reader.proofs.vectors.vector_in.Tie as tie
+use Rattle.vectors.proofs.VectorLaws.{planeTo, plane-none, plane-set, plane-kept, planes-whole, letter-1, letter-0, letter-not-1, letter-not-0, at1-le-one, at0-le-one}
+use Rattle.vectors.proofs.vector_in.Statement.{statement}
+use Rattle.vectors.proofs.vector_in.Tie as tie
 
 abbrev Inv-loop : tie.InvT-loop
 Inv-loop file f len ones₀ zeros₀ i₀ ones zeros i =

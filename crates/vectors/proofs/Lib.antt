@@ -1,0 +1,2 @@
+-- What the reading of vectors rests on.
+pub mod VectorLaws

@@ -5,7 +5,7 @@ use mathlib.Core.List.{List, [], _∷_, _++_}
 use native.Mathlib.Decide.{decLt}
 use native.Mathlib.Omega.{arith}
 use lib.ListN.{length, getD, set, replicate, length-append, length-replicate, getD-replicate, List·getD-append, List·getD-eq-default}
-use lib.Seq.{getD-append-seam, getD-set-same, getD-set-other}
+use lib.Seq.{getD-append-seam}
 use Rattle.words.specs.Tables.{table}
 use Rattle.words.proofs.Tables.{getD-table, set-table, is-table}
 use Rattle.circuit.specs.Records.{padded}
@@ -34,9 +34,3 @@ module _ {A : Type 0} (none : A) where
   padded-snoc n as′ a h =
       ap (λ (x : A). set (table n (λ (j : ℕ). getD as′ j none)) (length as′) x) (sym (getD-append-seam as′ a [] none))
       ∙ set-table none n (λ (j : ℕ). getD as′ j none) (λ (j : ℕ). getD (as′ ++ (a ∷ [])) j none) (length as′) h (λ j q other. elsewhere as′ a j other)
-
-  pub padded-set : (n : ℕ) (as′ : List A) (i : ℕ) (a : A) → i < length as′ → i < n → set (padded n none as′) i a ≡ padded n none (set as′ i a)
-  unfolding padded
-  padded-set n as′ i a h q =
-      ap (λ (x : A). set (table n (λ (j : ℕ). getD as′ j none)) i x) (sym (getD-set-same as′ i a none h))
-      ∙ set-table none n (λ (j : ℕ). getD as′ j none) (λ (j : ℕ). getD (set as′ i a) j none) i q (λ j r other. sym (getD-set-other as′ i j a none other))

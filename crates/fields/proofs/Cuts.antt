@@ -76,14 +76,6 @@ module _ (file : List ℕ) (at : ℕ) where
       cut-step (omega arith)
       ∙ rw (ne-eqb at (length file) (omega arith), le-ltb (length file) (at + 3) (omega arith), le-ltb (length file) (behind file at) h)
 
-  module _ (f : FieldRecord) (here : FieldAt file at f) where
-    pub read-on : f .body + f .len ≤ length file
-    read-on = here .inside
-
-    -- what is left of the file behind a field is less
-    pub nearer : length file - (f .body + f .len) < length file - at
-    nearer = let i = here .inside in let q = here .further in omega arith
-
 module _ {A : Type 0} (tag : ℕ) (tests : A → ℕ → List ℕ → List Test) (add : A → List ℕ → A) (sofar : A) (file : List ℕ) (at : ℕ) where
   -- a stage at a field of its tag
   pub section-step : (f : FieldRecord) → FieldAt file at f → f .tag ≡ tag

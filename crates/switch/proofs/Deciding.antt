@@ -15,7 +15,7 @@ use Rattle.switch.specs.Modules.{ModuleType, allOf, linksOf, settingOf, 
 use Rattle.switch.specs.Deciding.{rename, partIn, renamings, joins, allBelow, oneRail, isComplementary, isMarked}
 use Rattle.switch.specs.Bridges.{Marked, closing}
 use Rattle.switch.specs.Statements.{JoinsDecides, ComplementaryDecides, MarkDecides}
-use Rattle.switch.proofs.Paths.{Linked, turned, more-links, one-more, both}
+use Rattle.switch.proofs.Paths.{Linked, more-links, one-more, both}
 
 -- ---- tests
 
@@ -137,14 +137,6 @@ joins-same ws others f g a b =
     (joins others a b)
     (λ t. (joins-decides others a b) .0 (more-links ws others f a b ((joins-decides ws a b) .1 t)))
     (λ t. (joins-decides ws a b) .0 (more-links others ws g a b ((joins-decides others a b) .1 t)))
-
-pub joins-turned : (ws : List Link) (a b : ℕ) → joins ws a b ≡ joins ws b a
-joins-turned ws a b =
-    same-test
-    (joins ws a b)
-    (joins ws b a)
-    (λ t. (joins-decides ws b a) .0 (turned ((joins-decides ws a b) .1 t)))
-    (λ t. (joins-decides ws a b) .0 (turned ((joins-decides ws b a) .1 t)))
 
 -- ---- complementary
 

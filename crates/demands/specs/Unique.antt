@@ -110,7 +110,7 @@ pub record Unique : Type 0 where
   pub modules-no-type : One λ (r : ModuleType). r ≡ unusedType
   -- bridges::no_bridge
   pub bridges-no-bridge : One λ (r : Bridge). r ≡ unusedBridge
-  -- instances::instances::no_instance
+  -- instances::no_instance
   pub instances-no-instance : One λ (r : Instance). r ≡ unusedInstance
   -- bridges::lists::lists_of
   pub bridges-lists-of : (bridges : List Bridge) (count : ℕ) → ListedBridges bridges count → One λ (r : Lists). SummedTo bridges count r

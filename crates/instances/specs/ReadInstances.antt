@@ -19,7 +19,7 @@ use Rattle.circuit.specs.Known.{referencesIn}
 use Rattle.circuit.specs.Numbers.{signed, choiceInRange, referenceGood}
 use Rattle.circuit.specs.Stages.{stageOf, instanceStage}
 use Rattle.bridges.specs.declared.lists.Lists.{Lists}
-use Rattle.instances.specs.declared.instances.Instances.{Instances}
+use Rattle.instances.specs.declared.Instances.{Instances}
 use Rattle.instances.specs.declared.shapes.Shapes.{Shapes}
 use Rattle.instances.specs.declared.choices.Chosen.{Chosen}
 use Rattle.modules.specs.ReadTypes.{goodType}

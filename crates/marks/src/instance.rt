@@ -1,5 +1,5 @@
 // One instance: each label's planes and each node's words for each rail, four words each; from them its rows, and the planes of its output.
-use crate::marks::write_rows;
+use crate::matrix::write_rows;
 use circuit::Instance;
 use joining::rails::join_type;
 use joining::rails::output_planes;

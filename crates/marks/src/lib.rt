@@ -1,3 +1,3 @@
 // The outputs of instances, and the rows of the matrix: which vectors mark each fault.
 pub mod instance;
-mod marks;
+mod matrix;

@@ -39,7 +39,7 @@ use Rattle.circuit.specs.declared.refusal.Refusal.{Refusal}
 use Rattle.modules.specs.declared.types.Types.{Types}
 use Rattle.bridges.specs.declared.Bridges.{Bridges}
 use Rattle.bridges.specs.declared.lists.Lists.{Lists}
-use Rattle.instances.specs.declared.instances.Instances.{Instances}
+use Rattle.instances.specs.declared.Instances.{Instances}
 use Rattle.reader.specs.declared.read.Start.{Start}
 use Rattle.vectors.specs.declared.Vectors.{Vectors}
 use Rattle.circuit.proofs.Padding.{padded-nil}

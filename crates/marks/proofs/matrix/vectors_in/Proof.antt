@@ -1,12 +1,12 @@
--- `marks::marks::vectors_in` meets its contract. Assumes nothing.
+-- `marks::matrix::vectors_in` meets its contract. Assumes nothing.
 use mathlib.Core.Path.{_≡_}
 use Prim.Native.Nat.{_-_, _*_}
 use native.Mathlib.Omega.{arith}
 use borrow.Author.Needs.{needs}
 use Rattle.words.proofs.FirstOnes.{ones-some}
 use Rattle.marks.specs.Model.{vectorsIn}
-use Rattle.marks.proofs.marks.vectors_in.Statement.{statement}
-use Rattle.marks.proofs.marks.vectors_in.Tie as tie
+use Rattle.marks.proofs.matrix.vectors_in.Statement.{statement}
+use Rattle.marks.proofs.matrix.vectors_in.Tie as tie
 
 mul-if1 : tie.Need-mul-if1
 mul-if1 c = search needs

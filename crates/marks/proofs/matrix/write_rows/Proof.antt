@@ -1,4 +1,4 @@
--- `marks::marks::write_rows` meets its contract. The loop's invariant: the rows before the present one are written. Assumes nothing.
+-- `marks::matrix::write_rows` meets its contract. The loop's invariant: the rows before the present one are written. Assumes nothing.
 use mathlib.Core.Path.{_≡_, refl, sym, ap, _∙_}
 use mathlib.Core.List.{List, [], _∷_, _++_}
 use Prim.Native.Nat.{ℕ, zero, suc, _+_, _-_, _*_, _/_, _%_, _≤_, _<_}
@@ -14,8 +14,8 @@ use Rattle.words.proofs.Tables.{length-table, table-cong}
 use Rattle.words.proofs.WrittenLaws.{written-nothing, written-written}
 use Rattle.grading.specs.Codes.{CodesFit}
 use Rattle.marks.specs.Model.{markWord, vectorsIn, rowWords, rowsWords}
-use Rattle.marks.proofs.marks.write_rows.Statement.{statement}
-use Rattle.marks.proofs.marks.write_rows.Tie as tie
+use Rattle.marks.proofs.matrix.write_rows.Statement.{statement}
+use Rattle.marks.proofs.matrix.write_rows.Tie as tie
 
 -- word i of the rows from `from` on
 abbrev wordAt : List ℕ → List ℕ → List ℕ → List ℕ → List ℕ → ℕ → ℕ → ℕ → ℕ

@@ -1,4 +1,4 @@
--- `instances::instances::instance_in` meets its contract. The loop's invariant: the first i places hold the records of the first i references. Assumes nothing.
+-- `instances::instance_in` meets its contract. The loop's invariant: the first i places hold the records of the first i references. Assumes nothing.
 use native.Mathlib.Omega.{arith}
 use Prim.Native.Nat.{ℕ, _-_, _/_, _≤_, _<_}
 use mathlib.Core.Path.{_≡_, sym, ap, _∙_}
@@ -11,8 +11,8 @@ use Rattle.fields.specs.Steps.{bodyOf}
 use Rattle.fields.proofs.Bodies.{length-body}
 use Rattle.instances.proofs.ReferenceLaws.{length-references, good-at, filled, none-filled, one-filled, all-filled, choice-kept}
 use Rattle.fields.proofs.Bodies.{byte-small}
-use Rattle.instances.proofs.instances.instance_in.Statement.{statement}
-use Rattle.instances.proofs.instances.instance_in.Tie as tie
+use Rattle.instances.proofs.instance_in.Statement.{statement}
+use Rattle.instances.proofs.instance_in.Tie as tie
 
 abbrev Inv-loop : tie.InvT-loop
 Inv-loop file f references₀ count i₀ references i = (i ≤ count) × (references ≡ filled (bodyOf file f) i)

@@ -1,12 +1,12 @@
--- `marks::marks::mark_word` meets its contract: the model's word, by the row's kind. Assumes nothing.
+-- `marks::matrix::mark_word` meets its contract: the model's word, by the row's kind. Assumes nothing.
 use Prim.Native.Nat.{_%_, _<_}
 use native.Mathlib.Omega.{arith}
 use borrow.Author.Needs.{needs}
 use borrow.Author.Tests.{eq-eqb, ne-eqb}
 use Rattle.grading.specs.Codes.{CodeFits}
 use Rattle.marks.specs.Model.{pairWord, inputMarkWord, markWord}
-use Rattle.marks.proofs.marks.mark_word.Statement.{statement}
-use Rattle.marks.proofs.marks.mark_word.Tie as tie
+use Rattle.marks.proofs.matrix.mark_word.Statement.{statement}
+use Rattle.marks.proofs.matrix.mark_word.Tie as tie
 
 cast-a : tie.Need-cast-a
 cast-a c = search needs

@@ -1,4 +1,4 @@
--- `instances::instances::instance_verdict` meets its contract: its calls look at the tests in order, and each condition is that of its test.
+-- `instances::instance_verdict` meets its contract: its calls look at the tests in order, and each condition is that of its test.
 -- Assumes nothing.
 use Prim.Native.Nat.{ℕ, _-_, _/_}
 use mathlib.Core.Path.{_≡_, sym, ap, _∙_}
@@ -19,8 +19,8 @@ use Rattle.instances.specs.ReadInstances.{gatheredTests}
 use Rattle.circuit.proofs.Verdicts.{firstAfter, chain}
 use Rattle.fields.proofs.Bodies.{length-body}
 use Rattle.instances.proofs.ReferenceLaws.{length-references}
-use Rattle.instances.proofs.instances.instance_verdict.Statement.{statement}
-use Rattle.instances.proofs.instances.instance_verdict.Tie as tie
+use Rattle.instances.proofs.instance_verdict.Statement.{statement}
+use Rattle.instances.proofs.instance_verdict.Tie as tie
 
 byte-requires : tie.Need-byte-requires
 byte-requires c κs = search needs

@@ -1,4 +1,4 @@
--- `instances::instances::out_of_range` meets its contract, by its tests. Assumes nothing.
+-- `instances::out_of_range` meets its contract, by its tests. Assumes nothing.
 use native.Mathlib.Omega.{arith}
 use Prim.Native.Nat.{ℕ, _-_, _≤_, _<_}
 use mathlib.Core.Path.{_≡_, refl}
@@ -8,8 +8,8 @@ use borrow.Author.Tests.{ltb-true, ltb-false, lt-ltb, le-ltb, lt-leb, eq-eqb, ne
 use lib.Dec.{ltb, eqb}
 use Rattle.circuit.specs.Numbers.{signed, choiceInRange}
 use Rattle.circuit.proofs.RangeLaws.{between-in, between-below, between-above}
-use Rattle.instances.proofs.instances.out_of_range.Statement.{statement}
-use Rattle.instances.proofs.instances.out_of_range.Tie as tie
+use Rattle.instances.proofs.out_of_range.Statement.{statement}
+use Rattle.instances.proofs.out_of_range.Tie as tie
 
 returns : tie.Need-returns
 returns c =

@@ -1,4 +1,4 @@
--- `instances::instances::wrong_length` meets its contract, by its tests. Assumes nothing.
+-- `instances::wrong_length` meets its contract, by its tests. Assumes nothing.
 use mathlib.Core.Path.{_≡_, refl}
 use mathlib.Core.Bool.{Bool, true, false, not}
 use Prim.Native.Nat.{ℕ, _≤_}
@@ -6,8 +6,8 @@ use borrow.Author.Tests.{ltb-true, ltb-false, lt-ltb, eq-eqb, ne-eqb}
 use lib.Dec.{ltb}
 use Rattle.switch.specs.Conduction.{between}
 use Rattle.circuit.proofs.RangeLaws.{between-in, between-below, between-above}
-use Rattle.instances.proofs.instances.wrong_length.Statement.{statement}
-use Rattle.instances.proofs.instances.wrong_length.Tie as tie
+use Rattle.instances.proofs.wrong_length.Statement.{statement}
+use Rattle.instances.proofs.wrong_length.Tie as tie
 
 returns : tie.Need-returns
 returns c = rw (ne-eqb _ 0 (c .if1 .taken))

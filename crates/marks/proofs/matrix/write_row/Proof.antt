@@ -1,4 +1,4 @@
--- `marks::marks::write_row` meets its contract. The loop's invariant: the first `w` words of the row are written. Assumes nothing.
+-- `marks::matrix::write_row` meets its contract. The loop's invariant: the first `w` words of the row are written. Assumes nothing.
 use mathlib.Core.Path.{_≡_, refl, sym}
 use mathlib.Core.List.{List}
 use Prim.Native.Nat.{ℕ, _+_, _-_, _≤_}
@@ -12,8 +12,8 @@ use Rattle.words.specs.Tables.{table}
 use Rattle.words.specs.Written.{written}
 use Rattle.words.proofs.WrittenLaws.{written-nothing, set-table-behind}
 use Rattle.marks.specs.Model.{markWord, rowWords}
-use Rattle.marks.proofs.marks.write_row.Statement.{statement}
-use Rattle.marks.proofs.marks.write_row.Tie as tie
+use Rattle.marks.proofs.matrix.write_row.Statement.{statement}
+use Rattle.marks.proofs.matrix.write_row.Tie as tie
 
 -- word w of the row
 abbrev wordAt : List ℕ → List ℕ → List ℕ → List ℕ → List ℕ → ℕ → ℕ → ℕ

@@ -1,4 +1,4 @@
--- `instances::instances::read_instances` meets its contract. The loop's invariant: of all types and bridges that the columns and sums tell,
+-- `instances::read_instances` meets its contract. The loop's invariant: of all types and bridges that the columns and sums tell,
 -- some instances are read, they and their faults stand in the record, and the stage goes on from them. The measure is what is left of the file.
 -- Assumes nothing.
 use Prim.Native.Nat.{ℕ, _-_}
@@ -19,8 +19,8 @@ use Rattle.fields.specs.declared.Field.{Field as FieldRecord}
 use Rattle.circuit.proofs.Verdicts.{passes-is}
 use Rattle.instances.proofs.InstanceLaws.{ShapesAndLists, shapes-told, meant, given-is, gathered, Passed, passed, given-small}
 use Rattle.instances.proofs.InstanceSteps.{AtLoop, no-instances, instances-stop, instances-refused, one-instance-more}
-use Rattle.instances.proofs.instances.read_instances.Statement.{statement}
-use Rattle.instances.proofs.instances.read_instances.Tie as tie
+use Rattle.instances.proofs.read_instances.Statement.{statement}
+use Rattle.instances.proofs.read_instances.Tie as tie
 
 abbrev Inv-loop : tie.InvT-loop
 Inv-loop file from inputs type-count lists nodes labels all₀ count₀ faults₀ at₀ all count faults at =

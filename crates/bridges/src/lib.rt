@@ -83,6 +83,7 @@ fn bridge_in(file: &[u8], f: Field) -> Bridge
     }
 }
 
+// The bridges from an offset on.
 pub fn read_bridges(file: &[u8], from: usize) -> Bridges
     requires { ⌜ from ≤ length (now file) ⌝ }
     ensures { λ r. ⌜ BridgesRead (now (file .entry)) from r ⌝ }

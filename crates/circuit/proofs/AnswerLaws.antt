@@ -1,11 +1,11 @@
--- Two answers that meet the promise of reading are the same answer: a refusal is told by its number and its place, and the circuit beside it is stated whole.
+-- Two answers that meet the promise of `read` are the same answer: a refusal is told by its number and its place, and the circuit beside it is stated whole.
 use Prim.Native.Nat.{ℕ}
 use mathlib.Core.Path.{_≡_, refl, sym, ap, _∙_}
 use mathlib.Core.Bool.{cond}
 use lib.Dec.{eqb}
 use Rattle.circuit.specs.Table.{Verdict, passes, refused}
 use Rattle.circuit.specs.Reading.{accepted, refusal}
-use Rattle.circuit.specs.Answers.{numberOf, placeOf, numberedVerdict, verdictOf, Answers}
+use Rattle.circuit.specs.Answers.{numberOf, placeOf, numberedVerdict, verdictOf, Tells, Answers}
 use Rattle.circuit.specs.Laws.{AnswersUnique}
 use Rattle.circuit.specs.declared.Reading.{Reading as ReadingRecord}
 use Rattle.circuit.specs.declared.refusal.Refusal.{Refusal}
@@ -50,6 +50,6 @@ same-answer : (r s : ReadingRecord) → r .refusal ≡ s .refusal → r .circuit
 same-answer r s p q = λ i. record { refusal = p i; circuit = q i }
 
 pub answers-unique : AnswersUnique
-unfolding Answers
+unfolding Answers Tells
 answers-unique (accepted c) r s (p, q) (p′, q′) = same-answer r s (verdict-tells (r .refusal) (s .refusal) (p ∙ sym p′)) (q ∙ sym q′)
 answers-unique (refusal n at) r s (p, q) (p′, q′) = same-answer r s (verdict-tells (r .refusal) (s .refusal) (p ∙ sym p′)) (q ∙ sym q′)

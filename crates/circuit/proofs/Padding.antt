@@ -1,4 +1,4 @@
--- The laws of a list in n places: one element more, one element changed, and none at all.
+-- The laws of a list in n places: one element more, and none at all.
 use Prim.Native.Nat.{ℕ, _<_}
 use mathlib.Core.Path.{_≡_, sym, ap, _∙_}
 use mathlib.Core.List.{List, [], _∷_, _++_}

@@ -51,7 +51,7 @@ numberedVerdict (suc n) place = refused (suc n) place
 unfoldable pub verdictOf : Refusal → Verdict
 verdictOf r = numberedVerdict (numberOf r) (placeOf r)
 
--- ---- the promise of reading
+-- ---- the promises of `read_stages` and of `read`
 
 -- what an answer tells: the refusal's number and place, or no refusal and exactly this circuit
 unfoldable pub Tells : Reading → ReadingRecord → Type 0
@@ -60,8 +60,8 @@ Tells (refusal number place) r = verdictOf (r .refusal) ≡ refused number place
 
 -- the whole answer: what it tells, and an empty circuit beside a refusal
 unfoldable pub Answers : Reading → ReadingRecord → Type 0
-Answers (accepted c) r = (verdictOf (r .refusal) ≡ passes) × (r .circuit ≡ circuitRecord c)
-Answers (refusal number place) r = (verdictOf (r .refusal) ≡ refused number place) × (r .circuit ≡ circuitRecord emptyCircuit)
+Answers (accepted c) r = Tells (accepted c) r
+Answers (refusal number place) r = Tells (refusal number place) r × (r .circuit ≡ circuitRecord emptyCircuit)
 
 -- ---- verdicts in the code
 

@@ -111,6 +111,6 @@ CountIsRows =
 abbrev pub StagedIsReading : Type 0
 StagedIsReading = (file : List ℕ) → staged file ≡ readingOf file
 
--- the promise of reading is met by one answer only
+-- the promise of `read` is met by one answer only
 abbrev pub AnswersUnique : Type 0
 AnswersUnique = (reading : Reading) (r s : ReadingRecord) → Answers reading r → Answers reading s → r ≡ s

@@ -3,9 +3,9 @@
 --   Known                              what is known part of the way through a file, and what a field adds
 --   Table                              the refusal table, a list of numbered tests for each field and for the end of the file
 --   Reading                            a file's circuit or refusal: the fields in file order against the table
---   Records, Answers                   the code's records and answers in those words; the promise of `read`
+--   Records, Answers                   the code's records and answers in those words; the promises of `read_stages` and `read`
 --   Laws                               theorems on reading, each with its name
---   Stages                             how the crates `modules`, `instances` and `reader` read, stage by stage
+--   Stages                             how the code reads, stage by stage
 pub mod Limits
 pub mod Fields
 pub mod Circuit

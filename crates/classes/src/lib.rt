@@ -50,7 +50,7 @@ fn key_of(row: u32, firsts: [u8; 12]) -> u32
     1024 + 16 * a + (firsts[b as usize] as u32)
 }
 
-// Puts its key in the place of each row of an instance.
+// Writes each row's key over the row.
 fn write_keys(rows: &mut [u32; 2048], from: usize, to: usize, one: Instance)
     requires { ⌜ (from ≤ to) × (to ≤ 2048) ⌝ }
     requires { ⌜ length (now rows) ≡ 2048 ⌝ }
@@ -119,7 +119,7 @@ pub struct Classed {
     pub found: usize,
 }
 
-// Numbers the rows of an instance, after `count` classes. The matrix has its rows already; here keys take their place.
+// Numbers the rows of an instance, after `count` classes. They are marked already and not read again, so their keys are written over them.
 pub fn class_instance(
     rows: &mut [u32; 2048],
     from: usize,

@@ -4,8 +4,7 @@ use crate::Step;
 ghost use mathlib.Core.Path.{_≡_};
 ghost use Prim.Native.Nat.{_<_, _≤_, _^_};
 ghost use lib.ListN.{length};
-ghost use Rattle.fields.specs.Steps.{StepIs};
-ghost use Rattle.fields.specs.Steps.{behindStep, Stepped};
+ghost use Rattle.fields.specs.Steps.{StepIs, behindStep, Stepped};
 
 pub struct Reader<'a> {
     pub file: &'a [u8],

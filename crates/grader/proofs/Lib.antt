@@ -1,3 +1,3 @@
--- The grading put together from rows, marks and classes.
+-- The grading put together from rows, signals, marks and classes.
 pub mod Assembly
 pub mod GradingLaws

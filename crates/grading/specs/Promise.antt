@@ -46,7 +46,7 @@ abbrev pub Promise : List ℕ → List ℕ → List ℕ → Answer → List ℕ 
 Promise file matrix classes answer matrix′ classes′ =
     Meets (gradingOf file (length matrix) (length classes)) answer matrix classes matrix′ classes′
 
--- of a reading in place of the file: the promise of every file that reads so
+-- of a reading in place of the file: the promise of every file of which it tells
 abbrev pub PromiseOfRead : ReadingRecord → List ℕ → List ℕ → Answer → List ℕ → List ℕ → Type 0
 PromiseOfRead reading matrix classes answer matrix′ classes′ =
     (file : List ℕ) → Tells (readingOf file) reading → Promise file matrix classes answer matrix′ classes′

@@ -1,4 +1,4 @@
-// The settings of labels, 64 at a time: their planes, and the places of those that count.
+// The planes of the settings of labels, 64 at a time.
 use switch::MOST_LABELS;
 ghost use mathlib.Core.Path.{_≡_};
 ghost use Rattle.joining.specs.Model.{settingOnes, settingZeros};

@@ -42,7 +42,7 @@ fn label_planes(one: Instance, k: usize, signals: &[u64; 768]) -> [u64; 48]
     planes
 }
 
-// The planes of the output of the instance at a place, from its node's words for each rail.
+// The planes of the output of the instance at a place, from its node's words for each rail. Both words have one lifetime, since a record's fields are lent together.
 fn put_output<'r>(
     supply: &'r [u64; 128],
     ground: &'r [u64; 128],

@@ -62,7 +62,7 @@ fn write_row(
     }
 }
 
-// The rows of an instance, from one place to another.
+// The rows of an instance, from one place to another. The rails' words have one lifetime, since a record's fields are lent together.
 pub fn write_rows<'r>(
     rows: &[u32; 2048],
     from: usize,

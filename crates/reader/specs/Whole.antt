@@ -15,7 +15,7 @@ use Rattle.instances.specs.declared.Instances.{Instances}
 use Rattle.reader.specs.declared.read.Start.{Start}
 use Rattle.vectors.specs.declared.Vectors.{Vectors}
 
--- the start of a file: it is refused there, or it reads as the rest does with this many inputs
+-- what a file reads as: the refusal of its start, or, where that passes, what the rest reads as from this place on with this many inputs
 pub record StartRead (file : List ℕ) (r : Start) : Type 0 where
   pub reads : readingOf file ≡ unless (verdictOf (r .refusal)) (afterInputs (length file) (r .inputs) (cutFrom file (r .at)))
   pub place : r .at ≤ length file

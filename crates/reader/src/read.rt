@@ -1,4 +1,4 @@
-// Reading a file: the stages in file order, and then the ending.
+// Reading a file: its start, the stages in file order, and then the ending.
 use crate::ending::ending;
 use bridges::Bridges;
 use bridges::lists::lists_of;
@@ -105,14 +105,14 @@ fn whole(
     Reading { refusal, circuit }
 }
 
-// The number of inputs, and where reading goes on.
+// Why a file is refused at its start, or `Nothing`, the number of inputs, and where reading goes on.
 struct Start {
     refusal: Refusal,
     at: usize,
     inputs: usize,
 }
 
-// What is read of a file that is refused before its second field: nothing, as at its end.
+// A file refused at its start. The stages then begin at its end, where they find no field.
 fn refused_at_start(file: &[u8], refusal: Refusal) -> Start
     ensures { λ r. ⌜ r ≡ record { refusal = refusal; at = length (now (file .entry)); inputs = 0 } ⌝ }
 {
@@ -123,6 +123,7 @@ fn refused_at_start(file: &[u8], refusal: Refusal) -> Start
     }
 }
 
+// The start of any file: its size, its first field, and the number of inputs there.
 fn read_start(file: &[u8]) -> Start
     ensures { λ r. ⌜ StartRead (now (file .entry)) r ⌝ }
 {
@@ -143,8 +144,8 @@ fn read_start(file: &[u8]) -> Start
     }
 }
 
-// Any bytes at all, for a caller that uses the circuit only where nothing is refused.
-// A stage after one that refuses finds no field of its own and reads nothing. With ways out before the end the compiler would keep more places for the circuit.
+// Any bytes at all, for a caller that uses the circuit only where nothing is refused; the first refusal counts.
+// Every stage is called, also after a refusal: it then stands at a field that is not its own, and reads nothing. With a way out at each refusal the compiler would keep a place on the stack for the circuit at each.
 pub fn read_stages(file: &[u8]) -> Reading
     ensures { λ r. ⌜ Tells (readingOf (now (file .entry))) r ⌝ }
 {

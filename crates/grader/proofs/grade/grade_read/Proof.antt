@@ -1,5 +1,5 @@
 -- `grader::grade::grade_read` meets its contract: reading's refusal, a matrix or a class buffer that is too short, or the circuit graded; each for every
--- file that reads so. Assumes nothing.
+-- file of which the reading tells. Assumes nothing.
 use Prim.Native.Nat.{ℕ, _≤_}
 use mathlib.Core.Path.{sym, _∙_}
 use mathlib.Core.List.{List}
@@ -32,7 +32,7 @@ module _ (c : tie.After-c) where
   abbrev read : ReadingRecord
   read = start (c .before .before) .args .reading
 
-  -- whatever file reads so
+  -- whatever file it tells of
   here : (file : List ℕ) → Tells (readingOf file) read → Accepted file (read .circuit)
   here file tells = accepted-here file read tells (sym (c .before .before .refuses .ensures) ∙ c .before .if1 .left)
 

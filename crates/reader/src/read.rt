@@ -177,9 +177,9 @@ pub fn read(file: &[u8]) -> Reading
     ensures { λ r. ⌜ Answers (readingOf (now (file .entry))) r ⌝ }
 {
     let reading = read_stages(file);
-    let refusal = reading.refusal;
-    if refuses(refusal) {
-        return refused(refusal);
+    let why = reading.refusal;
+    if refuses(why) {
+        return refused(why);
     }
     reading
 }

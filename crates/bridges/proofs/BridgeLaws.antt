@@ -15,9 +15,9 @@ use Rattle.circuit.specs.Limits.{mostBridges}
 use Rattle.circuit.specs.Fields.{cutFrom}
 use Rattle.circuit.specs.Circuit.{Listed}
 use Rattle.circuit.specs.Known.{bridgeOf, listedIn}
-use Rattle.circuit.specs.Table.{Test, test, passes, refused, firstOf, bridgeInRange, bridgeTests}
+use Rattle.circuit.specs.Table.{Test, test, passes, refusedAt, firstOf, bridgeInRange, bridgeTests}
 use Rattle.circuit.specs.Records.{unusedBridge, bridgeRecord, bridgeRecordIn}
-use Rattle.circuit.specs.Answers.{verdictOf, numberOf, placeOf, numberedVerdict, isRefused, orIf}
+use Rattle.circuit.specs.Answers.{verdictOf, refusalNumber, refusalPlace, numberedVerdict, isRefused, orIf}
 use Rattle.circuit.specs.Stages.{bridgeStage, stageOf}
 use Rattle.fields.specs.Steps.{bodyOf, FieldAt, NextIs}
 use Rattle.bridges.specs.ReadBridges.{bridgeBelow, listedInRange, BridgesRead}
@@ -80,9 +80,9 @@ bridge-fits count at body e =
 -- the same tests one after the other, where a field says how long its body is
 pub one-by-one : (count at len : ℕ) (body : List ℕ) → length body ≡ len
     → orIf
-    (orIf (orIf passes (not (eqb len 4)) (refused 5 at)) (leb mostBridges count) (refused 6 at))
+    (orIf (orIf passes (not (eqb len 4)) (refusedAt 5 at)) (leb mostBridges count) (refusedAt 6 at))
     (not (bridgeInRange (getD body 0 0) (getD body 1 0) (getD body 2 0) (getD body 3 0)))
-    (refused 7 at)
+    (refusedAt 7 at)
     ≡ firstOf (bridgeTests count at body)
 unfolding bridgeTests firstAfter
 one-by-one count at len body e = rw (← e) (sym (chain (bridgeTests count at body)))
@@ -140,7 +140,7 @@ module _ {file : List ℕ} {from : ℕ} {all : List BridgeRecord} {count at : �
   }
 
   pub bridges-stop : NextIs file at 4 Other → BridgesRead file from (record { refusal = Nothing; at = at; count = count; all = all })
-  unfolding stageOf verdictOf numberedVerdict numberOf placeOf
+  unfolding stageOf verdictOf numberedVerdict refusalNumber refusalPlace
   bridges-stop other = bridges-read Nothing (stops (sofar .so) other)
 
   module _ (f : FieldRecord) (here : FieldAt file at f) (own : f .tag ≡ 4) (r : Refusal)

@@ -3,9 +3,9 @@ use Prim.Native.Nat.{ℕ}
 use mathlib.Core.Path.{_≡_, refl, sym, ap, _∙_}
 use mathlib.Core.Bool.{cond}
 use lib.Dec.{eqb}
-use Rattle.circuit.specs.Table.{Verdict, passes, refused}
+use Rattle.circuit.specs.Table.{Verdict, passes, refusedAt}
 use Rattle.circuit.specs.Reading.{accepted, refusal}
-use Rattle.circuit.specs.Answers.{numberOf, placeOf, numberedVerdict, verdictOf, Tells, Answers}
+use Rattle.circuit.specs.Answers.{refusalNumber, refusalPlace, numberedVerdict, verdictOf, Tells, Answers}
 use Rattle.circuit.specs.Laws.{AnswersUnique}
 use Rattle.circuit.specs.declared.Reading.{Reading as ReadingRecord}
 use Rattle.circuit.specs.declared.refusal.Refusal.{Refusal}
@@ -22,10 +22,10 @@ numbered n p =
 -- the refusal that a verdict tells
 toldBy : Verdict → Refusal
 toldBy passes = Nothing
-toldBy (refused n p) = numbered n p
+toldBy (refusedAt n p) = numbered n p
 
 told : (r : Refusal) → toldBy (verdictOf r) ≡ r
-unfolding toldBy numbered verdictOf numberedVerdict numberOf placeOf
+unfolding toldBy numbered verdictOf numberedVerdict refusalNumber refusalPlace
 told Nothing = refl
 told TooLong = refl
 told (Broken p) = refl

@@ -18,7 +18,7 @@ use Rattle.circuit.specs.Limits.{mostBytes, mostTypes, mostBridges, most
 use Rattle.circuit.specs.Fields.{Cut, clean, broken, field, cutIn, cutFrom, twoBytes}
 use Rattle.circuit.specs.Circuit.{Instance, Listed, noType, faultCount}
 use Rattle.circuit.specs.Known.{typeIn, edgeIn, listedIn, instanceIn, vectorIn, latest, withEdge, edgeAdded, tagOf}
-use Rattle.circuit.specs.Table.{Test, Verdict, passes, refused, firstOf, notComplementary, isEmpty, isUnknown, inputsTests, typeTests, edgeTests, bridgeTests, instanceTests, vectorTests}
+use Rattle.circuit.specs.Table.{Test, Verdict, passes, refusedAt, firstOf, notComplementary, isEmpty, isUnknown, inputsTests, typeTests, edgeTests, bridgeTests, instanceTests, vectorTests}
 use Rattle.circuit.specs.Reading.{Reading, accepted, refusal, unless}
 use Rattle.circuit.specs.Records.{emptyCircuit}
 use Rattle.circuit.specs.Stages.{Stage, stopped, ifPasses, section, failingBefore, failingVerdict, judged, typeStage, endedVerdict, pastVerdict, endingVerdict, afterStage, afterInputs, fromStart, staged}
@@ -60,13 +60,13 @@ ReadingGood size (refusal number place) = RefusalGood size number place
 unless-good : (size : ℕ) (v : Verdict) (r : Reading) → VerdictGood size v → (v ≡ passes → ReadingGood size r) → ReadingGood size (unless v r)
 unfolding unless
 unless-good size passes r g later = later refl
-unless-good size (refused n p) r g later = g
+unless-good size (refusedAt n p) r g later = g
 
 stage-good : {A : Type 0} (size : ℕ) (v : Verdict) (s : Stage A) (next : A → Cut → Reading)
     → VerdictGood size v → (v ≡ passes → ReadingGood size (afterStage s next)) → ReadingGood size (afterStage (ifPasses v s) next)
 unfolding ifPasses afterStage
 stage-good size passes s next g later = later refl
-stage-good size (refused n p) s next g later = g
+stage-good size (refusedAt n p) s next g later = g
 
 -- ---- a stage of one tag keeps what each of its fields keeps
 
@@ -153,7 +153,7 @@ failing-refuses typeAt clean e = never-passes e
 failing-refuses typeAt (broken at) e = never-passes e
 failing-refuses typeAt (field f rest) e = go (isUnknown (tagOf (f .tag))) (eqb (f .tag) 1) e
   where
-    go : (a b : Bool) → cond a (refused 3 (f .at)) (cond b (refused 4 (f .at)) (refused 9 typeAt)) ≡ passes → ⊥
+    go : (a b : Bool) → cond a (refusedAt 3 (f .at)) (cond b (refusedAt 4 (f .at)) (refusedAt 9 typeAt)) ≡ passes → ⊥
     go true b q = never-passes q
     go false true q = never-passes q
     go false false q = never-passes q
@@ -189,7 +189,7 @@ module _ (size : ℕ) (next : List ModuleType → Cut → Reading)
   failing-good typeAt (broken at) h p = omega arith
   failing-good typeAt (field f rest) h p = go (isUnknown (tagOf (f .tag))) (eqb (f .tag) 1)
     where
-      go : (a b : Bool) → VerdictGood size (cond a (refused 3 (f .at)) (cond b (refused 4 (f .at)) (refused 9 typeAt)))
+      go : (a b : Bool) → VerdictGood size (cond a (refusedAt 3 (f .at)) (cond b (refusedAt 4 (f .at)) (refusedAt 9 typeAt)))
       go true b = let q = p .0 in omega arith
       go false true = let q = p .0 in omega arith
       go false false = omega arith
@@ -311,7 +311,7 @@ past-good : (size tag at : ℕ) → at ≤ size → VerdictGood size (pastVerdic
 unfolding pastVerdict
 past-good size tag at h = go (isUnknown (tagOf tag))
   where
-    go : (b : Bool) → VerdictGood size (cond b (refused 3 at) (refused 4 at))
+    go : (b : Bool) → VerdictGood size (cond b (refusedAt 3 at) (refusedAt 4 at))
     go true = omega arith
     go false = omega arith
 
@@ -319,7 +319,7 @@ past-refuses : (tag at : ℕ) → pastVerdict tag at ≡ passes → ⊥
 unfolding pastVerdict
 past-refuses tag at = go (isUnknown (tagOf tag))
   where
-    go : (b : Bool) → cond b (refused 3 at) (refused 4 at) ≡ passes → ⊥
+    go : (b : Bool) → cond b (refusedAt 3 at) (refusedAt 4 at) ≡ passes → ⊥
     go true e = never-passes e
     go false e = never-passes e
 
@@ -327,7 +327,7 @@ ended-good : (size instances vectors : ℕ) → VerdictGood size (endedVerdict s
 unfolding endedVerdict
 ended-good size instances vectors = go (eqb instances 0) (eqb vectors 0)
   where
-    go : (a b : Bool) → VerdictGood size (cond a (refused 14 size) (cond b (refused 14 size) passes))
+    go : (a b : Bool) → VerdictGood size (cond a (refusedAt 14 size) (cond b (refusedAt 14 size) passes))
     go true b = omega arith
     go false true = omega arith
     go false false = tt
@@ -336,7 +336,7 @@ ended-some : (size instances vectors : ℕ) → endedVerdict size instances vect
 unfolding endedVerdict
 ended-some size instances vectors = go (eqb instances 0) (eqb vectors 0) refl refl
   where
-    go : (a b : Bool) → eqb instances 0 ≡ a → eqb vectors 0 ≡ b → cond a (refused 14 size) (cond b (refused 14 size) passes) ≡ passes
+    go : (a b : Bool) → eqb instances 0 ≡ a → eqb vectors 0 ≡ b → cond a (refusedAt 14 size) (cond b (refusedAt 14 size) passes) ≡ passes
         → (1 ≤ instances) × (1 ≤ vectors)
     go true b p q e = absurd (never-passes e)
     go false true p q e = absurd (never-passes e)

@@ -4,7 +4,7 @@ use mathlib.Core.Path.{_≡_, refl}
 use mathlib.Core.List.{List, [], _∷_, _++_}
 use lib.ListN.{length}
 use Rattle.switch.specs.Conduction.{at0, at1, atX, nEnd, nEnds, badEnds, transistorOn, channelOf, pEnds, edgeOn, anyOf, between, links}
-use Rattle.switch.specs.Modules.{allOf, inRange, typeInRange, edgeInRange, linksOf, settingOf, known}
+use Rattle.switch.specs.Modules.{allOf, inRange, typeInRange, edgeInRange, linksOf, settingOf, valueOfBit}
 use Rattle.switch.specs.Deciding.{joins, renamings, partIn, rename, allBelow, oneRail, isComplementary}
 use Rattle.words.specs.Bits.{bit}
 use Rattle.words.specs.Tables.{table}
@@ -29,7 +29,7 @@ read-inverter : readingOf inverter ≡ accepted (record {
   instances = record { type = 1; choice = exhaustive; references = primary 1 ∷ [] } ∷ [];
   vectors = (at0 ∷ []) ∷ (at1 ∷ []) ∷ (atX ∷ []) ∷ [];
 })
-unfolding inverter nEnd nEnds badEnds readingOf readFrom unless fieldTests endTests firstOf bodyTests inputsTests typeTests edgeTests edgeTestsOf bridgeTests instanceTests vectorTests isUnknown misplaced isEdge unjudged notComplementary isEmpty listUnsuited listEmpty isLetter tagOf typeIn edgeIn referencesIn instanceIn letterOf vectorIn latest withEdge edgeAdded taken typeAtAfter knownAfter signed choiceOf choiceInRange referenceOf referenceGood twoBytes cutIn cutFrom numbered exhaustiveSize chosenSize faultCount userList bit table joins renamings partIn rename allBelow oneRail isComplementary allOf inRange typeInRange edgeInRange linksOf settingOf known transistorOn channelOf pEnds edgeOn anyOf between links
+unfolding inverter nEnd nEnds badEnds readingOf readFrom unless fieldTests endTests firstOf bodyTests inputsTests typeTests edgeTests edgeTestsOf bridgeTests instanceTests vectorTests isUnknown misplaced isEdge unjudged notComplementary isEmpty listUnsuited listEmpty isLetter tagOf typeIn edgeIn referencesIn instanceIn letterOf vectorIn latest withEdge edgeAdded taken typeAtAfter knownAfter signed choiceOf choiceInRange referenceOf referenceGood twoBytes cutIn cutFrom numbered exhaustiveSize chosenSize faultCount userList bit table joins renamings partIn rename allBelow oneRail isComplementary allOf inRange typeInRange edgeInRange linksOf settingOf valueOfBit transistorOn channelOf pEnds edgeOn anyOf between links
 read-inverter = refl
 
 read-empty : readingOf [] ≡ refusal 14 0
@@ -68,5 +68,5 @@ read-references : (readingOf (withSecond 255 255) ≡ accepted (record {
     × ((readingOf (withSecond 255 254) ≡ refusal 10 30)
     × ((readingOf (withSecond 0 0) ≡ refusal 10 30)
     × (readingOf (begin ++ instanceWith 255 255 ++ vector) ≡ refusal 10 23)))
-unfolding begin instanceWith vector withSecond nEnd nEnds badEnds readingOf readFrom unless fieldTests endTests firstOf bodyTests inputsTests typeTests edgeTests edgeTestsOf bridgeTests instanceTests vectorTests isUnknown misplaced isEdge unjudged notComplementary isEmpty listUnsuited listEmpty isLetter tagOf typeIn edgeIn referencesIn instanceIn letterOf vectorIn latest withEdge edgeAdded taken typeAtAfter knownAfter signed choiceOf choiceInRange referenceOf referenceGood twoBytes cutIn cutFrom numbered exhaustiveSize chosenSize faultCount userList bit table joins renamings partIn rename allBelow oneRail isComplementary allOf inRange typeInRange edgeInRange linksOf settingOf known transistorOn channelOf pEnds edgeOn anyOf between links
+unfolding begin instanceWith vector withSecond nEnd nEnds badEnds readingOf readFrom unless fieldTests endTests firstOf bodyTests inputsTests typeTests edgeTests edgeTestsOf bridgeTests instanceTests vectorTests isUnknown misplaced isEdge unjudged notComplementary isEmpty listUnsuited listEmpty isLetter tagOf typeIn edgeIn referencesIn instanceIn letterOf vectorIn latest withEdge edgeAdded taken typeAtAfter knownAfter signed choiceOf choiceInRange referenceOf referenceGood twoBytes cutIn cutFrom numbered exhaustiveSize chosenSize faultCount userList bit table joins renamings partIn rename allBelow oneRail isComplementary allOf inRange typeInRange edgeInRange linksOf settingOf valueOfBit transistorOn channelOf pEnds edgeOn anyOf between links
 read-references = (refl, (refl, (refl, refl)))

@@ -13,7 +13,7 @@ use Rattle.switch.specs.Modules.{ModuleType}
 use Rattle.circuit.specs.Fields.{Field, Cut, clean, broken, field, cutFrom, twoBytes}
 use Rattle.circuit.specs.Circuit.{Circuit, Instance, Listed, faultCount}
 use Rattle.circuit.specs.Known.{Known, start, Tag, inputs-tag, type-tag, edge-tag, bridge-tag, instance-tag, vector-tag, no-tag, tagOf, typeIn, edgeIn, listedIn, instanceIn, vectorIn, latest, withEdge, edgeAdded, taken, typeAtAfter, knownAfter}
-use Rattle.circuit.specs.Table.{Test, Verdict, passes, refused, firstOf, misplaced, isEdge, unjudged, notComplementary, isEmpty, isUnknown, inputsTests, typeTests, edgeTests, bridgeTests, instanceTests, vectorTests, bodyTests, fieldTests, endTests}
+use Rattle.circuit.specs.Table.{Test, Verdict, passes, refusedAt, firstOf, misplaced, isEdge, unjudged, notComplementary, isEmpty, isUnknown, inputsTests, typeTests, edgeTests, bridgeTests, instanceTests, vectorTests, bodyTests, fieldTests, endTests}
 use Rattle.circuit.specs.Reading.{Reading, accepted, unless, readFrom, readingOf}
 use Rattle.circuit.specs.Records.{emptyCircuit}
 use Rattle.circuit.specs.Stages.{Stage, stopped, ifPasses, section, failingBefore, failingVerdict, judged, typeStage, endedVerdict, pastVerdict, endingVerdict, afterStage, afterInputs, fromStart, staged}
@@ -88,7 +88,7 @@ unless-stage : {A : Type 0} (v : Verdict) (r : Reading) (s : Stage A) (next : A 
     → r ≡ afterStage s next → unless v r ≡ afterStage (ifPasses v s) next
 unfolding unless ifPasses afterStage
 unless-stage passes r s next e = e
-unless-stage (refused n p) r s next e = refl
+unless-stage (refusedAt n p) r s next e = refl
 
 judged-quiet : (previous : ℕ) (tag : Tag) (types : List ModuleType) → (unjudged previous ≡ true → notComplementary types ≡ false) → quiet previous tag types
 judged-quiet previous tag types = go (unjudged previous) (isEdge tag) (notComplementary types)
@@ -242,13 +242,13 @@ empty-count (a ∷ as′) = sym (eqb·suc-zero (length as′))
 
 -- a field that is refused by 3 or by 4
 refused-alike : (g : Tag) (previous at : ℕ) (later : Verdict) (more other : Reading) → (isUnknown g ≡ false → misplaced previous g ≡ true)
-    → unless (cond (isUnknown g) (refused 3 at) (cond (misplaced previous g) (refused 4 at) later)) more
-    ≡ unless (cond (isUnknown g) (refused 3 at) (refused 4 at)) other
+    → unless (cond (isUnknown g) (refusedAt 3 at) (cond (misplaced previous g) (refusedAt 4 at) later)) more
+    ≡ unless (cond (isUnknown g) (refusedAt 3 at) (refusedAt 4 at)) other
 unfolding unless
 refused-alike g previous at later more other = go (isUnknown g) (misplaced previous g)
   where
     go : (u m : Bool) → (u ≡ false → m ≡ true)
-        → unless (cond u (refused 3 at) (cond m (refused 4 at) later)) more ≡ unless (cond u (refused 3 at) (refused 4 at)) other
+        → unless (cond u (refusedAt 3 at) (cond m (refusedAt 4 at) later)) more ≡ unless (cond u (refusedAt 3 at) (refusedAt 4 at)) other
     go true m h = refl
     go false true h = refl
     go false false h = let z = h refl in cc
@@ -318,9 +318,9 @@ unfolding firstOf fieldTests failingBefore isUnknown misplaced isEdge
 failing-field previous typeAt c f low high u fl other = go (tagOf (f .tag)) (kind (f .tag)) _
   where
     go : (g : Tag) → Kind (f .tag) g → (later : Verdict)
-        → cond (isUnknown g) (refused 3 (f .at)) (cond (misplaced previous g) (refused 4 (f .at))
-        (cond (cond (unjudged previous && not (isEdge g)) (notComplementary (c .types)) false) (refused 9 typeAt) later))
-        ≡ cond (isUnknown g) (refused 3 (f .at)) (cond (eqb (f .tag) 1) (refused 4 (f .at)) (refused 9 typeAt))
+        → cond (isUnknown g) (refusedAt 3 (f .at)) (cond (misplaced previous g) (refusedAt 4 (f .at))
+        (cond (cond (unjudged previous && not (isEdge g)) (notComplementary (c .types)) false) (refusedAt 9 typeAt) later))
+        ≡ cond (isUnknown g) (refusedAt 3 (f .at)) (cond (eqb (f .tag) 1) (refusedAt 4 (f .at)) (refusedAt 9 typeAt))
     go inputs-tag (is-inputs e) later = rw (e, ne-eqb previous 0 (omega arith))
     go type-tag (is-type e) later = rw (e, in-order 3 previous (omega arith) (omega arith), u, fl)
     go edge-tag (is-edge e) later = absurd (eqb-false (f .tag) 3 other e)
@@ -385,8 +385,8 @@ module _ (size P : ℕ) (types : List ModuleType) (previous typeAt : ℕ) where
         (go (isUnknown (tagOf (f .tag))) (eqb (f .tag) 1) _)
       where
         go : (a b : Bool) (more : Reading)
-            → unless (cond a (refused 3 (f .at)) (cond b (refused 4 (f .at)) (refused 9 typeAt))) more
-            ≡ afterStage (ifPasses (cond a (refused 3 (f .at)) (cond b (refused 4 (f .at)) (refused 9 typeAt))) later) next
+            → unless (cond a (refusedAt 3 (f .at)) (cond b (refusedAt 4 (f .at)) (refusedAt 9 typeAt))) more
+            ≡ afterStage (ifPasses (cond a (refusedAt 3 (f .at)) (cond b (refusedAt 4 (f .at)) (refusedAt 9 typeAt))) later) next
         go true b more = refl
         go false true more = refl
         go false false more = refl

@@ -19,7 +19,7 @@ use Rattle.circuit.specs.Fields.{twoBytes}
 use Rattle.circuit.specs.Circuit.{Instance, Listed, typeOfInstance, chosenSize, faultCount}
 use Rattle.circuit.specs.Numbers.{plus, minus, signed, choiceOf, choiceInRange, referenceGood}
 use Rattle.circuit.specs.Known.{typeIn, edgeIn, bridgeOf, listedIn, instanceIn, letterOf, vectorIn, withEdge}
-use Rattle.circuit.specs.Table.{Test, Verdict, passes, refused, firstOf, bridgeInRange, inputsTests, typeTests, edgeTests, edgeTestsOf, bridgeTests, instanceTests, vectorTests}
+use Rattle.circuit.specs.Table.{Test, Verdict, passes, refusedAt, firstOf, bridgeInRange, inputsTests, typeTests, edgeTests, edgeTestsOf, bridgeTests, instanceTests, vectorTests}
 use Rattle.circuit.specs.Laws.{Each, endsGood, TypeSound, bridgeGood, ListedGood, choiceGood, InstanceGood, RefusalGood}
 use Rattle.circuit.proofs.Verdicts.{first-passes}
 
@@ -55,12 +55,12 @@ each-snoc {A} Holds as′ a each last i none h = go (decLt i (length as′))
 
 -- ---- what tests can refuse with
 
-pub never-passes : {number place : ℕ} → refused number place ≡ passes → ⊥
+pub never-passes : {number place : ℕ} → refusedAt number place ≡ passes → ⊥
 never-passes e = let z : _≡_ {A = ℕ} 0 1 = cc in omega arith
 
 abbrev pub VerdictGood : ℕ → Verdict → Type 0
 VerdictGood size passes = Unit {0}
-VerdictGood size (refused number place) = RefusalGood size number place
+VerdictGood size (refusedAt number place) = RefusalGood size number place
 
 abbrev pub TestsGood : ℕ → List Test → Type 0
 TestsGood size [] = Unit {0}
@@ -71,7 +71,7 @@ unfolding firstOf
 first-good size [] g = tt
 first-good size (t ∷ ts) g = go (t .refuses) (first-good size ts (g .1))
   where
-    go : (b : Bool) → VerdictGood size (firstOf ts) → VerdictGood size (cond b (refused (t .number) (t .place)) (firstOf ts))
+    go : (b : Bool) → VerdictGood size (firstOf ts) → VerdictGood size (cond b (refusedAt (t .number) (t .place)) (firstOf ts))
     go true later = g .0
     go false later = later
 

@@ -13,7 +13,7 @@ use lib.Seq.{drop-cons, ext-getD, getD-take}
 use Rattle.words.proofs.Tables.{length-table}
 use Rattle.switch.specs.Conduction.{Edge, between}
 use Rattle.switch.specs.Modules.{ModuleType, allOf, typeInRange, edgeInRange, inRange}
-use Rattle.switch.specs.Records.{edgeOf, edgesOf, typeOf, Given}
+use Rattle.switch.specs.Records.{edgeOf, edgesOf, typeOf, TypeGiven}
 use Rattle.switch.specs.declared.Edge.{Edge as EdgeRecord}
 use Rattle.switch.proofs.Paths.{both}
 use Rattle.switch.proofs.Deciding.{and-both}
@@ -109,7 +109,7 @@ module _ (t : ModuleType) (ranges : T (inRange t)) (within : length (t .edges) �
       ap (λ (es : List Edge). record { highest = t .highest; output = t .output; labels = t .labels; edges = es })
       (ap edgesOf used-edges ∙ edges-back (t .highest) (t .labels) (t .edges) (edges-ranges .1))
 
-  pub type-given : Given (typeRecord t)
+  pub type-given : TypeGiven (typeRecord t)
   unfolding typeRecord
   type-given = record {
     places = within;

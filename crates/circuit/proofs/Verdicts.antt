@@ -4,15 +4,15 @@ use mathlib.Core.Path.{_≡_, refl, sym}
 use mathlib.Core.Bool.{Bool, true, false, cond}
 use mathlib.Core.List.{List, [], _∷_}
 use native.Mathlib.Omega.{arith}
-use Rattle.circuit.specs.Table.{Test, Verdict, passes, refused, firstOf}
+use Rattle.circuit.specs.Table.{Test, Verdict, passes, refusedAt, firstOf}
 use Rattle.circuit.specs.Answers.{isRefused, orIf}
 
 -- the verdict after some more tests
 unfoldable pub firstAfter : Verdict → List Test → Verdict
 firstAfter v [] = v
-firstAfter v (t ∷ ts) = firstAfter (orIf v (t .refuses) (refused (t .number) (t .place))) ts
+firstAfter v (t ∷ ts) = firstAfter (orIf v (t .refuses) (refusedAt (t .number) (t .place))) ts
 
-pub after-refused : (n p : ℕ) (ts : List Test) → firstAfter (refused n p) ts ≡ refused n p
+pub after-refused : (n p : ℕ) (ts : List Test) → firstAfter (refusedAt n p) ts ≡ refusedAt n p
 unfolding firstAfter orIf
 after-refused n p [] = refl
 after-refused n p (t ∷ ts) = after-refused n p ts
@@ -24,25 +24,25 @@ chain [] = refl
 chain (t ∷ ts) = go (t .refuses) (chain ts)
   where
     go : (b : Bool) → firstOf ts ≡ firstAfter passes ts
-        → cond b (refused (t .number) (t .place)) (firstOf ts) ≡ firstAfter (cond b (refused (t .number) (t .place)) passes) ts
+        → cond b (refusedAt (t .number) (t .place)) (firstOf ts) ≡ firstAfter (cond b (refusedAt (t .number) (t .place)) passes) ts
     go true later = sym (after-refused (t .number) (t .place) ts)
     go false later = later
 
-pub refused-is : (v : Verdict) → isRefused v ≡ true → (n : ℕ) × (p : ℕ) × (v ≡ refused n p)
+pub refused-is : (v : Verdict) → isRefused v ≡ true → (n : ℕ) × (p : ℕ) × (v ≡ refusedAt n p)
 unfolding isRefused
 refused-is passes e = let z : _≡_ {A = ℕ} 0 1 = cc in absurd (omega arith)
-refused-is (refused n p) e = (n, p, refl)
+refused-is (refusedAt n p) e = (n, p, refl)
 
 pub passes-is : (v : Verdict) → isRefused v ≡ false → v ≡ passes
 unfolding isRefused
 passes-is passes e = refl
-passes-is (refused n p) e = cc
+passes-is (refusedAt n p) e = cc
 
 -- where no test refuses, the first does not, and none of the others does
 pub first-passes : (t : Test) (ts : List Test) → firstOf (t ∷ ts) ≡ passes → (t .refuses ≡ false) × (firstOf ts ≡ passes)
 unfolding firstOf
 first-passes t ts = go (t .refuses)
   where
-    go : (b : Bool) → cond b (refused (t .number) (t .place)) (firstOf ts) ≡ passes → (b ≡ false) × (firstOf ts ≡ passes)
+    go : (b : Bool) → cond b (refusedAt (t .number) (t .place)) (firstOf ts) ≡ passes → (b ≡ false) × (firstOf ts ≡ passes)
     go true e = (cc, cc)
     go false e = (refl, e)

@@ -8,7 +8,7 @@ use Rattle.circuit.specs.Limits.{mostBytes}
 use Rattle.circuit.specs.Fields.{Cut, clean, broken, field, cutFrom}
 use Rattle.circuit.specs.Circuit.{Circuit}
 use Rattle.circuit.specs.Known.{Known, start, knownAfter}
-use Rattle.circuit.specs.Table.{Verdict, passes, refused, firstOf, fieldTests, endTests}
+use Rattle.circuit.specs.Table.{Verdict, passes, refusedAt, firstOf, fieldTests, endTests}
 
 pub data Reading : Type 0 where
   accepted : Circuit → Reading
@@ -16,7 +16,7 @@ pub data Reading : Type 0 where
 
 unfoldable pub unless : Verdict → Reading → Reading
 unless passes reading = reading
-unless (refused number place) reading = refusal number place
+unless (refusedAt number place) reading = refusal number place
 
 -- the fields that are left, after what is known from those before them, in a file of this size
 unfoldable pub readFrom : ℕ → Known → Cut → Reading

@@ -11,7 +11,7 @@ use Rattle.circuit.specs.Limits.{mostBytes}
 use Rattle.circuit.specs.Fields.{Cut, clean, broken, field, cutFrom, twoBytes}
 use Rattle.circuit.specs.Circuit.{Instance, Listed, faultCount}
 use Rattle.circuit.specs.Known.{typeIn, edgeIn, listedIn, instanceIn, vectorIn, latest, withEdge, edgeAdded, tagOf}
-use Rattle.circuit.specs.Table.{Test, Verdict, passes, refused, firstOf, notComplementary, isEmpty, isUnknown, inputsTests, typeTests, edgeTests, bridgeTests, instanceTests, vectorTests}
+use Rattle.circuit.specs.Table.{Test, Verdict, passes, refusedAt, firstOf, notComplementary, isEmpty, isUnknown, inputsTests, typeTests, edgeTests, bridgeTests, instanceTests, vectorTests}
 use Rattle.circuit.specs.Reading.{Reading, accepted, refusal, unless}
 use Rattle.circuit.specs.Records.{emptyCircuit}
 
@@ -24,12 +24,12 @@ pub data Stage (A : Type 0) : Type 0 where
 
 unfoldable pub ifPasses : {A : Type 0} → Verdict → Stage A → Stage A
 ifPasses passes stage = stage
-ifPasses (refused number place) stage = failed number place
+ifPasses (refusedAt number place) stage = failed number place
 
 -- what a stage gives that has stopped with a verdict and what it has gathered
 unfoldable pub stageOf : {A : Type 0} → Verdict → A → Cut → Stage A
 stageOf passes a cut = stopped a cut
-stageOf (refused number place) a cut = failed number place
+stageOf (refusedAt number place) a cut = failed number place
 
 -- the fields with one tag, each tested against what was gathered from those before it
 unfoldable pub section : {A : Type 0} → ℕ → (A → ℕ → List ℕ → List Test) → (A → List ℕ → A) → A → Cut → Stage A
@@ -61,11 +61,11 @@ vectorStage P =
 -- the refusal of a type that is not complementary: 9, unless what stands next is refused before 9 is looked at
 unfoldable pub failingBefore : ℕ → ℕ → ℕ → Verdict
 failingBefore tag at typeAt =
-    cond (isUnknown (tagOf tag)) (refused 3 at) (cond (eqb tag 1) (refused 4 at) (refused 9 typeAt))
+    cond (isUnknown (tagOf tag)) (refusedAt 3 at) (cond (eqb tag 1) (refusedAt 4 at) (refusedAt 9 typeAt))
 
 unfoldable pub failingVerdict : ℕ → Cut → Verdict
-failingVerdict typeAt clean = refused 9 typeAt
-failingVerdict typeAt (broken at) = refused 2 at
+failingVerdict typeAt clean = refusedAt 9 typeAt
+failingVerdict typeAt (broken at) = refusedAt 2 at
 failingVerdict typeAt (field f rest) = failingBefore (f .tag) (f .at) typeAt
 
 -- the latest of some types is judged
@@ -85,14 +85,14 @@ typeStage types typeAt (field f rest) =
 
 -- after all stages nothing may stand but the end, and an instance and a vector must have been there
 unfoldable pub endedVerdict : ℕ → ℕ → ℕ → Verdict
-endedVerdict size instances vectors = cond (eqb instances 0) (refused 14 size) (cond (eqb vectors 0) (refused 14 size) passes)
+endedVerdict size instances vectors = cond (eqb instances 0) (refusedAt 14 size) (cond (eqb vectors 0) (refusedAt 14 size) passes)
 
 unfoldable pub pastVerdict : ℕ → ℕ → Verdict
-pastVerdict tag at = cond (isUnknown (tagOf tag)) (refused 3 at) (refused 4 at)
+pastVerdict tag at = cond (isUnknown (tagOf tag)) (refusedAt 3 at) (refusedAt 4 at)
 
 unfoldable pub endingVerdict : ℕ → ℕ → ℕ → Cut → Verdict
 endingVerdict size instances vectors clean = endedVerdict size instances vectors
-endingVerdict size instances vectors (broken at) = refused 2 at
+endingVerdict size instances vectors (broken at) = refusedAt 2 at
 endingVerdict size instances vectors (field f rest) = pastVerdict (f .tag) (f .at)
 
 unfoldable pub afterStage : {A : Type 0} → Stage A → (A → Cut → Reading) → Reading

@@ -26,12 +26,12 @@ test number refuses place = record { number = number; refuses = refuses; place =
 
 pub data Verdict : Type 0 where
   passes : Verdict
-  refused : ℕ → ℕ → Verdict
+  refusedAt : ℕ → ℕ → Verdict
 
 -- the first test that refuses
 unfoldable pub firstOf : List Test → Verdict
 firstOf [] = passes
-firstOf (t ∷ ts) = let later = firstOf ts in cond (t .refuses) (refused (t .number) (t .place)) later
+firstOf (t ∷ ts) = let later = firstOf ts in cond (t .refuses) (refusedAt (t .number) (t .place)) later
 
 -- ---- number 4: a first field that is not tag 1, a later tag 1, an edge not right after its type or an edge of it, or a tag whose place in this order is past
 

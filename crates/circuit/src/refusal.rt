@@ -1,6 +1,6 @@
 // Why a file is refused, a case for each reason of the table, with its place where the table gives one.
 ghost use mathlib.Core.Path.{_≡_};
-ghost use Rattle.circuit.specs.Answers.{numberOf, placeOf, verdictOf, isRefused, orIf};
+ghost use Rattle.circuit.specs.Answers.{refusalNumber, refusalPlace, verdictOf, isRefused, orIf};
 
 pub enum Refusal {
     Nothing,
@@ -45,7 +45,7 @@ pub fn or_if(so_far: Refusal, test: bool, this: Refusal) -> Refusal
 
 // The table's number of a refusal, 0 where there is none.
 pub fn number_of(r: Refusal) -> u32
-    ensures { λ n. ⌜ n ≡ numberOf r ⌝ }
+    ensures { λ n. ⌜ n ≡ refusalNumber r ⌝ }
 {
     match r {
         Refusal::Nothing => 0,
@@ -68,7 +68,7 @@ pub fn number_of(r: Refusal) -> u32
 
 // The place of a refusal, 0 where the table gives none.
 pub fn place_of(r: Refusal) -> usize
-    ensures { λ p. ⌜ p ≡ placeOf r ⌝ }
+    ensures { λ p. ⌜ p ≡ refusalPlace r ⌝ }
 {
     match r {
         Refusal::Nothing => 0,

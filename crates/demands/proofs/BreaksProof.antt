@@ -49,7 +49,7 @@ abbrev wordAt : ℕ → List ℕ → ℕ
 wordAt i words = getD words i 0
 
 pub break-demand-one : BreakDemandOne
-unfolding wrong-computing toldBy isGraded bufferTests testsFrom tableOf passed Refuses reading.placeOf
+unfolding wrong-computing toldBy isGraded bufferTests testsFrom tableOf passed Refuses reading.refusalPlace
 break-demand-one = record {
   refuses-every = λ meets. meets inverter room entries .graded-when-none-applies .1 tt;
   skips-nine = λ meets. meets split room entries .graded-when-none-applies .0 tt;

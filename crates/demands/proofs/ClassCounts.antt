@@ -153,7 +153,7 @@ module _ (call : Call) (c : Circuit) (g : GradedAs call c) where
       (λ e. tested .1 (numbers .0 e), λ o. numbers .1 (tested .0 o))
 
   tell : ClassesTell call c
-  unfolding meant.countsOf
+  unfolding meant.countsOfCircuit
   tell =
       let numbers : ClassNumbers c = class-numbers c in
       let class = class-is call c g in

@@ -12,7 +12,7 @@ use Rattle.words.proofs.Sums.{sum-into, sum-ones}
 use Rattle.circuit.specs.Circuit.{Circuit}
 use Rattle.grading.specs.Rows.{Row, rowsOf, markOf}
 use Rattle.grading.specs.Classes.{sameClass, classesOf, classFound, foundAmong, classCount, foundCount}
-use Rattle.grading.specs.Statements.{RowOf, SameClassIsEquivalence, classAt}
+use Rattle.grading.specs.Statements.{RowOf, SameClassIsEquivalence, classNumber}
 use Rattle.grading.proofs.Everywhere.{every-at, place-of}
 use Rattle.grading.proofs.SameClass.{same-class-is-equivalence, classes-have-equal-marks}
 use Rattle.grading.proofs.ClassNumbering.{class-numbers}
@@ -69,13 +69,13 @@ module _ (c all d : Circuit) (carries : Carries c all d) where
     like : T (sameClass (rowOf c r) (rowOf d row))
     class : ℕ
     is-class : class < classCount d
-    of-class : classAt d row ≡ suc class
+    of-class : classNumber d row ≡ suc class
 
   land : (r : ℕ) → r < length (rowsOf c) → Landing r
   land r h =
       let other = carries .partner (rowOf c r) (row-of c r h) in
       let place = place-of noRow (other .1) in
-      let number : ℕ = classAt d (place .0) in
+      let number : ℕ = classNumber d (place .0) in
       let low : 1 ≤ number = class-numbers d .low (place .0) (place .1) in
       record {
         row = place .0;
@@ -90,7 +90,7 @@ module _ (c all d : Circuit) (carries : Carries c all d) where
   record To (i j : ℕ) : Type 0 where
     row : ℕ
     is-row : row < length (rowsOf c)
-    of-class : classAt c row ≡ suc i
+    of-class : classNumber c row ≡ suc i
     landing : Landing row
     there : landing .class ≡ j
 
@@ -106,7 +106,7 @@ module _ (c all d : Circuit) (carries : Carries c all d) where
       class-numbers d .same (a .row) (b .row) noRow (a .is-row) (b .is-row) .0
       (omega (arith, a .of-class, b .of-class, p .there, q .there)) in
       let back : T (sameClass (rowOf d (b .row)) (rowOf c (q .row))) = laws .turned (rowOf c (q .row)) (rowOf d (b .row)) qr br (b .like) in
-      let same : classAt c (p .row) ≡ classAt c (q .row) =
+      let same : classNumber c (p .row) ≡ classNumber c (q .row) =
       class-numbers c .same (p .row) (q .row) noRow (p .is-row) (q .is-row) .1
       (laws .through (rowOf c (p .row)) (rowOf d (a .row)) (rowOf c (q .row)) pr ar qr (a .like)
       (laws .through (rowOf d (a .row)) (rowOf d (b .row)) (rowOf c (q .row)) ar br qr one back)) in

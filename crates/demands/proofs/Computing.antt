@@ -7,7 +7,7 @@ use Rattle.words.specs.Bits.{bit, pack, word, sumTo}
 use Rattle.words.specs.Tables.{table, upTo}
 use Rattle.words.specs.Rows.{rowOf}
 use Rattle.switch.specs.Conduction.{between, pEnds, nEnd, nEnds, badEnds, channelOf, transistorOn, anyOf, edgeOn, links}
-use Rattle.switch.specs.Modules.{allOf, typeInRange, edgeInRange, linksOf, known, settingOf}
+use Rattle.switch.specs.Modules.{allOf, typeInRange, edgeInRange, linksOf, valueOfBit, settingOf}
 use Rattle.switch.specs.Bridges.{toLabel, closing}
 use Rattle.switch.specs.Deciding as deciding
 use Rattle.switch.specs.Deciding.{rename, partIn, renamings, joins, allBelow, oneRail, isComplementary, isMarked}
@@ -20,7 +20,7 @@ use Rattle.circuit.specs.Reading.{unless, readFrom, readingOf}
 use Rattle.grading.specs.Values.{valueAt, labelValues, outputsAfter, outputsOf}
 use Rattle.grading.specs.Rows.{rowsOfInstance, rowsFrom, rowsOf, rowValues, cell, markOf, rowWords, matrixOf}
 use Rattle.grading.specs.Classes.{sameReference, sameLabel, sameBridge, sameClass, classAmong, largest, classesAfter, classesOf, hasMark, classFound, foundAmong, classCount, foundCount}
-use Rattle.grading.specs.Grading.{countsOf, gradingOfCircuit, afterReading, gradingOf, countsIn, numberIn, placeIn, over, matrixAfter, classesAfterGrading}
+use Rattle.grading.specs.Grading.{countsOfCircuit, gradingOfCircuit, afterReading, gradingOf, countsIn, numberIn, placeIn, over, matrixAfter, classesAfterGrading}
 use Rattle.grading.specs.Promise as promise
 use Rattle.circuit.specs.Answers as reading
 use Rattle.demands.specs.Graders.{refusalOf, refusing, outcomeOf, gradesBy, classAmongBy, classesAfterBy, classesBy, hasMarkBy, classFoundBy, foundBy, workBy, marksBy, rightWork, rightly}
@@ -28,8 +28,8 @@ use Rattle.demands.specs.Graders.{refusalOf, refusing, outcomeOf, grades
 -- to unfold a definition is to unfold what its line names
 unfoldable pub computing : Unit {0}
 unfolding bit pack word sumTo table upTo rowOf
-    between pEnds nEnd nEnds badEnds channelOf transistorOn anyOf edgeOn links allOf typeInRange edgeInRange linksOf known settingOf
-    toLabel closing rename partIn renamings joins allBelow oneRail isComplementary deciding.outputOf isMarked
+    between pEnds nEnd nEnds badEnds channelOf transistorOn anyOf edgeOn links allOf typeInRange edgeInRange linksOf valueOfBit settingOf
+    toLabel closing rename partIn renamings joins allBelow oneRail isComplementary deciding.outputValue isMarked
     twoBytes cutIn cutFrom numbered joinLists nodePairs nodeInputs exhaustiveList exhaustiveSize userList chosen chosenSize faultsOf faultCount
     signed choiceOf choiceInRange referenceOf referenceGood
     tagOf typeIn edgeIn bridgeOf listedIn referencesIn instanceIn letterOf vectorIn latest withEdge edgeAdded taken typeAtAfter knownAfter
@@ -37,12 +37,12 @@ unfolding bit pack word sumTo table upTo rowOf
     inputsTests typeTests edgeTestsOf edgeTests bridgeTests instanceTests vectorTests bodyTests isUnknown fieldTests endTests
     unless readFrom readingOf valueAt labelValues outputsAfter outputsOf rowsOfInstance rowsFrom rowsOf rowValues cell markOf rowWords matrixOf
     sameReference sameLabel sameBridge sameClass classAmong largest classesAfter classesOf hasMark classFound foundAmong classCount foundCount
-    countsOf gradingOfCircuit afterReading gradingOf countsIn numberIn placeIn over matrixAfter classesAfterGrading
+    countsOfCircuit gradingOfCircuit afterReading gradingOf countsIn numberIn placeIn over matrixAfter classesAfterGrading
 computing = tt
 
 -- and what a grader of specs/Graders does
 unfoldable pub grader-computing : Unit {0}
-unfolding computing reading.numberOf promise.numberOf promise.countsOf
+unfolding computing reading.refusalNumber promise.numberOf promise.countsOf
     refusalOf refusing outcomeOf gradesBy classAmongBy classesAfterBy classesBy hasMarkBy classFoundBy foundBy workBy marksBy rightWork rightly
 grader-computing = tt
 

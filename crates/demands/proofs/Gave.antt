@@ -25,7 +25,7 @@ pub record Gave (call : Call) (c : Circuit) : Type 0 where
   pub good : CircuitGood c
   pub words : 4 * length (rowsOf c) ≤ length (call .matrix)
   pub entries : length (rowsOf c) ≤ length (call .classes)
-  pub counts-are : countsOf (call .answer) ≡ grading.countsOf c
+  pub counts-are : countsOf (call .answer) ≡ grading.countsOfCircuit c
   pub matrix-is : call .matrix-after ≡ over (matrixOf c) (call .matrix)
   pub classes-are : call .classes-after ≡ over (classesOf (rowsOf c)) (call .classes)
 
@@ -71,11 +71,11 @@ gave call c given =
 
 module _ (call : Call) (c : Circuit) (given : GradedAs call c) where
   pub classes-counted : countsOf (call .answer) .classes ≡ classCount c
-  unfolding grading.countsOf
+  unfolding grading.countsOfCircuit
   classes-counted = ap (λ (counts : grading.Counts). counts .classes) (gave call c given .counts-are)
 
   pub found-counted : countsOf (call .answer) .found ≡ foundCount c
-  unfolding grading.countsOf
+  unfolding grading.countsOfCircuit
   found-counted = ap (λ (counts : grading.Counts). counts .found) (gave call c given .counts-are)
 
   pub class-is : (r : ℕ) → r < length (rowsOf c) → classAt (call .classes-after) r ≡ getD (classesOf (rowsOf c)) r 0

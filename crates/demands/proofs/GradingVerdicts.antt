@@ -11,14 +11,14 @@ use Rattle.circuit.specs.Limits.{mostBytes}
 use Rattle.circuit.specs.Fields.{Cut, clean, broken, field, cutFrom}
 use Rattle.circuit.specs.Circuit.{Circuit}
 use Rattle.circuit.specs.Known.{Known, start, knownAfter}
-use Rattle.circuit.specs.Table.{Verdict, passes, refused, firstOf, fieldTests, endTests}
+use Rattle.circuit.specs.Table.{Verdict, passes, refusedAt, firstOf, fieldTests, endTests}
 use Rattle.circuit.specs.Reading.{Reading, accepted, refusal, unless, readFrom, readingOf}
 use Rattle.circuit.specs.Answers as reading
 use Rattle.circuit.proofs.CircuitLaws.{accepted-is-good, refusal-is-good}
 use Rattle.circuit.proofs.Tested.{never-passes}
 use Rattle.grading.specs.Rows.{rowsOf}
 use Rattle.grading.specs.Grading.{Grading, graded, gradingOf, gradingOfCircuit, afterReading, countsIn, numberIn, placeIn}
-use Rattle.grading.specs.Grading.{refused as refusedGrading}
+use Rattle.grading.specs.Grading.{refused}
 use Rattle.grading.specs.Grading as grading
 use Rattle.grading.specs.Promise.{numberOf, placeOf, countsOf, Meets}
 use Rattle.grading.specs.declared.Answer.{Answer}
@@ -31,14 +31,14 @@ use Rattle.demands.proofs.Verdicts.{orLater, first-append}
 
 unfoldable pub verdictIn : Grading → Verdict
 verdictIn (graded c) = passes
-verdictIn (refusedGrading number place) = refused number place
+verdictIn (refused number place) = refusedAt number place
 
 module _ (size words entries : ℕ) where
   later-is : (v later : Verdict) (read : Reading) → later ≡ verdictIn (afterReading read words entries)
       → orLater v later ≡ verdictIn (afterReading (unless v read) words entries)
   unfolding orLater unless afterReading verdictIn
   later-is passes later read e = e
-  later-is (refused number place) later read e = refl
+  later-is (refusedAt number place) later read e = refl
 
   buffers-tell : (c : Circuit) → firstOf (bufferTests c words entries) ≡ verdictIn (gradingOfCircuit c words entries)
   unfolding firstOf bufferTests gradingOfCircuit verdictIn
@@ -47,8 +47,8 @@ module _ (size words entries : ℕ) where
       faults : ℕ
       faults = length (rowsOf c)
 
-      go : (a b : Bool) → cond a (refused 15 (4 * faults)) (cond b (refused 22 faults) passes)
-          ≡ verdictIn (cond a (refusedGrading 15 (4 * faults)) (cond b (refusedGrading 22 faults) (graded c)))
+      go : (a b : Bool) → cond a (refusedAt 15 (4 * faults)) (cond b (refusedAt 22 faults) passes)
+          ≡ verdictIn (cond a (refused 15 (4 * faults)) (cond b (refused 22 faults) (graded c)))
       go true b = refl
       go false true = refl
       go false false = refl
@@ -69,7 +69,7 @@ pub table-tells : (file : List ℕ) (words entries : ℕ) → firstOf (tableOf f
 unfolding tableOf gradingOf readingOf afterReading verdictIn firstOf
 table-tells file words entries = go (ltb mostBytes (length file))
   where
-    go : (long : Bool) → cond long (refused 1 0) (firstOf (testsFrom (length file) words entries start (cutFrom file 0)))
+    go : (long : Bool) → cond long (refusedAt 1 0) (firstOf (testsFrom (length file) words entries start (cutFrom file 0)))
         ≡ verdictIn (afterReading (cond long (refusal 1 0) (readFrom (length file) start (cutFrom file 0))) words entries)
     go true = refl
     go false = rest-tells (length file) words entries start (cutFrom file 0)
@@ -79,7 +79,7 @@ table-tells file words entries = go (ltb mostBytes (length file))
 -- a graded circuit has a vector, and a refusal has a number
 GradingGood : Grading → Type 0
 GradingGood (graded c) = 1 ≤ length (c .vectors)
-GradingGood (refusedGrading number place) = 1 ≤ number
+GradingGood (refused number place) = 1 ≤ number
 
 grading-good : (file : List ℕ) (words entries : ℕ) → GradingGood (gradingOf file words entries)
 unfolding gradingOf afterReading gradingOfCircuit GradingGood
@@ -92,28 +92,28 @@ grading-good file words entries = go (readingOf file) refl
         faults : ℕ
         faults = length (rowsOf c)
 
-        buffers : (a b : Bool) → GradingGood (cond a (refusedGrading 15 (4 * faults)) (cond b (refusedGrading 22 faults) (graded c)))
+        buffers : (a b : Bool) → GradingGood (cond a (refused 15 (4 * faults)) (cond b (refused 22 faults) (graded c)))
         buffers true b = omega arith
         buffers false true = omega arith
         buffers false false = accepted-is-good file c e .some-vector
 
 unfoldable pub answered : Answer → Verdict
 answered (Graded counts) = passes
-answered (Refused r) = refused (reading.numberOf r) (reading.placeOf r)
-answered (ShortMatrix words) = refused 15 words
-answered (ShortClasses faults) = refused 22 faults
+answered (Refused r) = refusedAt (reading.refusalNumber r) (reading.refusalPlace r)
+answered (ShortMatrix words) = refusedAt 15 words
+answered (ShortClasses faults) = refusedAt 22 faults
 
 module _ (matrix classes matrix′ classes′ : List ℕ) where
   answer-tells : (g : Grading) (answer : Answer) → GradingGood g → Meets g answer matrix classes matrix′ classes′ → answered answer ≡ verdictIn g
-  unfolding GradingGood answered verdictIn numberOf placeOf countsOf countsIn numberIn placeIn grading.countsOf
+  unfolding GradingGood answered verdictIn numberOf placeOf countsOf countsIn numberIn placeIn grading.countsOfCircuit
   answer-tells (graded c) (Graded counts) good meets = refl
   answer-tells (graded c) (Refused r) good meets = let none : 0 ≡ length (c .vectors) = ap (λ k. k .vectors) (meets .counts) in absurd (omega arith)
   answer-tells (graded c) (ShortMatrix words) good meets = absurd (omega (arith, meets .number))
   answer-tells (graded c) (ShortClasses faults) good meets = absurd (omega (arith, meets .number))
-  answer-tells (refusedGrading number place) (Graded counts) good meets = absurd (omega (arith, meets .number))
-  answer-tells (refusedGrading number place) (Refused r) good meets = ap₂ refused (meets .number) (meets .place)
-  answer-tells (refusedGrading number place) (ShortMatrix words) good meets = ap₂ refused (meets .number) (meets .place)
-  answer-tells (refusedGrading number place) (ShortClasses faults) good meets = ap₂ refused (meets .number) (meets .place)
+  answer-tells (refused number place) (Graded counts) good meets = absurd (omega (arith, meets .number))
+  answer-tells (refused number place) (Refused r) good meets = ap₂ refusedAt (meets .number) (meets .place)
+  answer-tells (refused number place) (ShortMatrix words) good meets = ap₂ refusedAt (meets .number) (meets .place)
+  answer-tells (refused number place) (ShortClasses faults) good meets = ap₂ refusedAt (meets .number) (meets .place)
 
 pub graded-is : (answer : Answer) → T (isGraded answer) ↔ (answered answer ≡ passes)
 unfolding isGraded answered
@@ -122,12 +122,12 @@ graded-is (Refused r) = (λ t. absurd t, λ e. absurd (never-passes e))
 graded-is (ShortMatrix words) = (λ t. absurd t, λ e. absurd (never-passes e))
 graded-is (ShortClasses faults) = (λ t. absurd t, λ e. absurd (never-passes e))
 
-pub refuses-is : (answer : Answer) (number place : ℕ) → Refuses answer number place ↔ (answered answer ≡ refused number place)
+pub refuses-is : (answer : Answer) (number place : ℕ) → Refuses answer number place ↔ (answered answer ≡ refusedAt number place)
 unfolding Refuses answered
 refuses-is (Graded counts) number place = (λ t. absurd t, λ e. absurd (never-passes (sym e)))
-refuses-is (Refused r) number place = (λ p. ap₂ refused (p .0) (p .1), λ e. (cc, cc))
-refuses-is (ShortMatrix words) number place = (λ p. ap₂ refused (p .0) (p .1), λ e. (cc, cc))
-refuses-is (ShortClasses faults) number place = (λ p. ap₂ refused (p .0) (p .1), λ e. (cc, cc))
+refuses-is (Refused r) number place = (λ p. ap₂ refusedAt (p .0) (p .1), λ e. (cc, cc))
+refuses-is (ShortMatrix words) number place = (λ p. ap₂ refusedAt (p .0) (p .1), λ e. (cc, cc))
+refuses-is (ShortClasses faults) number place = (λ p. ap₂ refusedAt (p .0) (p .1), λ e. (cc, cc))
 
 -- an answer that keeps the promise has the verdict of the grading
 pub answer-is : (call : Call) → Kept call → answered (call .answer) ≡ verdictIn (gradingOf (call .file) (length (call .matrix)) (length (call .classes)))

@@ -9,7 +9,7 @@ use Rattle.report.specs.Lines.{firstLine, kindLetter, digitsOfMarks, rowLine, r
 use Rattle.demands.specs.Calls.{cellAt}
 use Rattle.demands.specs.Report.{kindOf, firstOf, secondOf, lineOf, linesOf, countsLine, reportOf}
 use Rattle.demands.specs.Claims.{marksFrom, marksIn, floatsUnder, floatsOf, floatsIn, Holds, no-more, _and_}
-use Rattle.demands.specs.Known.{AllKnown}
+use Rattle.demands.specs.KnownResults.{AllKnown}
 use Rattle.demands.proofs.Computing.{computing}
 
 pub all-known : AllKnown

@@ -6,10 +6,10 @@ use mathlib.Core.List.{List}
 use lib.Dec.{T}
 use lib.ListN.{length}
 use Rattle.circuit.specs.Circuit.{Circuit}
-use Rattle.circuit.specs.Table.{refused}
+use Rattle.circuit.specs.Table.{refusedAt}
 use Rattle.circuit.proofs.Tested.{never-passes}
 use Rattle.grading.specs.Grading.{Grading, graded, gradingOf, over}
-use Rattle.grading.specs.Grading.{refused as refusedGrading}
+use Rattle.grading.specs.Grading.{refused}
 use Rattle.demands.specs.Calls.{Call, Accepts, GradedAs, isGraded}
 use Rattle.demands.specs.Two.{CellsTell}
 use Rattle.demands.specs.Graders.{Work, outcomeOf, gradesBy, workBy, rightWork, rightly, called}
@@ -42,13 +42,13 @@ module _ (work : Circuit → Work) (matrix classes : List ℕ) where
   same-verdict : (g : Grading) → answered (outcomeOf work g matrix classes .answer) ≡ answered (outcomeOf rightWork g matrix classes .answer)
   unfolding outcomeOf answered
   same-verdict (graded c) = refl
-  same-verdict (refusedGrading n p) = refl
+  same-verdict (refused n p) = refl
 
-  refusal-keeps : (g : Grading) (number place : ℕ) → answered (outcomeOf work g matrix classes .answer) ≡ refused number place
+  refusal-keeps : (g : Grading) (number place : ℕ) → answered (outcomeOf work g matrix classes .answer) ≡ refusedAt number place
       → (outcomeOf work g matrix classes .matrix ≡ matrix) × (outcomeOf work g matrix classes .classes ≡ classes)
   unfolding outcomeOf answered
   refusal-keeps (graded c) number place e = absurd (never-passes (sym e))
-  refusal-keeps (refusedGrading n p) number place e = (refl, refl)
+  refusal-keeps (refused n p) number place e = (refl, refl)
 
 by-any-work : (work : Circuit → Work) → MeetsOne (gradesBy work)
 unfolding gradesBy rightly
@@ -79,13 +79,13 @@ module _ (work : Circuit → Work) (same : (c : Circuit) → work c .words ≡ r
   same-matrix : (g : Grading) (matrix classes : List ℕ) → outcomeOf work g matrix classes .matrix ≡ outcomeOf rightWork g matrix classes .matrix
   unfolding outcomeOf
   same-matrix (graded c) matrix classes = ap (λ (words : List ℕ). over words matrix) (same c)
-  same-matrix (refusedGrading n p) matrix classes = refl
+  same-matrix (refused n p) matrix classes = refl
 
   graded-too : (g : Grading) (matrix classes : List ℕ) → T (isGraded (outcomeOf work g matrix classes .answer))
       → T (isGraded (outcomeOf rightWork g matrix classes .answer))
   unfolding outcomeOf isGraded
   graded-too (graded c) matrix classes t = tt
-  graded-too (refusedGrading n p) matrix classes t = t
+  graded-too (refused n p) matrix classes t = t
 
   by-right-words : MeetsCells (gradesBy work)
   unfolding gradesBy rightly

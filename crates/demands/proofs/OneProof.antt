@@ -11,14 +11,14 @@ use lib.ListN.{length, drop, length-append, length-drop}
 use lib.Seq.{drop-at}
 use Rattle.switch.specs.Modules.{allOf}
 use Rattle.circuit.specs.Circuit.{Circuit}
-use Rattle.circuit.specs.Table.{passes, refused, firstOf}
+use Rattle.circuit.specs.Table.{passes, refusedAt, firstOf}
 use Rattle.circuit.specs.Reading.{Reading, accepted, refusal, readingOf}
 use Rattle.circuit.specs.Answers as reading
 use Rattle.circuit.proofs.Tested.{never-passes}
 use Rattle.grading.specs.Rows.{rowsOf, matrixOf}
 use Rattle.grading.specs.Classes.{classesOf}
 use Rattle.grading.specs.Grading.{Grading, graded, noCounts, gradingOf, gradingOfCircuit, afterReading, over, matrixAfter, classesAfterGrading}
-use Rattle.grading.specs.Grading.{refused as refusedGrading}
+use Rattle.grading.specs.Grading.{refused}
 use Rattle.grading.specs.Promise.{countsOf}
 use Rattle.grading.specs.declared.Answer.{Answer}
 use Rattle.grading.specs.declared.Answer.the-variants.{Graded, Refused, ShortMatrix, ShortClasses}
@@ -33,7 +33,7 @@ use Rattle.demands.proofs.GradingVerdicts.{verdictIn, table-tells, answ
 graded-or-refused : (answer : Answer) → T (isGraded answer) ⊎ ((number : ℕ) × (place : ℕ) × Refuses answer number place)
 unfolding isGraded Refuses
 graded-or-refused (Graded counts) = inl tt
-graded-or-refused (Refused r) = inr (reading.numberOf r, reading.placeOf r, (refl, refl))
+graded-or-refused (Refused r) = inr (reading.refusalNumber r, reading.refusalPlace r, (refl, refl))
 graded-or-refused (ShortMatrix words) = inr (15, words, (refl, refl))
 graded-or-refused (ShortClasses faults) = inr (22, faults, (refl, refl))
 
@@ -45,7 +45,7 @@ meant call = gradingOf (call .file) (length (call .matrix)) (length (call .class
 -- its verdict is the grading's, and a refusal leaves both buffers as they were
 pub record ByTheTable (call : Call) : Type 0 where
   pub verdict : answered (call .answer) ≡ verdictIn (meant call)
-  pub keeps : (number place : ℕ) → answered (call .answer) ≡ refused number place → (call .matrix-after ≡ call .matrix) × (call .classes-after ≡ call .classes)
+  pub keeps : (number place : ℕ) → answered (call .answer) ≡ refusedAt number place → (call .matrix-after ≡ call .matrix) × (call .classes-after ≡ call .classes)
 
 counts-nothing : (answer : Answer) (number place : ℕ) → Refuses answer number place → countsOf answer ≡ noCounts
 unfolding Refuses countsOf
@@ -63,7 +63,7 @@ fits c words entries e = go (ltb words (4 * faults)) (ltb entries faults) refl r
     faults = length (rowsOf c)
 
     go : (a b : Bool) → ltb words (4 * faults) ≡ a → ltb entries faults ≡ b
-        → verdictIn (cond a (refusedGrading 15 (4 * faults)) (cond b (refusedGrading 22 faults) (graded c))) ≡ passes → (4 * faults ≤ words) × (faults ≤ entries)
+        → verdictIn (cond a (refused 15 (4 * faults)) (cond b (refused 22 faults) (graded c))) ≡ passes → (4 * faults ≤ words) × (faults ≤ entries)
     go true b p q r = absurd (never-passes r)
     go false true p q r = absurd (never-passes r)
     go false false p q r = (ltb-false words (4 * faults) p, ltb-false entries faults q)
@@ -128,11 +128,11 @@ module _ (call : Call) (by : ByTheTable call) where
 
 -- ---- the demand
 
-untouched : (g : Grading) (number place : ℕ) → verdictIn g ≡ refused number place → (matrix classes : List ℕ)
+untouched : (g : Grading) (number place : ℕ) → verdictIn g ≡ refusedAt number place → (matrix classes : List ℕ)
     → (matrixAfter g matrix ≡ matrix) × (classesAfterGrading g classes ≡ classes)
 unfolding verdictIn matrixAfter classesAfterGrading
 untouched (graded c) number place e matrix classes = absurd (never-passes (sym e))
-untouched (refusedGrading n p) number place e matrix classes = (refl, refl)
+untouched (refused n p) number place e matrix classes = (refl, refl)
 
 kept-by-the-table : (call : Call) → Kept call → ByTheTable call
 kept-by-the-table call kept = record {

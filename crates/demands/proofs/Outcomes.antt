@@ -3,7 +3,7 @@ use Prim.Native.Nat.{ℕ, _≤_}
 use mathlib.Core.Path.{_≡_, sym, ap, ap₂, _∙_}
 use native.Mathlib.Omega.{arith}
 use lib.ListN.{length}
-use Rattle.circuit.specs.Table.{refused}
+use Rattle.circuit.specs.Table.{refusedAt}
 use Rattle.circuit.specs.Answers as reading
 use Rattle.circuit.specs.declared.refusal.Refusal.{Refusal}
 use Rattle.circuit.specs.declared.refusal.Refusal.the-variants.{Nothing, TooLong, Broken, UnknownTag, Misplaced, WrongLength, TooMany, OutOfRange, BadEnds, NotComplementary, BadReference, BridgeUnsuited, EmptyList, TooManyFaults, Unfinished}
@@ -17,8 +17,8 @@ use Rattle.grading.specs.declared.Answer.the-variants.{Graded, Refused, ShortMa
 use Rattle.demands.specs.One.{OneOutcomeOnly}
 use Rattle.demands.proofs.GradingVerdicts.{verdictIn, answered, answer-is}
 
-most : (r : Refusal) → reading.numberOf r ≤ 14
-unfolding reading.numberOf
+most : (r : Refusal) → reading.refusalNumber r ≤ 14
+unfolding reading.refusalNumber
 most Nothing = omega arith
 most TooLong = omega arith
 most (Broken at) = omega arith
@@ -38,10 +38,10 @@ most (Unfinished at) = omega arith
 pub same-counts : (r s : CountsRecord) → countsMeant r ≡ countsMeant s → r ≡ s
 same-counts r s e = λ i. record { vectors = e i .vectors; faults = e i .faults; classes = e i .classes; found = e i .found }
 
-same-number : {n p m q : ℕ} → refused n p ≡ refused m q → n ≡ m
+same-number : {n p m q : ℕ} → refusedAt n p ≡ refusedAt m q → n ≡ m
 same-number e = cc
 
-same-place : {n p m q : ℕ} → refused n p ≡ refused m q → p ≡ q
+same-place : {n p m q : ℕ} → refusedAt n p ≡ refusedAt m q → p ≡ q
 same-place e = cc
 
 same-answer : (a b : Answer) → answered a ≡ answered b → countsOf a ≡ countsOf b → a ≡ b

@@ -135,7 +135,7 @@ module _ (one finer : Call) (c d : Circuit) (graded : GradedAs one c) (graded′
       )
 
 pub three-holds : ThreeHolds
-unfolding grading.countsOf
+unfolding grading.countsOfCircuit
 three-holds one finer c d graded graded′ alike refined =
     let before = gave one c graded in
     record {

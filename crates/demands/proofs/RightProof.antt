@@ -11,12 +11,12 @@ use Rattle.words.proofs.Counting.{sum-cong}
 use Rattle.circuit.specs.Fields.{Field, Cut, clean, broken, field, cutFrom}
 use Rattle.circuit.specs.Circuit.{Circuit}
 use Rattle.circuit.specs.Known.{Known, start, knownAfter, Tag, inputs-tag, type-tag, edge-tag, bridge-tag, instance-tag, vector-tag, no-tag, tagOf}
-use Rattle.circuit.specs.Table.{Test, Verdict, passes, refused, firstOf, inputsTests, typeTests, edgeTests, edgeTestsOf, bridgeTests, instanceTests, vectorTests, bodyTests, fieldTests, endTests}
+use Rattle.circuit.specs.Table.{Test, Verdict, passes, refusedAt, firstOf, inputsTests, typeTests, edgeTests, edgeTestsOf, bridgeTests, instanceTests, vectorTests, bodyTests, fieldTests, endTests}
 use Rattle.circuit.specs.Answers as reading
 use Rattle.grading.specs.Rows.{Row, rowsOf, markOf, rowWords, matrixOf}
 use Rattle.grading.specs.Classes.{sameClass, classAmong, largest, classesAfter, classesOf, hasMark, classFound, foundAmong, classCount, foundCount}
 use Rattle.grading.specs.Grading.{noCounts, Grading, graded, gradingOf, countsIn, numberIn, placeIn, matrixAfter, classesAfterGrading}
-use Rattle.grading.specs.Grading.{refused as refusedGrading}
+use Rattle.grading.specs.Grading.{refused}
 use Rattle.grading.specs.Grading as grading
 use Rattle.grading.specs.Promise.{numberOf, placeOf, countsOf, Meets}
 use Rattle.demands.specs.One.{bufferTests, testsFrom, tableOf, EveryInputIsAnswered}
@@ -40,19 +40,19 @@ told-append (t ∷ ts) us a b = (a .0, told-append ts us (a .1) b)
 
 VerdictTold : Verdict → Type 0
 VerdictTold passes = Unit {0}
-VerdictTold (refused number place) = Told number place
+VerdictTold (refusedAt number place) = Told number place
 
 told-first : (ts : List Test) → AllTold ts → VerdictTold (firstOf ts)
 unfolding AllTold VerdictTold firstOf
 told-first [] a = tt
 told-first (t ∷ ts) a = go (t .refuses) (told-first ts (a .1))
   where
-    go : (b : Bool) → VerdictTold (firstOf ts) → VerdictTold (cond b (refused (t .number) (t .place)) (firstOf ts))
+    go : (b : Bool) → VerdictTold (firstOf ts) → VerdictTold (cond b (refusedAt (t .number) (t .place)) (firstOf ts))
     go true later = a .0
     go false later = later
 
 told-body : (tag : Tag) (c : Circuit) (at : ℕ) (body : List ℕ) → AllTold (bodyTests tag c at body)
-unfolding AllTold refusing refusalOf numberOf placeOf countsOf reading.numberOf reading.placeOf bodyTests inputsTests typeTests edgeTests edgeTestsOf bridgeTests instanceTests vectorTests
+unfolding AllTold refusing refusalOf numberOf placeOf countsOf reading.refusalNumber reading.refusalPlace bodyTests inputsTests typeTests edgeTests edgeTestsOf bridgeTests instanceTests vectorTests
 told-body inputs-tag c at body = ((refl, refl, refl), ((refl, refl, refl), tt))
 told-body type-tag c at body = ((refl, refl, refl), ((refl, refl, refl), ((refl, refl, refl), tt)))
 told-body edge-tag c at body = ((refl, refl, refl), ((refl, refl, refl), ((refl, refl, refl), ((refl, refl, refl), tt))))
@@ -63,28 +63,28 @@ told-body vector-tag c at body = ((refl, refl, refl), ((refl, refl, refl), ((ref
 told-body no-tag c at body = tt
 
 told-field : (known : Known) (f : Field) → AllTold (fieldTests known f)
-unfolding AllTold refusing refusalOf numberOf placeOf countsOf reading.numberOf reading.placeOf fieldTests
+unfolding AllTold refusing refusalOf numberOf placeOf countsOf reading.refusalNumber reading.refusalPlace fieldTests
 told-field known f =
     ((refl, refl, refl), ((refl, refl, refl), ((refl, refl, refl), told-body (tagOf (f .tag)) (known .circuit) (f .at) (f .body))))
 
 told-end : (known : Known) (size : ℕ) → AllTold (endTests known size)
-unfolding AllTold refusing refusalOf numberOf placeOf countsOf reading.numberOf reading.placeOf endTests
+unfolding AllTold refusing refusalOf numberOf placeOf countsOf reading.refusalNumber reading.refusalPlace endTests
 told-end known size = ((refl, refl, refl), ((refl, refl, refl), ((refl, refl, refl), ((refl, refl, refl), tt))))
 
 module _ (size words entries : ℕ) where
   told-buffers : (c : Circuit) → AllTold (bufferTests c words entries)
-  unfolding AllTold refusing refusalOf numberOf placeOf countsOf reading.numberOf reading.placeOf bufferTests
+  unfolding AllTold refusing refusalOf numberOf placeOf countsOf reading.refusalNumber reading.refusalPlace bufferTests
   told-buffers c = ((refl, refl, refl), ((refl, refl, refl), tt))
 
   told-rest : (known : Known) (cut : Cut) → AllTold (testsFrom size words entries known cut)
-  unfolding AllTold refusing refusalOf numberOf placeOf countsOf reading.numberOf reading.placeOf testsFrom
+  unfolding AllTold refusing refusalOf numberOf placeOf countsOf reading.refusalNumber reading.refusalPlace testsFrom
   told-rest known clean = told-append (endTests known size) (bufferTests (known .circuit) words entries) (told-end known size) (told-buffers (known .circuit))
   told-rest known (broken at) = ((refl, refl, refl), tt)
   told-rest known (field f rest) =
       told-append (fieldTests known f) (testsFrom size words entries (knownAfter known f) rest) (told-field known f) (told-rest (knownAfter known f) rest)
 
 told-table : (file : List ℕ) (words entries : ℕ) → AllTold (tableOf file words entries)
-unfolding AllTold refusing refusalOf numberOf placeOf countsOf reading.numberOf reading.placeOf tableOf
+unfolding AllTold refusing refusalOf numberOf placeOf countsOf reading.refusalNumber reading.refusalPlace tableOf
 told-table file words entries = ((refl, refl, refl), told-rest (length file) words entries start (cutFrom file 0))
 
 told-grading : (file : List ℕ) (words entries : ℕ) → VerdictTold (verdictIn (gradingOf file words entries))
@@ -127,7 +127,7 @@ found-same c rows classes count = sum-cong count _ _ (λ n h. ap ofBool (found-o
 outcome-meets : (g : Grading) → VerdictTold (verdictIn g) → (matrix classes : List ℕ)
     → let out : Outcome = outcomeOf rightWork g matrix classes in Meets g (out .answer) matrix classes (out .matrix) (out .classes)
 unfolding outcomeOf rightWork workBy rowWords matrixOf classCount foundCount VerdictTold verdictIn
-    numberOf placeOf countsOf numberIn placeIn countsIn matrixAfter classesAfterGrading grading.countsOf
+    numberOf placeOf countsOf numberIn placeIn countsIn matrixAfter classesAfterGrading grading.countsOfCircuit
 outcome-meets (graded c) told matrix classes =
     let same = classes-same (rowsOf c) in record {
       number = refl;
@@ -136,7 +136,7 @@ outcome-meets (graded c) told matrix classes =
       matrix-at-exit = refl;
       classes-at-exit = rw same refl;
     }
-outcome-meets (refusedGrading number place) told matrix classes =
+outcome-meets (refused number place) told matrix classes =
     record { number = told .0; place = told .1; counts = told .2; matrix-at-exit = refl; classes-at-exit = refl }
 
 pub rightly-is-right : RightlyIsRight

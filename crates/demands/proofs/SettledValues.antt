@@ -55,7 +55,7 @@ module _ (P n : ℕ) (vector outputs others : List Value) (agree : Agree n outpu
 module _ (P : ℕ) (types : List ModuleType) (vector : List Value) where
   -- the output that an instance has where the outputs are these
   abbrev outputIn : List Value → Instance → Value
-  outputIn outputs i = deciding.outputOf (typeOfInstance types i) (labelValues vector outputs i)
+  outputIn outputs i = deciding.outputValue (typeOfInstance types i) (labelValues vector outputs i)
 
   -- all outputs: those before are kept, and each instance has added its own
   record Added (outputs : List Value) (is : List Instance) (all : List Value) : Type 0 where
@@ -104,7 +104,7 @@ module _ (P : ℕ) (types : List ModuleType) (vector : List Value) where
             simp add-zero
             (rest .kept (length outputs) (omega (arith, longer))
             ∙ seam
-            ∙ ap (deciding.outputOf (typeOfInstance types i))
+            ∙ ap (deciding.outputValue (typeOfInstance types i))
             (sym (same-labels P (length outputs) vector all outputs stays i (simp add-zero at (earlier i 0 (omega arith))))))
         new none (suc k) h =
             let place : length outputs + suc k ≡ length more + k = omega (arith, longer) in
@@ -151,7 +151,7 @@ module _ (c : Circuit) (good : CircuitGood c) (vector : List Value) where
         let inst = getD (c .instances) n none in
         let type = typeOfInstance (c .types) inst in
         output-is-one .only type (accepted none n h) (labelValues vector outputs inst) (getD outputs n atX) (one .by-paths none n h)
-        ∙ ap (deciding.outputOf type) (same-labels (c .inputs) n vector outputs others before inst (earlier none n h))
+        ∙ ap (deciding.outputValue type) (same-labels (c .inputs) n vector outputs others before inst (earlier none n h))
         ∙ sym (output-is-one .only type (accepted none n h) (labelValues vector others inst) (getD others n atX) (other .by-paths none n h))
 
     agree : (n : ℕ) → n ≤ length (c .instances) → Agree n outputs others

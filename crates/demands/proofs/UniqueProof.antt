@@ -19,7 +19,7 @@ use Rattle.rows.specs.Model.{RowsListed}
 use Rattle.marks.specs.Model.{InstanceMarked}
 use Rattle.classes.specs.Model.{InstanceClassed}
 use Rattle.classes.specs.declared.Classed.{Classed}
-use Rattle.report.specs.Given.{Given}
+use Rattle.report.specs.Given.{LineGiven}
 use Rattle.togyamiru.specs.Entry.{EntryMeets}
 use Rattle.demands.specs.Unique.{Unique, One, OneAndBuffer, OneAndBuffers}
 use Rattle.demands.proofs.Outcomes.{same-counts, one-outcome-only}
@@ -42,7 +42,7 @@ by-counts r s p q = same-counts r s (p ∙ sym q)
 
 -- ---- promises that are records of equations
 
-given-once : {line out : List ℕ} → OneAndBuffer (λ (r : ℕ) (out′ : List ℕ). Given line out r out′)
+given-once : {line out : List ℕ} → OneAndBuffer (λ (r : ℕ) (out′ : List ℕ). LineGiven line out r out′)
 given-once r s x y g h = (g .count-is ∙ sym (h .count-is), g .after-is ∙ sym (h .after-is))
 
 listed-once : {codes new : List ℕ} {from : ℕ} → OneAndBuffer (λ (r : ℕ) (codes′ : List ℕ). RowsListed codes from new r codes′)

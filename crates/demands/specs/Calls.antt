@@ -45,7 +45,7 @@ pub record GradedAs (call : Call) (c : Circuit) : Type 0 where
 -- refused with this number at this place
 unfoldable pub Refuses : Answer → ℕ → ℕ → Type 0
 Refuses (Graded counts) number place = ⊥
-Refuses (Refused refusal) number place = (reading.numberOf refusal ≡ number) × (reading.placeOf refusal ≡ place)
+Refuses (Refused refusal) number place = (reading.refusalNumber refusal ≡ number) × (reading.refusalPlace refusal ≡ place)
 Refuses (ShortMatrix words) number place = (15 ≡ number) × (words ≡ place)
 Refuses (ShortClasses faults) number place = (22 ≡ number) × (faults ≡ place)
 

@@ -25,8 +25,8 @@ use Rattle.demands.specs.Report.{reportOf}
 -- ---- what a claim speaks of
 
 -- marks as a text of digits, the first vector's first
-abbrev pub digitsOf : String → List ℕ
-digitsOf text = map (λ (b : ℕ). b - 48) (bytesOf text)
+abbrev pub marksOfText : String → List ℕ
+marksOfText text = map (λ (b : ℕ). b - 48) (bytesOf text)
 
 -- and as a word: the first vector's is bit 0
 abbrev pub wordOfDigits : List ℕ → ℕ
@@ -34,7 +34,7 @@ wordOfDigits [] = 0
 wordOfDigits (d ∷ ds) = d + 2 * wordOfDigits ds
 
 abbrev pub wordOf : String → ℕ
-wordOf text = wordOfDigits (digitsOf text)
+wordOf text = wordOfDigits (marksOfText text)
 
 -- the grading of a file with buffers that are long enough for any
 abbrev pub graded-whole : List ℕ → Grading
@@ -85,8 +85,8 @@ pub record Whole : Type 0 where
   pub words : List ℕ
   pub classes : List ℕ
 
-abbrev pub wholeOf : List ℕ → Grading → Whole
-wholeOf file grading = record {
+abbrev pub wholeGrading : List ℕ → Grading → Whole
+wholeGrading file grading = record {
   size = length file;
   number = numberIn grading;
   counts = countsIn grading;
@@ -142,14 +142,14 @@ pub data Claim : Type 0 where
   label : String → String → String → String → String → Claim
 
 unfoldable pub Holds : Claim → Type 0
-Holds (reads file n bridge marks) = marksIn (graded-whole file) n bridge ≡ digitsOf marks
+Holds (reads file n bridge marks) = marksIn (graded-whole file) n bridge ≡ marksOfText marks
 Holds (floats file n m v) = floatsIn (graded-whole file) n m v ≡ true
 Holds (refuses file number place) = graded-whole file ≡ refused number place
 Holds (short file words entries number place) = refusalIn (gradingOf file words entries) ≡ (number, place)
 Holds (sizes file rows classes) = sizesIn (graded-whole file) ≡ (0, rows, classes)
 Holds (leaves file words) = wordsIn (graded-whole file) ≡ (0, words)
 Holds (grades file size counts marks classes) =
-    wholeOf file (graded-whole file)
+    wholeGrading file (graded-whole file)
     ≡ record { size = size; number = 0; counts = counts; words = joinLists (map (λ (text : String). four (wordOf text)) marks); classes = classes }
 Holds (turns file matrix classes matrix′ classes′) = buffersAfter file matrix classes ≡ (matrix′, classes′)
 Holds (reports file lines) = reportOf (graded-whole file) ≡ bytesOfLines lines

@@ -12,21 +12,21 @@ use Rattle.circuit.specs.Circuit.{Reference, primary, outputOf, Choice, exhaust
 abbrev pub twoBytesOf : ℕ → List ℕ
 twoBytesOf n = n / 256 ∷ n % 256 ∷ []
 
-abbrev pub field : ℕ → List ℕ → List ℕ
-field tag body = tag ∷ twoBytesOf (length body) ++ body
+abbrev pub fieldBytes : ℕ → List ℕ → List ℕ
+fieldBytes tag body = tag ∷ twoBytesOf (length body) ++ body
 
 abbrev pub inputsField : ℕ → List ℕ
-inputsField inputs = field 1 (twoBytesOf inputs)
+inputsField inputs = fieldBytes 1 (twoBytesOf inputs)
 
 abbrev pub typeField : ℕ → ℕ → ℕ → List ℕ
-typeField h o k = field 2 (h ∷ o ∷ k ∷ [])
+typeField h o k = fieldBytes 2 (h ∷ o ∷ k ∷ [])
 
 abbrev pub edgeField : ℕ → ℕ → List ℕ → List ℕ
-edgeField a b labels = field 3 (a ∷ b ∷ labels)
+edgeField a b labels = fieldBytes 3 (a ∷ b ∷ labels)
 
 abbrev pub bridgeField : ℕ → Bridge → List ℕ
-bridgeField number (nodes a b) = field 4 (number ∷ 0 ∷ a ∷ b ∷ [])
-bridgeField number (input m l) = field 4 (number ∷ 1 ∷ m ∷ l ∷ [])
+bridgeField number (nodes a b) = fieldBytes 4 (number ∷ 0 ∷ a ∷ b ∷ [])
+bridgeField number (input m l) = fieldBytes 4 (number ∷ 1 ∷ m ∷ l ∷ [])
 
 -- numbers below zero in two's complement
 abbrev pub choiceByte : Choice → ℕ
@@ -39,11 +39,11 @@ referenceBytes (primary n) = twoBytesOf n
 referenceBytes (outputOf i) = twoBytesOf (65536 - i)
 
 abbrev pub instanceField : ℕ → Choice → List Reference → List ℕ
-instanceField type choice references = field 5 (type ∷ choiceByte choice ∷ joinLists (map referenceBytes references))
+instanceField type choice references = fieldBytes 5 (type ∷ choiceByte choice ∷ joinLists (map referenceBytes references))
 
 -- a vector as a text of 0, 1 and X
 abbrev pub vectorField : String → List ℕ
-vectorField vector = field 6 (bytesOf vector)
+vectorField vector = fieldBytes 6 (bytesOf vector)
 
 abbrev pub vectorFields : List String → List ℕ
 vectorFields vectors = joinLists (map vectorField vectors)

@@ -12,7 +12,7 @@ pub mod Three
 pub mod Files
 pub mod Report
 pub mod Claims
-pub mod Known
+pub mod KnownResults
 pub mod NoConverse
 pub mod Graders
 pub mod Wrong

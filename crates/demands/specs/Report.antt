@@ -7,7 +7,7 @@ use Rattle.switch.specs.Bridges.{Bridge, nodes, input}
 use Rattle.circuit.specs.Circuit.{Circuit}
 use Rattle.grading.specs.Rows.{Row, rowsOf, rowWords}
 use Rattle.grading.specs.Classes.{classesOf}
-use Rattle.grading.specs.Grading.{Grading, graded, refused, Counts, countsOf}
+use Rattle.grading.specs.Grading.{Grading, graded, refused, Counts, countsOfCircuit}
 use Rattle.report.specs.Lines.{firstLine, rowLine, refusalLine}
 
 unfoldable pub kindOf : Bridge → ℕ
@@ -36,5 +36,5 @@ unfoldable pub countsLine : Counts → List ℕ
 countsLine counts = firstLine (counts .vectors) (counts .faults) (counts .classes) (counts .found)
 
 unfoldable pub reportOf : Grading → List ℕ
-reportOf (graded c) = countsLine (countsOf c) ++ linesOf c (rowsOf c) (classesOf (rowsOf c))
+reportOf (graded c) = countsLine (countsOfCircuit c) ++ linesOf c (rowsOf c) (classesOf (rowsOf c))
 reportOf (refused number place) = refusalLine number place

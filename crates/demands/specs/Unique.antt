@@ -48,7 +48,7 @@ use Rattle.signals.specs.Inputs.{onesOf, zerosOf, inputWords}
 use Rattle.classes.specs.Model.{InstanceClassed}
 use Rattle.classes.specs.declared.Classed.{Classed}
 use Rattle.report.specs.Lines.{firstLine, rowLine, refusalLine}
-use Rattle.report.specs.Given.{Given}
+use Rattle.report.specs.Given.{LineGiven}
 use Rattle.report.specs.declared.RowHead.{RowHead}
 use Rattle.togyamiru.specs.Entry.{EntryPromise}
 
@@ -103,9 +103,9 @@ pub record Unique : Type 0 where
   -- circuit::refusal::or_if
   pub circuit-or-if : («so_far» : Refusal) (test : Bool) (this : Refusal) → One λ (r : Refusal). verdictOf r ≡ orIf (verdictOf «so_far») test (verdictOf this)
   -- circuit::refusal::number_of
-  pub circuit-number-of : (r : Refusal) → One λ (n : ℕ). n ≡ reading.numberOf r
+  pub circuit-number-of : (r : Refusal) → One λ (n : ℕ). n ≡ reading.refusalNumber r
   -- circuit::refusal::place_of
-  pub circuit-place-of : (r : Refusal) → One λ (p : ℕ). p ≡ reading.placeOf r
+  pub circuit-place-of : (r : Refusal) → One λ (p : ℕ). p ≡ reading.refusalPlace r
   -- modules::types::no_type
   pub modules-no-type : One λ (r : ModuleType). r ≡ unusedType
   -- bridges::no_bridge
@@ -145,12 +145,12 @@ pub record Unique : Type 0 where
   pub grader-grade : (file matrix classes : List ℕ) → OneAndBuffers λ (r : Answer) (matrix′ classes′ : List ℕ). Promise file matrix classes r matrix′ classes′
   -- report::first_line
   pub report-first-line : (vectors faults classes found : ℕ) (out : List ℕ)
-      → OneAndBuffer λ (r : ℕ) (out′ : List ℕ). Given (firstLine vectors faults classes found) out r out′
+      → OneAndBuffer λ (r : ℕ) (out′ : List ℕ). LineGiven (firstLine vectors faults classes found) out r out′
   -- report::refusal_line
-  pub report-refusal-line : (number place : ℕ) (out : List ℕ) → OneAndBuffer λ (r : ℕ) (out′ : List ℕ). Given (refusalLine number place) out r out′
+  pub report-refusal-line : (number place : ℕ) (out : List ℕ) → OneAndBuffer λ (r : ℕ) (out′ : List ℕ). LineGiven (refusalLine number place) out r out′
   -- report::row_line
   pub report-row-line : (head : RowHead) (vectors : ℕ) (row out : List ℕ)
-      → OneAndBuffer λ (r : ℕ) (out′ : List ℕ). Given (rowLine (head .instance) (head .kind) (head .first) (head .second) (head .class) (min vectors 256) row) out r out′
+      → OneAndBuffer λ (r : ℕ) (out′ : List ℕ). LineGiven (rowLine (head .instance) (head .kind) (head .first) (head .second) (head .class) (min vectors 256) row) out r out′
   -- togyamiru::togyamiru_grade
   pub togyamiru-grade : (file matrix classes : List ℕ)
       → OneAndBuffers λ (answer′ matrix′ classes′ : List ℕ). EntryPromise file matrix classes answer′ matrix′ classes′

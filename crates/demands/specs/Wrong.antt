@@ -237,7 +237,7 @@ GoesOnIsWrong = MeetsPromise goesOn → ⊥
 
 -- the first: watches outputs instead of the leak. It marks where the closed bridge gives the module's output another value
 unfoldable pub changesOutput : ModuleType → (ℕ → Value) → Bridge → Bool
-changesOutput t values bridge = not (sameLevel (levelIn (closing bridge values ++ linksOf t values) (t .output)) (deciding.outputOf t values))
+changesOutput t values bridge = not (sameLevel (levelIn (closing bridge values ++ linksOf t values) (t .output)) (deciding.outputValue t values))
 
 unfoldable pub watchesOutputs : Grader
 watchesOutputs = marking (marksBy changesOutput)

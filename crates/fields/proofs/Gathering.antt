@@ -7,7 +7,7 @@ use mathlib.Core.List.{List, [], _∷_, _++_, map, map-append}
 use native.Mathlib.Omega.{arith}
 use lib.ListN.{length, set, replicate, length-append, length-map}
 use Rattle.circuit.specs.Fields.{Cut, cutFrom}
-use Rattle.circuit.specs.Table.{Test, Verdict, passes, refused, firstOf}
+use Rattle.circuit.specs.Table.{Test, Verdict, passes, refusedAt, firstOf}
 use Rattle.circuit.specs.Records.{padded}
 use Rattle.circuit.specs.Answers.{isRefused}
 use Rattle.circuit.specs.Stages.{Stage, stopped, ifPasses, section, stageOf}
@@ -20,7 +20,7 @@ use Rattle.fields.proofs.Cuts.{section-step, section-stop}
 refused-here : {A : Type 0} (v : Verdict) (a : A) (cut : Cut) (more : Stage A) → isRefused v ≡ true → ifPasses v more ≡ stageOf v a cut
 unfolding isRefused ifPasses stageOf
 refused-here passes a cut more e = cc
-refused-here (refused n p) a cut more e = refl
+refused-here (refusedAt n p) a cut more e = refl
 
 -- fields with one tag, of whose bodies elements are made; `shown` is an element's record, and `none` stands in unused places
 module _ {A R : Type 0} (tag most : ℕ) (tests : List A → ℕ → List ℕ → List Test) (make : List ℕ → A) (shown : A → R) (none : R) where

@@ -17,7 +17,7 @@ use Rattle.words.proofs.Counting.{sum-few}
 use Rattle.switch.specs.Modules.{ModuleType}
 use Rattle.switch.specs.Bridges.{Bridge, nodes}
 use Rattle.switch.specs.Promises.{isAt0, isAt1}
-use Rattle.switch.specs.Records.{Given, typeOf}
+use Rattle.switch.specs.Records.{TypeGiven, typeOf}
 use Rattle.switch.specs.declared.ModuleType.{ModuleType as TypeRecord}
 use Rattle.switch.proofs.Deciding.{all-of}
 use Rattle.circuit.specs.Circuit.{Circuit, Instance, Reference, primary, outputOf, typeOfInstance, joinLists}
@@ -31,7 +31,7 @@ use Rattle.circuit.proofs.RangeLaws.{in-between}
 use Rattle.circuit.proofs.TypeLaws.{type-back, type-given}
 use Rattle.grading.specs.Rows.{Row, rowsOfInstance, rowsFrom, rowsOf, rowWords, matrixOf}
 use Rattle.grading.specs.Classes.{largest, classesAfter, classesOf, classFound, foundAmong, classCount, foundCount}
-use Rattle.grading.specs.Grading.{over, countsOf}
+use Rattle.grading.specs.Grading.{over, countsOfCircuit}
 use Rattle.grading.specs.Codes.{codeOf}
 use Rattle.grading.proofs.ValueLaws.{InstanceAt, good-at, type-at, type-ranges}
 use Rattle.grading.proofs.RecordReads.{referencesOf, instance-is, type-read}
@@ -147,7 +147,7 @@ module _ (c : Circuit) (m : CircuitRecord) (is : m ≡ circuitRecord c) where
   pub turned-end : (matrix₀ classes₀ ones zeros matrix classes : List ℕ) (count found from i : ℕ)
       → Turned c matrix₀ classes₀ ones zeros matrix classes count found from i → m .«instance_count» ≤ i
       → Graded c record { vectors = m .«vector_count»; faults = m .faults; classes = count; found = found } matrix₀ classes₀ matrix classes
-  unfolding countsOf classCount foundCount matrixOf
+  unfolding countsOfCircuit classCount foundCount matrixOf
   turned-end matrix₀ classes₀ ones zeros matrix classes count found from i all past =
       let last : i ≡ length (c .instances) = omega (arith, all .inside, instances-are) in
       let rows : rowsBefore c i ≡ rowsOf c = rows-all c i (omega arith) in
@@ -200,7 +200,7 @@ module _ (c : Circuit) (good : CircuitGood c) (m : CircuitRecord) (is : m ≡ ci
       t-is : t ≡ typeRecord type
       t-is = type-read c good m is i noInstance h e u
 
-      type-there : Given t
+      type-there : TypeGiven t
       type-there = rw t-is (type-given type (sound .ranges) (sound .few))
 
       type-meant : typeOf t ≡ type

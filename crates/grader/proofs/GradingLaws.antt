@@ -7,7 +7,7 @@ use native.Mathlib.Omega.{arith}
 use borrow.Author.Tests.{lt-ltb, le-ltb}
 use lib.ListN.{length}
 use Rattle.circuit.specs.Circuit.{Circuit}
-use Rattle.circuit.specs.Table.{Verdict, passes, refused}
+use Rattle.circuit.specs.Table.{Verdict, passes, refusedAt}
 use Rattle.circuit.specs.Reading.{Reading, accepted, refusal, readingOf}
 use Rattle.circuit.specs.Records.{circuitRecord}
 use Rattle.circuit.specs.Answers as reading
@@ -30,14 +30,14 @@ use Rattle.grader.proofs.Assembly.{faults-are}
 
 numberTold : Verdict → ℕ
 numberTold passes = 0
-numberTold (refused n p) = n
+numberTold (refusedAt n p) = n
 
 placeTold : Verdict → ℕ
 placeTold passes = 0
-placeTold (refused n p) = p
+placeTold (refusedAt n p) = p
 
 -- number and place of a refusal, from its verdict
-told : (k p n q : ℕ) → numberedVerdict k p ≡ refused n q → (k ≡ n) × (p ≡ q)
+told : (k p n q : ℕ) → numberedVerdict k p ≡ refusedAt n q → (k ≡ n) × (p ≡ q)
 unfolding numberedVerdict numberTold placeTold
 told zero p n q e = let z : _≡_ {A = ℕ} 0 1 = cc in absurd (omega arith)
 told (suc k) p n q e = (ap numberTold e, ap placeTold e)
@@ -50,7 +50,7 @@ refused-meets (accepted c) r tells e words entries matrix classes = absurd (neve
     never : false ≡ true → ⊥
     never z = let y : _≡_ {A = ℕ} 0 1 = cc in absurd (omega arith)
 refused-meets (refusal n p) r tells e words entries matrix classes =
-    let parts = told (reading.numberOf (r .refusal)) (reading.placeOf (r .refusal)) n p tells in
+    let parts = told (reading.refusalNumber (r .refusal)) (reading.refusalPlace (r .refusal)) n p tells in
     record { number = parts .0; place = parts .1; counts = refl; matrix-at-exit = refl; classes-at-exit = refl }
 
 -- the record tells the circuit of a file that is accepted
@@ -64,7 +64,7 @@ pub accepted-here : (file : List ℕ) (r : ReadingRecord) → Tells (readingOf f
 unfolding Tells
 accepted-here file r tells e = go (readingOf file) refl tells
   where
-    never : (n p : ℕ) → passes ≡ refused n p → ⊥
+    never : (n p : ℕ) → passes ≡ refusedAt n p → ⊥
     never n p z = let y : _≡_ {A = ℕ} 0 1 = cc in absurd (omega arith)
 
     go : (read : Reading) → readingOf file ≡ read → Tells read r → Accepted file (r .circuit)

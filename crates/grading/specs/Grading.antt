@@ -19,8 +19,8 @@ pub record Counts : Type 0 where
 abbrev pub noCounts : Counts
 noCounts = record { vectors = 0; faults = 0; classes = 0; found = 0 }
 
-unfoldable pub countsOf : Circuit → Counts
-countsOf c = record {
+unfoldable pub countsOfCircuit : Circuit → Counts
+countsOfCircuit c = record {
   vectors = length (c .vectors);
   faults = length (rowsOf c);
   classes = classCount c;
@@ -47,7 +47,7 @@ gradingOf file words entries = afterReading (readingOf file) words entries
 -- ---- what the answer and the buffers are
 
 unfoldable pub countsIn : Grading → Counts
-countsIn (graded c) = countsOf c
+countsIn (graded c) = countsOfCircuit c
 countsIn (refused number place) = noCounts
 
 -- number and place of the refusal, 0 and 0 where there is none

@@ -15,13 +15,13 @@ use Rattle.grading.specs.declared.Answer.the-variants.{Graded, Refused, 
 -- for each case of an answer the paper's number, place and counts; 0 where it has none
 unfoldable pub numberOf : Answer → ℕ
 numberOf (Graded counts) = 0
-numberOf (Refused refusal) = reading.numberOf refusal
+numberOf (Refused refusal) = reading.refusalNumber refusal
 numberOf (ShortMatrix words) = 15
 numberOf (ShortClasses faults) = 22
 
 unfoldable pub placeOf : Answer → ℕ
 placeOf (Graded counts) = 0
-placeOf (Refused refusal) = reading.placeOf refusal
+placeOf (Refused refusal) = reading.refusalPlace refusal
 placeOf (ShortMatrix words) = words
 placeOf (ShortClasses faults) = faults
 

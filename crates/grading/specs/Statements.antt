@@ -27,15 +27,15 @@ ClassesHaveEqualMarks =
     (c : Circuit) (r s : Row) → RowOf c r → RowOf c s → T (sameClass r s) → (vector : List Value) → cell c vector r ≡ cell c vector s
 
 -- the class of the row at a place, from 0
-abbrev pub classAt : Circuit → ℕ → ℕ
-classAt c r = getD (classesOf (rowsOf c)) r 0
+abbrev pub classNumber : Circuit → ℕ → ℕ
+classNumber c r = getD (classesOf (rowsOf c)) r 0
 
 -- each row has a number; two rows have equal numbers exactly when they are of one class; the numbers are 1 to the number of classes, and each of them is a row's.
 -- `none` stands past the last row
 pub record ClassNumbers (c : Circuit) : Type 0 where
   pub one-each : length (classesOf (rowsOf c)) ≡ length (rowsOf c)
   pub same : (r s : ℕ) (none : Row) → r < length (rowsOf c) → s < length (rowsOf c)
-      → (classAt c r ≡ classAt c s) ↔ T (sameClass (getD (rowsOf c) r none) (getD (rowsOf c) s none))
-  pub low : (r : ℕ) → r < length (rowsOf c) → 1 ≤ classAt c r
-  pub high : (r : ℕ) → r < length (rowsOf c) → classAt c r ≤ classCount c
-  pub each : (n : ℕ) → 1 ≤ n → n ≤ classCount c → (r : ℕ) × (r < length (rowsOf c)) × (classAt c r ≡ n)
+      → (classNumber c r ≡ classNumber c s) ↔ T (sameClass (getD (rowsOf c) r none) (getD (rowsOf c) s none))
+  pub low : (r : ℕ) → r < length (rowsOf c) → 1 ≤ classNumber c r
+  pub high : (r : ℕ) → r < length (rowsOf c) → classNumber c r ≤ classCount c
+  pub each : (n : ℕ) → 1 ≤ n → n ≤ classCount c → (r : ℕ) × (r < length (rowsOf c)) × (classNumber c r ≡ n)

@@ -20,7 +20,7 @@ labelValues vector outputs i l = getD (map (valueAt vector outputs) (i .referenc
 unfoldable pub outputsAfter : List ModuleType → List Value → List Value → List Instance → List Value
 outputsAfter types vector outputs [] = outputs
 outputsAfter types vector outputs (i ∷ is) =
-    outputsAfter types vector (outputs ++ (deciding.outputOf (typeOfInstance types i) (labelValues vector outputs i) ∷ [])) is
+    outputsAfter types vector (outputs ++ (deciding.outputValue (typeOfInstance types i) (labelValues vector outputs i) ∷ [])) is
 
 unfoldable pub outputsOf : List ModuleType → List Value → List Instance → List Value
 outputsOf types vector instances = outputsAfter types vector [] instances

@@ -12,7 +12,7 @@ use Rattle.circuit.specs.Circuit.{Instance, Listed, typeOfInstance, chosenSize,
 use Rattle.circuit.specs.Known.{instanceIn}
 use Rattle.circuit.specs.Table.{Test, passes, firstOf, instanceTests}
 use Rattle.circuit.specs.Records.{unusedInstance, instanceRecord}
-use Rattle.circuit.specs.Answers.{verdictOf, numberOf, placeOf, numberedVerdict, isRefused}
+use Rattle.circuit.specs.Answers.{verdictOf, refusalNumber, refusalPlace, numberedVerdict, isRefused}
 use Rattle.circuit.specs.Stages.{instanceStage, stageOf}
 use Rattle.fields.specs.Steps.{bodyOf, FieldAt, NextIs}
 use Rattle.instances.specs.ReadInstances.{InstancesRead}
@@ -69,7 +69,7 @@ module _ {file : List ℕ} {from P : ℕ} {types : List ModuleType} {bridges : L
 
   pub instances-stop : NextIs file at 5 Other
       → InstancesRead file from P types bridges (record { refusal = Nothing; at = at; count = count; faults = faults; all = all })
-  unfolding stageOf verdictOf numberedVerdict numberOf placeOf
+  unfolding stageOf verdictOf numberedVerdict refusalNumber refusalPlace
   instances-stop other = instances-read Nothing (stops (sofar .so) other)
 
   module _ (f : FieldRecord) (here : FieldAt file at f) (own : f .tag ≡ 5) (r : Refusal)

@@ -17,7 +17,7 @@ use Rattle.words.proofs.FirstOnes.{firstOnes-lt, bit-firstOnes}
 use Rattle.switch.specs.Conduction.{Link, ground, supply}
 use Rattle.switch.specs.Modules.{ModuleType, linksOf, settingOf}
 use Rattle.switch.specs.Deciding.{joins, allBelow, oneRail, isComplementary}
-use Rattle.switch.specs.Records.{edgesOf, typeOf, Given, valuesAt}
+use Rattle.switch.specs.Records.{edgesOf, typeOf, TypeGiven, valuesAt}
 use Rattle.switch.specs.Promises.{railWords}
 use Rattle.switch.specs.declared.ModuleType.{ModuleType as TypeRecord}
 use Rattle.switch.proofs.Paths.{links-cong}
@@ -31,7 +31,7 @@ use Rattle.joining.proofs.SettingBlocks.{setting-values}
 
 -- ---- the word of a block
 
-pub output-within : (r : TypeRecord) → Given r → r .output < 32
+pub output-within : (r : TypeRecord) → TypeGiven r → r .output < 32
 output-within r given = omega (arith, given-type r given .highest, given-type r given .output-high)
 
 -- exactly one of two bits
@@ -52,7 +52,7 @@ oneWord r block =
     (bitOr (railWord r block supply) (railWord r block ground))
     ((2 ^ 64 - 1) - bitAnd (railWord r block supply) (railWord r block ground))
 
-module _ (r : TypeRecord) (given : Given r) (block v : ℕ) (place : v < 64) where
+module _ (r : TypeRecord) (given : TypeGiven r) (block v : ℕ) (place : v < 64) where
   -- under the planes of a block the links are those of its settings
   block-links : linksOf (typeOf r) (valuesAt (settingOnes block) (settingZeros block) v) ≡ linksOf (typeOf r) (settingOf (64 * block + v))
   unfolding linksOf typeOf
@@ -147,7 +147,7 @@ module _ (t : ModuleType) (block settings one : ℕ) (bits : (v : ℕ) → v < 6
   }
 
 -- the test of a block, from what the calls give
-pub block-verdict : (r : TypeRecord) → Given r → (block settings counts : ℕ) (ones zeros : List ℕ) (words : OutputWords)
+pub block-verdict : (r : TypeRecord) → TypeGiven r → (block settings counts : ℕ) (ones zeros : List ℕ) (words : OutputWords)
     → ones ≡ settingOnes block → zeros ≡ settingZeros block → words ≡ outputWords (typeOf r) ones zeros → counts ≡ firstOnes (settings - 64 * block)
     → let s = words .supply in let g = words .ground in
     BlockVerdict (typeOf r) block settings (eqb (bitAnd (bitAnd (bitOr s g) ((2 ^ 64 - 1) - bitAnd s g)) counts) counts)
@@ -157,7 +157,7 @@ block-verdict r given block settings counts ones zeros words o z e n =
 
 -- ---- what the blocks tell
 
-module _ (r : TypeRecord) (given : Given r) where
+module _ (r : TypeRecord) (given : TypeGiven r) where
   few-settings : 2 ^ (r .labels) ≤ 4096
   few-settings = pow-mono {i = r .labels} {j = 12} (given-type r given .labels-high)
 

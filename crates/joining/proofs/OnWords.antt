@@ -18,7 +18,7 @@ use Rattle.words.proofs.Tables.{length-table, getD-table, table-cong, up-past, 
 use Rattle.words.proofs.EachLaws.{each-before, each-in, each-written}
 use Rattle.words.proofs.WrittenLaws.{length-written}
 use Rattle.switch.specs.Conduction.{Channel, p-channel, n-channel, Edge, channelOf, transistorOn, anyOf, edgeOn}
-use Rattle.switch.specs.Records.{edgeOf, noEdge, Given, valueOf, valuesAt}
+use Rattle.switch.specs.Records.{edgeOf, noEdge, TypeGiven, valueOf, valuesAt}
 use Rattle.switch.specs.declared.Edge.{Edge as EdgeRecord}
 use Rattle.switch.specs.declared.ModuleType.{ModuleType as TypeRecord}
 use Rattle.switch.proofs.Ranges.{given-type, given-edge}
@@ -176,7 +176,7 @@ module _ (o : ℕ) (ones zeros : List ℕ) (edges : List EdgeRecord) (width : �
 -- ---- the edges of a type that a file can give
 
 -- no edge has a node past the highest
-pub wide-edges : (r : TypeRecord) → Given r → (ends : Ends) (on : List ℕ) (width : ℕ) → ends ≡ endsOf (r .edges) (r .count) → width ≤ 4
+pub wide-edges : (r : TypeRecord) → TypeGiven r → (ends : Ends) (on : List ℕ) (width : ℕ) → ends ≡ endsOf (r .edges) (r .count) → width ≤ 4
     → length on ≡ width * 64 → WideEdges (ends .firsts) (ends .seconds) on (r .count) width (r .highest + 1)
 unfolding edgeOf
 wide-edges r given ends on width e few long = record {

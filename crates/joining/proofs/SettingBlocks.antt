@@ -11,7 +11,7 @@ use Rattle.words.specs.Tables.{table, upTo}
 use Rattle.words.proofs.Laws.{bit-le-one, bit-not, bit-block, bit-block-high}
 use Rattle.words.proofs.Laws.{pack-cong, pack-zero, pack-one, word-of-bits, bit-word, word-lt}
 use Rattle.words.proofs.Tables.{getD-table, up-past, fill-more}
-use Rattle.switch.specs.Modules.{known, settingOf}
+use Rattle.switch.specs.Modules.{valueOfBit, settingOf}
 use Rattle.switch.specs.Records.{valueOf, valuesAt}
 use Rattle.joining.specs.Model.{settingOnes, settingZeros}
 
@@ -106,8 +106,8 @@ settings-of-zero-planes block = refl
 
 -- ---- the planes give the settings' values
 
-value-known : (b : ℕ) → valueOf b (1 - b) ≡ known b
-unfolding valueOf known
+value-known : (b : ℕ) → valueOf b (1 - b) ≡ valueOfBit b
+unfolding valueOf valueOfBit
 value-known zero = refl
 value-known (suc b) = refl
 

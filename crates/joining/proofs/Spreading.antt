@@ -1,4 +1,4 @@
--- What a spread slice means, and a whole call of `spread` in one step of a walk. Assumes nothing but `Given`.
+-- What a spread slice means, and a whole call of `spread` in one step of a walk. Assumes nothing but `TypeGiven`.
 use mathlib.Core.Path.{_≡_, refl, sym, subst}
 use Prim.Native.Nat.{ℕ, _<_}
 use mathlib.Core.List.{List, [], _∷_}
@@ -30,7 +30,7 @@ use denote.Triple.Spec.{tripleOf}
 use denote.Triple.Statement.{Contract, Triple}
 use denote.Triple.Walked.{says}
 use Rattle.switch.specs.Modules as M
-use Rattle.switch.specs.Records.{typeOf, typeWith, edgesOf, Given, EdgesGiven, Spread}
+use Rattle.switch.specs.Records.{typeOf, typeWith, edgesOf, TypeGiven, EdgesGiven, Spread}
 use Rattle.switch.specs.declared.Edge.{Edge}
 use Rattle.switch.specs.declared.ModuleType.{ModuleType}
 use Rattle.switch.proofs.Edge as T
@@ -45,7 +45,7 @@ module _ {rs : List Edge} {h o k : ℕ} {t : ModuleType} (s : Spread rs h o k t)
   unfolding typeOf typeWith
   spread-type = λ i. record { highest = s .highest i; output = s .output i; labels = s .labels i; edges = edgesOf (s .edges i) }
 
-  pub spread-given : EdgesGiven h o k rs → Given t
+  pub spread-given : EdgesGiven h o k rs → TypeGiven t
   spread-given g = record {
     places = s .places;
     label-places = subst (λ (es : List Edge). T (M.allOf (λ (e : Edge). lib.Dec.leb (e .count) M.mostParallel) es)) (sym (s .edges)) (g .label-places);
@@ -57,10 +57,10 @@ pub front-type : (t : ModuleType) → typeWith (t .highest) (t .output) (t .labe
 unfolding typeOf typeWith
 front-type t = refl
 
-pub front-long : (t : ModuleType) → Given t → length (t .edges) ≡ M.mostEdges → t .count ≡ length (take (t .count) (t .edges))
+pub front-long : (t : ModuleType) → TypeGiven t → length (t .edges) ≡ M.mostEdges → t .count ≡ length (take (t .count) (t .edges))
 front-long t g e = omega (arith, g .places, e, length-take (t .count) (t .edges))
 
-pub front-given : (t : ModuleType) → Given t → length (t .edges) ≡ M.mostEdges → EdgesGiven (t .highest) (t .output) (t .labels) (take (t .count) (t .edges))
+pub front-given : (t : ModuleType) → TypeGiven t → length (t .edges) ≡ M.mostEdges → EdgesGiven (t .highest) (t .output) (t .labels) (take (t .count) (t .edges))
 front-given t g e = record {
   places = omega (arith, g .places, front-long t g e);
   label-places = g .label-places;

@@ -13,7 +13,7 @@ use lib.Seq.{take-suc, drop-cons, append-snoc, set-at, getD-at, getD-take, getD-
 use Rattle.words.specs.Each.{wordOfEach}
 use Rattle.words.proofs.Tables.{is-table, length-table}
 use Rattle.words.proofs.EachLaws.{each-before, each-at}
-use Rattle.joining.specs.Model.{NodesInRange, WideEdges, WideJoined, added, roundTo, handedTo, wideRoundTo, onesTo, Settled}
+use Rattle.joining.specs.Model.{NodesInRange, WideEdges, WideJoined, added, roundTo, handedTo, wideRoundTo, onesTo, RoundTaken}
 use Rattle.joining.proofs.RoundLaws.{
   added-here,
   added-grows,
@@ -40,10 +40,10 @@ or-none a b e = (omega (arith, or-add-and a b, and-le-l a b, and-le-r a b), omeg
 xor-none : (a b : ℕ) → bitXor a b ≡ 0 → a ≡ b
 xor-none a b e = omega (arith, xor-add-and a b, and-le-l a b, and-le-r a b)
 
-pub settled-none : (before next : List ℕ) → Settled before next 0 before 0
+pub settled-none : (before next : List ℕ) → RoundTaken before next 0 before 0
 settled-none before next = record { taken = refl; tells = (λ _. refl, λ _. refl) }
 
-module _ {before next words : List ℕ} {n told : ℕ} (h : n < length before) (k : n < length next) (s : Settled before next n words told) where
+module _ {before next words : List ℕ} {n told : ℕ} (h : n < length before) (k : n < length next) (s : RoundTaken before next n words told) where
   -- the word that comes next is as it was
   settled-at : getD words n 0 ≡ getD before n 0
   settled-at =
@@ -71,7 +71,7 @@ module _ {before next words : List ℕ} {n told : ℕ} (h : n < length before) (
       let word : getD words n 0 ≡ getD next n 0 = settled-at ∙ sym (same-word e n (omega arith)) in
       rw (word, xor-self, or-zero-r) (s .tells .1 less)
 
-  pub settled-more : Settled before next (suc n) (set words n (getD next n 0)) (bitOr told (bitXor (getD next n 0) (getD words n 0)))
+  pub settled-more : RoundTaken before next (suc n) (set words n (getD next n 0)) (bitOr told (bitXor (getD next n 0) (getD words n 0)))
   settled-more = record { taken = taken-more; tells = (tells-same, same-tells) }
 
 -- ---- places
@@ -252,7 +252,7 @@ module _ {firsts seconds on : List ℕ} {count width nodes : ℕ} (edges : WideE
         (each-round w h i (omega arith)))
 
     -- where the words of the nodes that edges have are taken over, all of the round's words are
-    pub settled-all : {words : List ℕ} {told : ℕ} → Settled old (after count) (width * nodes) words told → words ≡ after count
+    pub settled-all : {words : List ℕ} {told : ℕ} → RoundTaken old (after count) (width * nodes) words told → words ≡ after count
     settled-all s =
         let size : length (after count) ≡ length old = wide-length firsts seconds on width old count in
         let rest : drop (width * nodes) old ≡ drop (width * nodes) (after count)
@@ -261,7 +261,7 @@ module _ {firsts seconds on : List ℕ} {count width nodes : ℕ} (edges : WideE
         s .taken ∙ rw (rest, take-append-drop)
 
     -- and nothing is told of them where the round added nothing
-    pub settled-same : {words : List ℕ} {told : ℕ} → Settled old (after count) (width * nodes) words told → (told ≡ 0) ↔ (old ≡ after count)
+    pub settled-same : {words : List ℕ} {told : ℕ} → RoundTaken old (after count) (width * nodes) words told → (told ≡ 0) ↔ (old ≡ after count)
     settled-same s =
         let size : length (after count) ≡ length old = wide-length firsts seconds on width old count in (
           λ e. sym (take-append-drop (width * nodes) old) ∙ ap (λ (l : List ℕ). l ++ drop (width * nodes) old) (sym (s .tells .0 e)) ∙ sym (s .taken) ∙ settled-all s,

@@ -113,7 +113,7 @@ onesTo words at zero = words
 onesTo words at (suc w) = set (onesTo words at w) (at + w) (2 ^ 64 - 1)
 
 -- the words where the first n of a round's words are taken over, and what is told of them: 0 exactly when they are as they were
-pub record Settled (before next : List ℕ) (n : ℕ) (words : List ℕ) (told : ℕ) : Type 0 where
+pub record RoundTaken (before next : List ℕ) (n : ℕ) (words : List ℕ) (told : ℕ) : Type 0 where
   pub taken : words ≡ take n next ++ drop n before
   pub tells : (told ≡ 0) ↔ (take n next ≡ take n before)
 

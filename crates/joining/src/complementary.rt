@@ -13,7 +13,7 @@ use switch::ModuleType;
 use words::first_ones;
 ghost use mathlib.Core.Path.{_≡_};
 ghost use Prim.Native.Nat.{_<_, _≤_, _*_};
-ghost use Rattle.switch.specs.Records.{Given, EdgesGiven, typeOf, typeWith};
+ghost use Rattle.switch.specs.Records.{TypeGiven, EdgesGiven, typeOf, typeWith};
 ghost use Rattle.switch.specs.Deciding.{isComplementary};
 ghost use Rattle.switch.specs.Modules.{mostLabels};
 ghost use Rattle.joining.specs.Model.{outputWords, BlockVerdict};
@@ -26,7 +26,7 @@ struct OutputWords {
 }
 
 fn output_words(t: ModuleType, ones: &[u64; MOST_LABELS], zeros: &[u64; MOST_LABELS]) -> OutputWords
-    requires { ⌜ Given t ⌝ }
+    requires { ⌜ TypeGiven t ⌝ }
     requires { ⌜ (length (now ones) ≡ mostLabels) × (length (now zeros) ≡ mostLabels) ⌝ }
     ensures { λ r. ⌜ r ≡ outputWords (typeOf t) (now (ones .entry)) (now (zeros .entry)) ⌝ }
 {
@@ -53,7 +53,7 @@ fn output_words(t: ModuleType, ones: &[u64; MOST_LABELS], zeros: &[u64; MOST_LAB
 
 // Whether the output is joined to exactly one rail under each setting of a block that is below `settings`.
 fn block_holds(t: ModuleType, block: usize, settings: usize) -> bool
-    requires { ⌜ Given t ⌝ }
+    requires { ⌜ TypeGiven t ⌝ }
     requires { ⌜ (64 * block < settings) × (settings ≤ 4096) ⌝ }
     ensures { λ r. ⌜ BlockVerdict (typeOf t) block settings r ⌝ }
 {
@@ -67,7 +67,7 @@ fn block_holds(t: ModuleType, block: usize, settings: usize) -> bool
 
 // Whether a type is complementary: the work, on a type by value.
 fn complementary_of(t: ModuleType) -> bool
-    requires { ⌜ Given t ⌝ }
+    requires { ⌜ TypeGiven t ⌝ }
     ensures { λ r. ⌜ r ≡ isComplementary (typeOf t) ⌝ }
 {
     let settings = 1usize << (t.labels as usize);
@@ -91,7 +91,7 @@ pub fn complementary(edges: &[Edge], highest: u8, output: u8, labels: u8) -> boo
 
 // The same, on a type whose edges are lent.
 pub fn check_type(t: ModuleType) -> bool
-    requires { ⌜ Given t ⌝ }
+    requires { ⌜ TypeGiven t ⌝ }
     ensures { λ r. ⌜ r ≡ isComplementary (typeOf t) ⌝ }
 {
     complementary(&t.edges[..t.count], t.highest, t.output, t.labels)

@@ -8,12 +8,12 @@ use switch::ModuleType;
 use switch::Planes;
 use switch::Rails;
 ghost use mathlib.Core.Path.{_≡_};
-ghost use Rattle.switch.specs.Records.{Given, EdgesGiven, typeOf, typeWith};
+ghost use Rattle.switch.specs.Records.{TypeGiven, EdgesGiven, typeOf, typeWith};
 ghost use Rattle.switch.specs.Promises.{railsOf, planesOf};
 
 // Under which of 256 vectors each node is joined to supply, and to ground: the work, on a type by value.
 pub fn joining_of(t: ModuleType, ones: &[u64; 48], zeros: &[u64; 48]) -> Rails
-    requires { ⌜ Given t ⌝ }
+    requires { ⌜ TypeGiven t ⌝ }
     ensures { λ r. ⌜ r ≡ railsOf (typeOf t) (now (ones .entry)) (now (zeros .entry)) ⌝ }
 {
     let edges = t.edges;
@@ -50,7 +50,7 @@ pub fn joining(
 
 // The same, on a type whose edges are lent.
 pub fn join_type(t: ModuleType, ones: &[u64; 48], zeros: &[u64; 48]) -> Rails
-    requires { ⌜ Given t ⌝ }
+    requires { ⌜ TypeGiven t ⌝ }
     ensures { λ r. ⌜ r ≡ railsOf (typeOf t) (now (ones .entry)) (now (zeros .entry)) ⌝ }
 {
     joining(

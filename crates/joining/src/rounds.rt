@@ -4,7 +4,7 @@ ghost use mathlib.Core.Path.{_≡_};
 ghost use Prim.Native.Nat.{_+_, _*_, _<_, _≤_};
 ghost use lib.ListN.{length, replicate};
 ghost use Rattle.switch.specs.Modules.{mostEdges, mostNodes};
-ghost use Rattle.joining.specs.Model.{NodesInRange, handedTo, wideRoundTo, onesTo, Settled, WideEdges, WideJoined};
+ghost use Rattle.joining.specs.Model.{NodesInRange, handedTo, wideRoundTo, onesTo, RoundTaken, WideEdges, WideJoined};
 
 // Hands the words at `from` on to those at `to`, along an edge whose on words stand at `at`.
 fn hand_on(
@@ -54,7 +54,7 @@ fn round(
 // Takes the words of a round over, in the first `places`; 0 exactly when they are as they were.
 fn settle(joined: &mut [u64], next: &[u64], places: usize) -> u64
     requires { ⌜ (places ≤ length (now joined)) × (places ≤ length (now next)) ⌝ }
-    ensures { λ r. ⌜ Settled (now (joined .entry)) (now (next .entry)) places (now (joined .exit)) r ⌝ }
+    ensures { λ r. ⌜ RoundTaken (now (joined .entry)) (now (next .entry)) places (now (joined .exit)) r ⌝ }
 {
     let mut added: u64 = 0;
     let mut p: usize = 0;

@@ -25,13 +25,13 @@ module _ (types : List ModuleType) (vector : List Value) where
   unfolding outputsAfter
   outputs-append outputs [] js = refl
   outputs-append outputs (i ∷ is) js =
-      outputs-append (outputs ++ (deciding.outputOf (typeOfInstance types i) (labelValues vector outputs i) ∷ [])) is js
+      outputs-append (outputs ++ (deciding.outputValue (typeOfInstance types i) (labelValues vector outputs i) ∷ [])) is js
 
   length-outputs : (outputs : List Value) (is : List Instance) → length (outputsAfter types vector outputs is) ≡ length outputs + length is
   unfolding outputsAfter
   length-outputs outputs [] = omega arith
   length-outputs outputs (i ∷ is) =
-      let new = deciding.outputOf (typeOfInstance types i) (labelValues vector outputs i) ∷ [] in
+      let new = deciding.outputValue (typeOfInstance types i) (labelValues vector outputs i) ∷ [] in
       omega (arith, length-outputs (outputs ++ new) is, length-append outputs new)
 
   -- outputs stay
@@ -40,7 +40,7 @@ module _ (types : List ModuleType) (vector : List Value) where
   unfolding outputsAfter
   outputs-front outputs [] n d h = refl
   outputs-front outputs (i ∷ is) n d h =
-      let new = deciding.outputOf (typeOfInstance types i) (labelValues vector outputs i) ∷ [] in
+      let new = deciding.outputValue (typeOfInstance types i) (labelValues vector outputs i) ∷ [] in
       outputs-front (outputs ++ new) is n d (omega (arith, length-append outputs new)) ∙ List·getD-append outputs new d n h
 
 pub length-outputsAt : (c : Circuit) (i u : ℕ) → i ≤ length (c .instances) → length (outputsAt c i u) ≡ i
@@ -50,7 +50,7 @@ length-outputsAt c i u h =
 
 -- the output of the instance at a place, under the vector at a place
 abbrev pub newOutput : Circuit → ℕ → Instance → ℕ → Value
-newOutput c i inst u = deciding.outputOf (typeOfInstance (c .types) inst) (labelValues (vectorAt c u) (outputsAt c i u) inst)
+newOutput c i inst u = deciding.outputValue (typeOfInstance (c .types) inst) (labelValues (vectorAt c u) (outputsAt c i u) inst)
 
 module _ (c : Circuit) (i : ℕ) (inst : Instance) (at : InstanceAt c i inst) (u : ℕ) where
   pub outputs-more : outputsAt c (suc i) u ≡ outputsAt c i u ++ (newOutput c i inst u ∷ [])

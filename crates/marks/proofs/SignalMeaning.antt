@@ -385,9 +385,9 @@ module _ (c : Circuit) where
       output-word w h =
           rw (node-at c i inst supply (t .output) w inside h, node-at c i inst ground (t .output) w inside h)
           (ap column (output-planes t (labelsOf isAt1 c i inst w) (labelsOf isAt0 c i inst w) inside)
-          ∙ column-is (λ (v : ℕ). deciding.outputOf t (values v))
-          ∙ word-cong (λ (v : ℕ). plane (deciding.outputOf t (values v))) (λ (v : ℕ). plane (newOutput c i inst (64 * w + v)))
-          (λ v k. ap (λ (x : ℕ → Value). plane (deciding.outputOf t x)) (fun-ext (λ l. label-values w v l h k))))
+          ∙ column-is (λ (v : ℕ). deciding.outputValue t (values v))
+          ∙ word-cong (λ (v : ℕ). plane (deciding.outputValue t (values v))) (λ (v : ℕ). plane (newOutput c i inst (64 * w + v)))
+          (λ v k. ap (λ (x : ℕ → Value). plane (deciding.outputValue t x)) (fun-ext (λ l. label-values w v l h k))))
         where
           t : ModuleType
           t = typeOfInstance (c .types) inst

@@ -13,7 +13,7 @@ use Rattle.words.specs.Written.{written}
 use Rattle.switch.specs.Conduction.{Value, atX, supply, ground}
 use Rattle.switch.specs.Modules.{ModuleType}
 use Rattle.switch.specs.Promises.{fourRailWords, planesOf}
-use Rattle.switch.specs.Records.{Given, typeOf}
+use Rattle.switch.specs.Records.{TypeGiven, typeOf}
 use Rattle.switch.specs.declared.ModuleType.{ModuleType as TypeRecord}
 use Rattle.circuit.specs.Circuit.{Circuit}
 use Rattle.circuit.specs.Records.{unusedReference}
@@ -105,8 +105,8 @@ unfoldable pub vectorsIn : ℕ → ℕ → ℕ
 vectorsIn vectors w = firstOnes (vectors - 64 * w)
 
 -- the four words of a row, under masks
-unfoldable pub rowWords : List ℕ → List ℕ → List ℕ → List ℕ → List ℕ → ℕ → List ℕ
-rowWords toSupply toGround ones zeros masks row = table 4 (λ (w : ℕ). bitAnd (markWord toSupply toGround ones zeros row w) (getD masks w 0))
+unfoldable pub rowUnderMasks : List ℕ → List ℕ → List ℕ → List ℕ → List ℕ → ℕ → List ℕ
+rowUnderMasks toSupply toGround ones zeros masks row = table 4 (λ (w : ℕ). bitAnd (markWord toSupply toGround ones zeros row w) (getD masks w 0))
 
 -- the words of an instance's rows, from one place to another
 unfoldable pub rowsWords : List ℕ → List ℕ → List ℕ → List ℕ → List ℕ → ℕ → ℕ → ℕ → List ℕ
@@ -116,7 +116,7 @@ rowsWords rows toSupply toGround ones zeros vectors from to =
 
 -- what marking an instance asks, with t its type's record: its type and references are in range, and there is room for its rows and its output
 pub record InstanceGiven (t : TypeRecord) (references : List ReferenceRecord) (place : ℕ) (rows : List ℕ) (from to : ℕ) (ones zeros matrix : List ℕ) : Type 0 where
-  pub sound : Given t
+  pub sound : TypeGiven t
   pub tied : ReferencesFit references (t .labels)
   pub placed : place < 128
   pub ones-long : length ones ≡ 768

@@ -5,7 +5,7 @@ ghost use Prim.Native.Nat.{_+_, _*_, _<_, _≤_};
 ghost use lib.ListN.{length};
 ghost use Rattle.words.specs.Written.{written};
 ghost use Rattle.grading.specs.Codes.{CodeFits, CodesFit};
-ghost use Rattle.marks.specs.Model.{markWord, vectorsIn, rowWords, rowsWords};
+ghost use Rattle.marks.specs.Model.{markWord, vectorsIn, rowUnderMasks, rowsWords};
 
 // Word w of a row: kind 0 where one end is joined to supply and the other to ground; kind 1 where the label is 1 and the node joined to ground, or the label 0 and the node joined to supply.
 fn mark_word(
@@ -53,7 +53,7 @@ fn write_row(
 )
     requires { ⌜ CodeFits row ⌝ }
     requires { ⌜ at + 4 ≤ length (now matrix) ⌝ }
-    ensures { λ _. ⌜ now (matrix .exit) ≡ written (now (matrix .entry)) at (rowWords (now (supply .entry)) (now (ground .entry)) (now (ones .entry)) (now (zeros .entry)) masks row) ⌝ }
+    ensures { λ _. ⌜ now (matrix .exit) ≡ written (now (matrix .entry)) at (rowUnderMasks (now (supply .entry)) (now (ground .entry)) (now (ones .entry)) (now (zeros .entry)) masks row) ⌝ }
 {
     let mut w: usize = 0;
     while w < 4 {

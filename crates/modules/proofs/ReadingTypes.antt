@@ -9,16 +9,16 @@ use lib.Dec.{T, leb, le→leb}
 use lib.ListN.{length, getD, set, replicate, length-append, length-map}
 use Rattle.switch.specs.Modules.{ModuleType, allOf, typeInRange, inRange}
 use Rattle.switch.specs.Deciding.{isComplementary}
-use Rattle.switch.specs.Records.{typeOf, Given}
+use Rattle.switch.specs.Records.{typeOf, TypeGiven}
 use Rattle.switch.specs.declared.Edge.{Edge as EdgeRecord}
 use Rattle.switch.specs.declared.ModuleType.{ModuleType as TypeRecord}
 use Rattle.switch.proofs.Deciding.{and-both}
 use Rattle.circuit.specs.Limits.{mostTypes, mostEdges}
 use Rattle.circuit.specs.Fields.{Cut, cutFrom}
 use Rattle.circuit.specs.Known.{typeIn, edgeIn, withEdge}
-use Rattle.circuit.specs.Table.{Verdict, passes, refused, firstOf, typeTests, edgeTests, edgeTestsOf}
+use Rattle.circuit.specs.Table.{Verdict, passes, refusedAt, firstOf, typeTests, edgeTests, edgeTestsOf}
 use Rattle.circuit.specs.Records.{padded, unusedType, edgeRecord, typeRecord}
-use Rattle.circuit.specs.Answers.{numberOf, placeOf, numberedVerdict, verdictOf, isRefused}
+use Rattle.circuit.specs.Answers.{refusalNumber, refusalPlace, numberedVerdict, verdictOf, isRefused}
 use Rattle.circuit.specs.Stages.{Stage, ifPasses, edgeStage, failingVerdict, typeStage, stageOf}
 use Rattle.fields.specs.Steps.{bodyOf, NextIs}
 use Rattle.modules.specs.ReadTypes.{goodType, bareOf, BareType, EdgesRead, TypeRead, TypesRead}
@@ -42,7 +42,7 @@ never-passes v e p = let z : _≡_ {A = ℕ} 0 1 = cc in absurd (omega arith)
 if-refused : {A : Type 0} (v w : Verdict) → v ≡ w → isRefused v ≡ true → (s : Stage A) (a : A) (cut : Cut) → ifPasses w s ≡ stageOf v a cut
 unfolding isRefused ifPasses stageOf
 if-refused passes w e r s a cut = never-passes passes r refl
-if-refused (refused number place) w e r s a cut = rw (← e)
+if-refused (refusedAt number place) w e r s a cut = rw (← e)
 
 if-passes : {A : Type 0} (v w : Verdict) → v ≡ w → isRefused v ≡ false → (s : Stage A) → ifPasses w s ≡ s
 unfolding ifPasses
@@ -82,7 +82,7 @@ module _ (file : List ℕ) (from : ℕ) (bare : TypeRecord) where
 
   module _ (r : TypeRecord) (at : ℕ) (sofar : EdgesSoFar file from bare r at) where
     pub edges-stop : NextIs file at 3 Other → EdgesRead file from bare (record { refusal = Nothing; at = at; «module_type» = r })
-    unfolding NextIs stageOf verdictOf numberOf placeOf numberedVerdict
+    unfolding NextIs stageOf verdictOf refusalNumber refusalPlace numberedVerdict
     edges-stop other = record {
       type = sofar .type;
       stage = sofar .stage ∙ section-stop 3 edgeTests plusEdge (sofar .type) file at other;
@@ -156,7 +156,7 @@ after-stage : (types : List ModuleType) (typeAt : ℕ) (v : Verdict) (t : Module
     → afterEdges types typeAt (stageOf v t cut) ≡ ifPasses v (typeStage (types ++ (t ∷ [])) typeAt cut)
 unfolding afterEdges stageOf ifPasses
 after-stage types typeAt passes t cut = refl
-after-stage types typeAt (refused number place) t cut = refl
+after-stage types typeAt (refusedAt number place) t cut = refl
 
 pub bare-type : (body : List ℕ) (bare : TypeRecord) → bare ≡ typeRecord (typeIn body)
     → T (typeInRange (getD body 0 0) (getD body 1 0) (getD body 2 0)) → BareType bare
@@ -192,7 +192,7 @@ module _ (file : List ℕ) (f : FieldRecord) (bare : TypeRecord) (told : bare �
   pub type-refused : isRefused (verdictOf (one .refusal)) ≡ true → TypeRead file f one
   type-refused e = read-with (λ p. never-passes (verdictOf (one .refusal)) e p)
 
-  pub type-read-given : Given (one .«module_type»)
+  pub type-read-given : TypeGiven (one .«module_type»)
   type-read-given = rw (read .is) (type-given (read .type) (read .ranges) (read .within))
 
   module _ (test : Bool) (tested : test ≡ isComplementary (typeOf (one .«module_type»))) where
@@ -268,7 +268,7 @@ module _ (file : List ℕ) (from : ℕ) where
     }
 
     pub types-stop : NextIs file at 2 Other → TypesRead file from (record { refusal = Nothing; at = at; count = count; all = all })
-    unfolding stageOf verdictOf numberOf placeOf numberedVerdict
+    unfolding stageOf verdictOf refusalNumber refusalPlace numberedVerdict
     types-stop other = ended Nothing (type-stop (sofar .types) (sofar .typeAt) file at (sofar .settled) other)
 
     module _ (f : FieldRecord) (here : NextIs file at 2 (Found f)) (v : Refusal)

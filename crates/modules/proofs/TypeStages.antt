@@ -14,7 +14,7 @@ use Rattle.switch.specs.Deciding.{isComplementary}
 use Rattle.circuit.specs.Fields.{Field, Cut, clean, broken, field, cutFrom}
 use Rattle.circuit.specs.Circuit.{noType}
 use Rattle.circuit.specs.Known.{tagOf, typeIn, edgeIn, latest, withEdge, edgeAdded}
-use Rattle.circuit.specs.Table.{Verdict, passes, refused, firstOf, notComplementary, isEmpty, isUnknown, typeTests, edgeTests}
+use Rattle.circuit.specs.Table.{Verdict, passes, refusedAt, firstOf, notComplementary, isEmpty, isUnknown, typeTests, edgeTests}
 use Rattle.circuit.specs.Answers.{isRefused}
 use Rattle.circuit.specs.Stages.{Stage, stopped, failed, ifPasses, section, edgeStage, failingBefore, failingVerdict, judged, typeStage}
 use Rattle.fields.specs.Steps.{bodyOf, fieldIn, FieldAt, NextIs}
@@ -48,7 +48,7 @@ after-if : (types : List ModuleType) (typeAt : ℕ) (v : Verdict) (s : Stage Mod
     → ifPasses v (afterEdges types typeAt s) ≡ afterEdges types typeAt (ifPasses v s)
 unfolding ifPasses afterEdges
 after-if types typeAt passes s = refl
-after-if types typeAt (refused number place) s = refl
+after-if types typeAt (refusedAt number place) s = refl
 
 -- an edge at a time, or all edges first
 pub edges-first : (types : List ModuleType) (t : ModuleType) (typeAt : ℕ) (cut : Cut)
@@ -73,7 +73,7 @@ edges-first types t typeAt (field f rest) = go (eqb (f .tag) 3) refl (edges-firs
 refused-leaves : {A : Type 0} (v : Verdict) → isRefused v ≡ true → (s u : Stage A) → ifPasses v s ≡ ifPasses v u
 unfolding ifPasses isRefused
 refused-leaves passes e s u = cc
-refused-leaves (refused number place) e s u = refl
+refused-leaves (refusedAt number place) e s u = refl
 
 pub failing-refuses : (typeAt : ℕ) (cut : Cut) → isRefused (failingVerdict typeAt cut) ≡ true
 unfolding failingVerdict failingBefore isRefused
@@ -81,7 +81,7 @@ failing-refuses typeAt clean = refl
 failing-refuses typeAt (broken at) = refl
 failing-refuses typeAt (field f rest) = go (isUnknown (tagOf (f .tag))) (eqb (f .tag) 1)
   where
-    go : (a b : Bool) → isRefused (cond a (refused 3 (f .at)) (cond b (refused 4 (f .at)) (refused 9 typeAt))) ≡ true
+    go : (a b : Bool) → isRefused (cond a (refusedAt 3 (f .at)) (cond b (refusedAt 4 (f .at)) (refusedAt 9 typeAt))) ≡ true
     go true b = refl
     go false true = refl
     go false false = refl

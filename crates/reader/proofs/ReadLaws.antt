@@ -15,7 +15,7 @@ use Rattle.circuit.specs.Limits.{mostBytes, mostTypes, mostBridges, mostInstanc
 use Rattle.circuit.specs.Fields.{Cut, clean, broken, field, cutFrom, twoBytes}
 use Rattle.circuit.specs.Circuit.{Circuit, Instance, Listed, faultCount}
 use Rattle.circuit.specs.Known.{tagOf}
-use Rattle.circuit.specs.Table.{Verdict, passes, refused, firstOf, test, isUnknown, inputsTests}
+use Rattle.circuit.specs.Table.{Verdict, passes, refusedAt, firstOf, test, isUnknown, inputsTests}
 use Rattle.circuit.specs.Reading.{Reading, accepted, refusal, unless, readingOf}
 use Rattle.circuit.specs.Records.{unusedType, unusedBridge, unusedInstance, unusedVector, circuitRecord, emptyCircuit}
 use Rattle.circuit.specs.Answers.{verdictOf, isRefused, orIf, Tells, Answers}
@@ -93,18 +93,18 @@ module _ (t : TypeRecord) (b : BridgeRecord) (i : InstanceRecord) (v : VectorRec
 unless-refused : (v : Verdict) (x y : Reading) → isRefused v ≡ true → unless v x ≡ unless v y
 unfolding isRefused unless
 unless-refused passes x y e = cc
-unless-refused (refused n p) x y e = refl
+unless-refused (refusedAt n p) x y e = refl
 
 unless-both : (v w : Verdict) (x : Reading) → unless v (unless w x) ≡ unless (orIf v true w) x
 unfolding unless orIf
 unless-both passes w x = refl
-unless-both (refused n p) w x = refl
+unless-both (refusedAt n p) w x = refl
 
 -- a stage gives its verdict, and where it passes reading goes on from what it has gathered
 stage-is : {A : Type 0} (v : Verdict) (a : A) (cut : Cut) (next : A → Cut → Reading) → afterStage (stageOf v a cut) next ≡ unless v (next a cut)
 unfolding stageOf afterStage unless
 stage-is passes a cut next = refl
-stage-is (refused n p) a cut next = refl
+stage-is (refusedAt n p) a cut next = refl
 
 -- a reading that has come to a stage goes on behind it, with the first verdict so far that refuses
 behind : {A : Type 0} {reading : Reading} {stage : Stage A} (next : A → Cut → Reading) (w v u : Verdict) (a : A) (cut : Cut)
@@ -117,7 +117,7 @@ behind {A} next w v u a cut come is first =
 told : (c : Circuit) (v : Verdict) (r : ReadingRecord) → verdictOf (r .refusal) ≡ v → r .circuit ≡ circuitRecord c → Tells (unless v (accepted c)) r
 unfolding unless Tells
 told c passes r same is = (same, is)
-told c (refused n p) r same is = same
+told c (refusedAt n p) r same is = same
 
 -- ---- the stages one after the other, with P inputs in a file of this size
 
@@ -232,7 +232,7 @@ start-refused size clean = refl
 start-refused size (broken place) = refl
 start-refused size (field f rest) = go (isUnknown (tagOf (f .tag)))
   where
-    go : (b : Bool) → isRefused (cond b (refused 3 (f .at)) (refused 4 (f .at))) ≡ true
+    go : (b : Bool) → isRefused (cond b (refusedAt 3 (f .at)) (refusedAt 4 (f .at))) ≡ true
     go true = refl
     go false = refl
 

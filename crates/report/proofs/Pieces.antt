@@ -14,7 +14,7 @@ use Rattle.words.proofs.WrittenLaws.{take-written, length-written}
 use Rattle.text.specs.Decimal.{decimal, lengthIn}
 use Rattle.text.proofs.DecimalLaws.{length-digits}
 use Rattle.report.specs.Lines.{digitsOfMarks}
-use Rattle.report.specs.Given.{Given}
+use Rattle.report.specs.Given.{LineGiven}
 
 -- ---- how long a piece is
 
@@ -77,5 +77,5 @@ module _ {size most : ℕ} {line after : List ℕ} {at next : ℕ} (so-far : Lin
 
 -- where the text is the promised line, the promised line is given
 pub promised : {size most : ℕ} {line : List ℕ} {at : ℕ} (l : Line size most line at) {text buffer after : List ℕ} {count : ℕ}
-    → l .text ≡ text → Given (take at line) buffer count after → Given text buffer count after
+    → l .text ≡ text → LineGiven (take at line) buffer count after → LineGiven text buffer count after
 promised l e g = rw (← e, ← (l .front)) g

@@ -9,16 +9,16 @@ use native.Mathlib.Omega.{arith}
 use borrow.Author.Tests.{leb-true}
 use Rattle.words.specs.Written.{written}
 use Rattle.words.proofs.WrittenLaws.{length-written}
-use Rattle.report.specs.Given.{Given}
+use Rattle.report.specs.Given.{LineGiven}
 
-pub given-within : (line buffer after : List ℕ) (count : ℕ) → Given line buffer count after → count ≤ length buffer
+pub given-within : (line buffer after : List ℕ) (count : ℕ) → LineGiven line buffer count after → count ≤ length buffer
 given-within line buffer after count given = go (leb (length line) (length buffer)) refl
   where
     go : (fits : Bool) → leb (length line) (length buffer) ≡ fits → count ≤ length buffer
     go true e = omega (arith, given .count-is ∙ ap (λ (b : Bool). cond b (length line) 0) e, leb-true (length line) (length buffer) e)
     go false e = omega (arith, given .count-is ∙ ap (λ (b : Bool). cond b (length line) 0) e)
 
-pub given-length : (line buffer after : List ℕ) (count : ℕ) → Given line buffer count after → length after ≡ length buffer
+pub given-length : (line buffer after : List ℕ) (count : ℕ) → LineGiven line buffer count after → length after ≡ length buffer
 given-length line buffer after count given = ap length (given .after-is) ∙ go (leb (length line) (length buffer)) refl
   where
     go : (fits : Bool) → leb (length line) (length buffer) ≡ fits → length (cond (leb (length line) (length buffer)) (written buffer 0 line) buffer) ≡ length buffer

@@ -7,6 +7,6 @@ use lib.Dec.{leb}
 use lib.ListN.{length}
 use Rattle.words.specs.Written.{written}
 
-pub record Given (line buffer : List ℕ) (count : ℕ) (after : List ℕ) : Type 0 where
+pub record LineGiven (line buffer : List ℕ) (count : ℕ) (after : List ℕ) : Type 0 where
   pub count-is : count ≡ cond (leb (length line) (length buffer)) (length line) 0
   pub after-is : after ≡ cond (leb (length line) (length buffer)) (written buffer 0 line) buffer

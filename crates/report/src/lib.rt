@@ -9,7 +9,7 @@ ghost use Prim.Native.Nat.{_+_, _≤_, min};
 ghost use lib.ListN.{length};
 ghost use Rattle.words.specs.Written.{written};
 ghost use Rattle.report.specs.Lines.{firstLine, kindLetter, digitsOfMarks, rowLine, refusalLine};
-ghost use Rattle.report.specs.Given.{Given};
+ghost use Rattle.report.specs.Given.{LineGiven};
 
 // A row of the report but for its marks.
 pub struct RowHead {
@@ -22,7 +22,7 @@ pub struct RowHead {
 
 // A line into the front of a buffer, if there is room.
 fn give(line: &[u8], out: &mut [u8]) -> usize
-    ensures { λ r. ⌜ Given (now (line .entry)) (now (out .entry)) r (now (out .exit)) ⌝ }
+    ensures { λ r. ⌜ LineGiven (now (line .entry)) (now (out .entry)) r (now (out .exit)) ⌝ }
 {
     if out.len() < line.len() {
         return 0;
@@ -37,7 +37,7 @@ pub fn first_line(
     found: usize,
     out: &mut [u8],
 ) -> usize
-    ensures { λ r. ⌜ Given (firstLine vectors faults classes found) (now (out .entry)) r (now (out .exit)) ⌝ }
+    ensures { λ r. ⌜ LineGiven (firstLine vectors faults classes found) (now (out .entry)) r (now (out .exit)) ⌝ }
 {
     let mut line = [0u8; 128];
     let mut at = put_bytes(&mut line, 0, b"vectors ");
@@ -53,7 +53,7 @@ pub fn first_line(
 }
 
 pub fn refusal_line(number: u32, place: usize, out: &mut [u8]) -> usize
-    ensures { λ r. ⌜ Given (refusalLine number place) (now (out .entry)) r (now (out .exit)) ⌝ }
+    ensures { λ r. ⌜ LineGiven (refusalLine number place) (now (out .entry)) r (now (out .exit)) ⌝ }
 {
     let mut line = [0u8; 64];
     let mut at = put_bytes(&mut line, 0, b"refused ");
@@ -100,7 +100,7 @@ fn shown(vectors: usize) -> usize
 
 // A row's line.
 pub fn row_line(head: RowHead, vectors: usize, row: [u64; 4], out: &mut [u8]) -> usize
-    ensures { λ r. ⌜ Given (rowLine (head .instance) (head .kind) (head .first) (head .second) (head .class) (min vectors 256) row) (now (out .entry)) r (now (out .exit)) ⌝ }
+    ensures { λ r. ⌜ LineGiven (rowLine (head .instance) (head .kind) (head .first) (head .second) (head .class) (min vectors 256) row) (now (out .entry)) r (now (out .exit)) ⌝ }
 {
     let mut line = [0u8; 512];
     let mut at = put_number(&mut line, 0, head.instance as u64);

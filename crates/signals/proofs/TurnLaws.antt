@@ -18,7 +18,7 @@ use Rattle.words.specs.Bits.{bit, pack, word}
 use Rattle.words.specs.Tables.{table}
 use Rattle.words.proofs.Laws.{bit-le-one, bit-zero, bit-or, bit-and, bit-not-under, bit-block, bit-block-high, pack-cong, word-of-bits, bit-word, word-lt}
 use Rattle.words.proofs.Tables.{length-table, getD-table, is-table, table-cong}
-use Rattle.signals.specs.Turning.{transposed, taken, stepped, Step}
+use Rattle.signals.specs.Turning.{transposed, withBitOf, stepped, Step}
 
 -- ---- the six values
 
@@ -70,7 +70,7 @@ turnOf by r = r / (2 * by) * by + r % by
 
 -- word r after i turns
 abbrev turned : ℕ → List ℕ → ℕ → ℕ → ℕ
-turned by block i r = cond (ltb (turnOf by r) i) (word (λ (v : ℕ). bit (getD block (taken by r v) 0) (taken by v r))) (getD block r 0)
+turned by block i r = cond (ltb (turnOf by r) i) (word (λ (v : ℕ). bit (getD block (withBitOf by r v) 0) (withBitOf by v r))) (getD block r 0)
 
 abbrev pub turnsTo : ℕ → List ℕ → ℕ → List ℕ
 turnsTo by block i = table 64 (turned by block i)
@@ -117,28 +117,28 @@ module _ (by low : ℕ) (s : Step by low) where
       (λ v h. omega arith) (λ v h. omega arith) (λ v h. omega arith) (λ v h. omega arith) (λ v h. omega arith) (λ v h. omega arith)
 
   -- what is taken
-  taken-same : (r v : ℕ) → r / by % 2 ≡ v / by % 2 → taken by r v ≡ r
-  unfolding taken
+  taken-same : (r v : ℕ) → r / by % 2 ≡ v / by % 2 → withBitOf by r v ≡ r
+  unfolding withBitOf
   taken-same =
-      each (λ (m : ℕ). (r v : ℕ) → r / m % 2 ≡ v / m % 2 → taken m r v ≡ r)
+      each (λ (m : ℕ). (r v : ℕ) → r / m % 2 ≡ v / m % 2 → withBitOf m r v ≡ r)
       (λ r v h. omega arith) (λ r v h. omega arith) (λ r v h. omega arith) (λ r v h. omega arith) (λ r v h. omega arith) (λ r v h. omega arith)
 
-  taken-up : (r v : ℕ) → r / by % 2 ≡ 0 → v / by % 2 ≡ 1 → taken by r v ≡ r + by
-  unfolding taken
+  taken-up : (r v : ℕ) → r / by % 2 ≡ 0 → v / by % 2 ≡ 1 → withBitOf by r v ≡ r + by
+  unfolding withBitOf
   taken-up =
-      each (λ (m : ℕ). (r v : ℕ) → r / m % 2 ≡ 0 → v / m % 2 ≡ 1 → taken m r v ≡ r + m)
+      each (λ (m : ℕ). (r v : ℕ) → r / m % 2 ≡ 0 → v / m % 2 ≡ 1 → withBitOf m r v ≡ r + m)
       (λ r v h k. omega arith) (λ r v h k. omega arith) (λ r v h k. omega arith) (λ r v h k. omega arith) (λ r v h k. omega arith) (λ r v h k. omega arith)
 
-  taken-down : (r v : ℕ) → r / by % 2 ≡ 1 → v / by % 2 ≡ 0 → taken by r v ≡ r - by
-  unfolding taken
+  taken-down : (r v : ℕ) → r / by % 2 ≡ 1 → v / by % 2 ≡ 0 → withBitOf by r v ≡ r - by
+  unfolding withBitOf
   taken-down =
-      each (λ (m : ℕ). (r v : ℕ) → r / m % 2 ≡ 1 → v / m % 2 ≡ 0 → taken m r v ≡ r - m)
+      each (λ (m : ℕ). (r v : ℕ) → r / m % 2 ≡ 1 → v / m % 2 ≡ 0 → withBitOf m r v ≡ r - m)
       (λ r v h k. omega arith) (λ r v h k. omega arith) (λ r v h k. omega arith) (λ r v h k. omega arith) (λ r v h k. omega arith) (λ r v h k. omega arith)
 
-  taken-in : (r v : ℕ) → r < 64 → v < 64 → taken by r v < 64
-  unfolding taken
+  taken-in : (r v : ℕ) → r < 64 → v < 64 → withBitOf by r v < 64
+  unfolding withBitOf
   taken-in =
-      each (λ (m : ℕ). (r v : ℕ) → r < 64 → v < 64 → taken m r v < 64)
+      each (λ (m : ℕ). (r v : ℕ) → r < 64 → v < 64 → withBitOf m r v < 64)
       (λ r v h k. omega arith) (λ r v h k. omega arith) (λ r v h k. omega arith) (λ r v h k. omega arith) (λ r v h k. omega arith) (λ r v h k. omega arith)
 
   -- pairs and turns
@@ -221,7 +221,7 @@ module _ (by low : ℕ) (s : Step by low) where
 
   module _ (block : List ℕ) where
     abbrev meant : ℕ → ℕ → ℕ
-    meant r v = bit (getD block (taken by r v) 0) (taken by v r)
+    meant r v = bit (getD block (withBitOf by r v) 0) (withBitOf by v r)
 
     abbrev firstWord : ℕ → ℕ → ℕ
     firstWord x y = bitOr (bitAnd x low) (bitAnd y low * 2 ^ by % 2 ^ 64)
@@ -385,20 +385,20 @@ module _ (by low : ℕ) (s : Step by low) where
 
   -- ---- step by step
 
-  taken-mixed : (r v : ℕ) → mixed (2 * by) (taken by v r) (taken by r v) ≡ mixed by v r
-  unfolding taken
+  taken-mixed : (r v : ℕ) → mixed (2 * by) (withBitOf by v r) (withBitOf by r v) ≡ mixed by v r
+  unfolding withBitOf
   taken-mixed =
-      each (λ (m : ℕ). (r v : ℕ) → mixed (2 * m) (taken m v r) (taken m r v) ≡ mixed m v r)
+      each (λ (m : ℕ). (r v : ℕ) → mixed (2 * m) (withBitOf m v r) (withBitOf m r v) ≡ mixed m v r)
       (λ r v. omega arith) (λ r v. omega arith) (λ r v. omega arith) (λ r v. omega arith) (λ r v. omega arith) (λ r v. omega arith)
 
   steps-next : (block : List ℕ) → stepped by (steppedTo (2 * by) block) ≡ steppedTo by block
   unfolding stepped word
   steps-next block =
-      table-cong 64 (λ (r : ℕ). word (λ (v : ℕ). bit (getD (steppedTo (2 * by) block) (taken by r v) 0) (taken by v r)))
+      table-cong 64 (λ (r : ℕ). word (λ (v : ℕ). bit (getD (steppedTo (2 * by) block) (withBitOf by r v) 0) (withBitOf by v r)))
       (λ (r : ℕ). word (spread by block r)) (λ r hr.
-      pack-cong 64 (λ (v : ℕ). bit (getD (steppedTo (2 * by) block) (taken by r v) 0) (taken by v r)) (spread by block r) (λ v hv.
-      ap (λ (x : ℕ). bit x (taken by v r)) (getD-table 64 (λ (q : ℕ). word (spread (2 * by) block q)) 0 (taken by r v) (taken-in r v hr hv))
-      ∙ bit-word (spread (2 * by) block (taken by r v)) (λ u. bit-le-one _ _) (taken by v r) (taken-in v r hv hr)
+      pack-cong 64 (λ (v : ℕ). bit (getD (steppedTo (2 * by) block) (withBitOf by r v) 0) (withBitOf by v r)) (spread by block r) (λ v hv.
+      ap (λ (x : ℕ). bit x (withBitOf by v r)) (getD-table 64 (λ (q : ℕ). word (spread (2 * by) block q)) 0 (withBitOf by r v) (taken-in r v hr hv))
+      ∙ bit-word (spread (2 * by) block (withBitOf by r v)) (λ u. bit-le-one _ _) (withBitOf by v r) (taken-in v r hv hr)
       ∙ (rw (taken-mixed r v, taken-mixed v r))))
 
 pub step-32 : Step 32 4294967295
@@ -426,12 +426,12 @@ unfolding word pack
 step-1 = record { place = 0; few = omega arith; value = refl; mask = refl }
 
 steps-first : (block : List ℕ) → stepped 32 block ≡ steppedTo 32 block
-unfolding stepped taken word
+unfolding stepped withBitOf word
 steps-first block =
-    table-cong 64 (λ (r : ℕ). word (λ (v : ℕ). bit (getD block (taken 32 r v) 0) (taken 32 v r))) (λ (r : ℕ). word (spread 32 block r)) (λ r hr.
-    pack-cong 64 (λ (v : ℕ). bit (getD block (taken 32 r v) 0) (taken 32 v r)) (spread 32 block r) (λ v hv.
-    let row : taken 32 r v ≡ mixed 32 v r = omega arith in
-    let place : taken 32 v r ≡ mixed 32 r v = omega arith in
+    table-cong 64 (λ (r : ℕ). word (λ (v : ℕ). bit (getD block (withBitOf 32 r v) 0) (withBitOf 32 v r))) (λ (r : ℕ). word (spread 32 block r)) (λ r hr.
+    pack-cong 64 (λ (v : ℕ). bit (getD block (withBitOf 32 r v) 0) (withBitOf 32 v r)) (spread 32 block r) (λ v hv.
+    let row : withBitOf 32 r v ≡ mixed 32 v r = omega arith in
+    let place : withBitOf 32 v r ≡ mixed 32 r v = omega arith in
     rw (row, place)))
 
 steps-last : (block : List ℕ) → steppedTo 1 block ≡ transposed block

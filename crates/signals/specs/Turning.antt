@@ -11,12 +11,12 @@ unfoldable pub transposed : List ℕ → List ℕ
 transposed block = table 64 (λ (i : ℕ). word (λ (v : ℕ). bit (getD block v 0) i))
 
 -- r with its bit of value `by` taken from v
-unfoldable pub taken : ℕ → ℕ → ℕ → ℕ
-taken by r v = r - r / by % 2 * by + v / by % 2 * by
+unfoldable pub withBitOf : ℕ → ℕ → ℕ → ℕ
+withBitOf by r v = r - r / by % 2 * by + v / by % 2 * by
 
 -- one step of turning over: a bit's word and its position exchange their bits of value `by`
 unfoldable pub stepped : ℕ → List ℕ → List ℕ
-stepped by block = table 64 (λ (r : ℕ). word (λ (v : ℕ). bit (getD block (taken by r v) 0) (taken by v r)))
+stepped by block = table 64 (λ (r : ℕ). word (λ (v : ℕ). bit (getD block (withBitOf by r v) 0) (withBitOf by v r)))
 
 -- a step's value, and its mask: the positions that do not have the bit of that value
 pub record Step (by low : ℕ) : Type 0 where

@@ -11,7 +11,7 @@ use Rattle.words.specs.Bits.{pack}
 use Rattle.words.proofs.Laws.{bit-pack, pack-lt}
 use Rattle.switch.specs.Conduction.{Value, at0, at1, atX, Edge, Channel, p-channel, n-channel, channelOf, transistorOn, anyOf, edgeOn}
 use Rattle.switch.specs.Conduction.{Link, Among, Joined, ground, supply}
-use Rattle.switch.specs.Modules.{ModuleType, inRange, linksOf, known, settingOf}
+use Rattle.switch.specs.Modules.{ModuleType, inRange, linksOf, valueOfBit, settingOf}
 use Rattle.switch.specs.Modules.{ExactlyOne, only-first, only-second, Complementary}
 use Rattle.switch.specs.Statements.{Accepted, Refines, RailsApart}
 use Rattle.switch.proofs.Paths.{through, turned, more-links, links-more, linksOf-cong}
@@ -72,8 +72,8 @@ filled-le-one at1 = omega arith
 filled-le-one at0 = omega arith
 filled-le-one atX = omega arith
 
-filled-refines : (v : Value) → (v ≡ atX) ⊎ (known (filled v) ≡ v)
-unfolding filled known
+filled-refines : (v : Value) → (v ≡ atX) ⊎ (valueOfBit (filled v) ≡ v)
+unfolding filled valueOfBit
 filled-refines at1 = inr refl
 filled-refines at0 = inr refl
 filled-refines atX = inl refl
@@ -82,9 +82,9 @@ pub filling-lt : (k : ℕ) (values : ℕ → Value) → filling k values < 2 ^ k
 unfolding filling
 filling-lt k values = pack-lt k (λ (l : ℕ). filled (values l)) (λ l b. filled-le-one (values l))
 
-filling-at : (k : ℕ) (values : ℕ → Value) (l : ℕ) → l < k → known (filled (values l)) ≡ settingOf (filling k values) l
+filling-at : (k : ℕ) (values : ℕ → Value) (l : ℕ) → l < k → valueOfBit (filled (values l)) ≡ settingOf (filling k values) l
 unfolding filling settingOf
-filling-at k values l b = ap known (sym (bit-pack k (λ (i : ℕ). filled (values i)) (λ i c. filled-le-one (values i)) l b))
+filling-at k values l b = ap valueOfBit (sym (bit-pack k (λ (i : ℕ). filled (values i)) (λ i c. filled-le-one (values i)) l b))
 
 pub filling-refines : (k : ℕ) (values : ℕ → Value) (l : ℕ) → l < k → (values l ≡ atX) ⊎ (settingOf (filling k values) l ≡ values l)
 filling-refines k values l b = rw (← (filling-at k values l b)) (filled-refines (values l))
@@ -93,7 +93,7 @@ filling-refines k values l b = rw (← (filling-at k values l b)) (filled-refine
 pub joined-when-filled : (t : ModuleType) → T (inRange t) → (values : ℕ → Value) (a b : ℕ)
     → Joined (linksOf t values) a b → Joined (linksOf t (settingOf (filling (t .labels) values))) a b
 joined-when-filled t r values a b p =
-    let full : ℕ → Value = λ l. known (filled (values l)) in
+    let full : ℕ → Value = λ l. valueOfBit (filled (values l)) in
     let setting : ℕ → Value = settingOf (filling (t .labels) values) in
     rw
     (← (linksOf-cong t r full setting (filling-at (t .labels) values)))

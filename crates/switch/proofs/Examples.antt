@@ -5,9 +5,9 @@ use native.Mathlib.Omega.{arith}
 use lib.Dec.{T}
 use Rattle.words.specs.Bits.{bit}
 use Rattle.switch.specs.Conduction.{between, pEnds, nEnd, nEnds, badEnds, channelOf, transistorOn, anyOf, edgeOn, links}
-use Rattle.switch.specs.Modules.{allOf, typeInRange, edgeInRange, inRange, linksOf, known, settingOf, Complementary}
+use Rattle.switch.specs.Modules.{allOf, typeInRange, edgeInRange, inRange, linksOf, valueOfBit, settingOf, Complementary}
 use Rattle.switch.specs.Bridges.{toLabel, closing}
-use Rattle.switch.specs.Deciding.{rename, partIn, renamings, joins, allBelow, oneRail, isComplementary, outputOf, isMarked}
+use Rattle.switch.specs.Deciding.{rename, partIn, renamings, joins, allBelow, oneRail, isComplementary, outputValue, isMarked}
 use Rattle.switch.specs.Records.{edgeOf, edgesOf, typeOf}
 use Rattle.switch.specs.Statements.{Accepted}
 use Rattle.switch.specs.Examples.{edge, nand, inverter, split, no-edges, two, all-four, one-label, marksUnder, KnownResults}
@@ -17,8 +17,8 @@ use Rattle.switch.proofs.Deciding.{complementary-decides}
 pub known-results : KnownResults
 unfolding edge nand inverter split no-edges two all-four one-label marksUnder
     bit between pEnds nEnd nEnds badEnds channelOf transistorOn anyOf edgeOn links
-    allOf typeInRange edgeInRange inRange linksOf known settingOf
-    toLabel closing rename partIn renamings joins allBelow oneRail isComplementary outputOf isMarked
+    allOf typeInRange edgeInRange inRange linksOf valueOfBit settingOf
+    toLabel closing rename partIn renamings joins allBelow oneRail isComplementary outputValue isMarked
 known-results = record {
   nand-in-range = refl;
   nand-ends = refl;

@@ -11,7 +11,7 @@ use Rattle.words.proofs.Laws.{ofBool-le-one, pack-cong, bit-word}
 use Rattle.words.proofs.Tables.{getD-table}
 use Rattle.switch.specs.Conduction.{Value, at0, at1, atX, p-channel, n-channel, transistorOn, supply, ground}
 use Rattle.switch.specs.Modules.{ModuleType, linksOf}
-use Rattle.switch.specs.Deciding.{joins, outputOf}
+use Rattle.switch.specs.Deciding.{joins, outputValue}
 use Rattle.switch.specs.Records.{valueOf, valuesAt}
 use Rattle.switch.specs.Promises.{railWords, isAt1, isAt0, planes}
 use Rattle.switch.specs.Statements.{PlanesAreValues, OutputPlanes}
@@ -78,10 +78,10 @@ bit-railWords t ones zeros rail m v h l =
     (bit-word (λ (u : ℕ). ofBool (joined m u)) (λ u. ofBool-le-one (joined m u)) v l)
 
 pub output-planes : OutputPlanes
-unfolding outputOf
+unfolding outputValue
 output-planes t ones zeros h =
     let s : ℕ = getD (railWords t ones zeros supply) (t .output) 0 in
     let g : ℕ = getD (railWords t ones zeros ground) (t .output) 0 in
-    planes-cong (λ (v : ℕ). valueOf (bit s v) (bit g v)) (λ (v : ℕ). outputOf t (valuesAt ones zeros v)) (λ v l.
+    planes-cong (λ (v : ℕ). valueOf (bit s v) (bit g v)) (λ (v : ℕ). outputValue t (valuesAt ones zeros v)) (λ v l.
     rw (bit-railWords t ones zeros supply (t .output) v h l, bit-railWords t ones zeros ground (t .output) v h l)
     (value-by-rails (joins (linksOf t (valuesAt ones zeros v)) (t .output) supply) (joins (linksOf t (valuesAt ones zeros v)) (t .output) ground)))

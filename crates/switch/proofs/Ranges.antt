@@ -10,7 +10,7 @@ use lib.ListN.{length, getD, take, List·getD-map}
 use lib.Seq.{getD-take}
 use Rattle.switch.specs.Conduction.{Edge, between}
 use Rattle.switch.specs.Modules.{allOf, typeInRange, edgeInRange, inRange}
-use Rattle.switch.specs.Records.{noEdge, edgeOf, edgesOf, typeOf, EdgesFit, Given}
+use Rattle.switch.specs.Records.{noEdge, edgeOf, edgesOf, typeOf, EdgesFit, TypeGiven}
 use Rattle.switch.specs.declared.Edge.{Edge as EdgeRecord}
 use Rattle.switch.specs.declared.ModuleType.{ModuleType as TypeRecord}
 use Rattle.switch.proofs.Paths.{both}
@@ -74,7 +74,7 @@ pub edge-at : (rs : List EdgeRecord) (n i : ℕ) → i < n → getD (edgesOf (ta
 unfolding edgesOf
 edge-at rs n i h = List·getD-map edgeOf (take n rs) i noEdge ∙ ap edgeOf (getD-take n rs i noEdge h)
 
-module _ (r : TypeRecord) (given : Given r) where
+module _ (r : TypeRecord) (given : TypeGiven r) where
   in-ranges : T (typeInRange (r .highest) (r .output) (r .labels)) × T (allOf (edgeInRange (r .highest) (r .labels)) (edgesOf (take (r .count) (r .edges))))
   unfolding inRange typeOf
   in-ranges =

@@ -1,5 +1,5 @@
 -- (b) Refined values keep every on edge, every joining, every known output and every mark, since they turn no edge off and the rails are apart.
--- And `outputOf` is the one value that 01 gives the output. Assumes nothing.
+-- And `outputValue` is the one value that 01 gives the output. Assumes nothing.
 use Prim.Native.Nat.{ℕ}
 use mathlib.Core.Path.{_≡_, refl}
 use mathlib.Core.Bool.{Bool, true, false, cond}
@@ -9,7 +9,7 @@ use lib.Dec.{T}
 use Rattle.switch.specs.Conduction.{Value, at0, at1, atX, Link, Among, Joined, ground, supply}
 use Rattle.switch.specs.Modules.{ModuleType, linksOf, OutputIs, output-0, output-1, output-X}
 use Rattle.switch.specs.Bridges.{Bridge, nodes, input, toLabel, closing, Marked}
-use Rattle.switch.specs.Deciding.{joins, outputOf}
+use Rattle.switch.specs.Deciding.{joins, outputValue}
 use Rattle.switch.specs.Statements.{Accepted, Refines, RefinementKeeps, OutputIsOne}
 use Rattle.switch.proofs.Paths.{more-links}
 use Rattle.switch.proofs.Deciding.{joins-decides}
@@ -17,7 +17,7 @@ use Rattle.switch.proofs.Apart.{edge-stays-on, link-stays, stays-joined
 
 -- ---- the output
 
--- `outputOf` by what it tests, before and after
+-- `outputValue` by what it tests, before and after
 known-stays : (s g s′ g′ : Bool) → (T s → T s′) → (T g → T g′) → (T s′ → T g′ → ⊥)
     → (cond s at1 (cond g at0 atX) ≡ atX) ⊎ (cond s′ at1 (cond g′ at0 atX) ≡ cond s at1 (cond g at0 atX))
 known-stays true g true g′ f h n = inr refl
@@ -28,8 +28,8 @@ known-stays false true true true f h n = absurd (n tt tt)
 known-stays false true false true f h n = inr refl
 
 output-stays : (t : ModuleType) → Accepted t → (values finer : ℕ → Value) → Refines values finer
-    → (outputOf t values ≡ atX) ⊎ (outputOf t finer ≡ outputOf t values)
-unfolding outputOf
+    → (outputValue t values ≡ atX) ⊎ (outputValue t finer ≡ outputValue t values)
+unfolding outputValue
 output-stays t acc values finer refines =
     let ws : List Link = linksOf t values in
     let ws′ : List Link = linksOf t finer in
@@ -67,15 +67,15 @@ module _ (t : ModuleType) (values : ℕ → Value) where
   only-by false false es eg apart value (output-0 p) = absurd (eg .0 p)
   only-by false false es eg apart value (output-X p q) = refl
 
-  output-given : OutputIs t values (outputOf t values)
-  unfolding outputOf
+  output-given : OutputIs t values (outputValue t values)
+  unfolding outputValue
   output-given =
       let ws : List Link = linksOf t values in
       let o : ℕ = t .output in
       given-by (joins ws o supply) (joins ws o ground) (joins-decides ws o supply) (joins-decides ws o ground)
 
-  output-only : Accepted t → (value : Value) → OutputIs t values value → value ≡ outputOf t values
-  unfolding outputOf
+  output-only : Accepted t → (value : Value) → OutputIs t values value → value ≡ outputValue t values
+  unfolding outputValue
   output-only acc value is =
       let ws : List Link = linksOf t values in
       let o : ℕ = t .output in

@@ -42,8 +42,8 @@ oneRail t values =
 unfoldable pub isComplementary : ModuleType → Bool
 isComplementary t = allBelow (2 ^ (t .labels)) (λ (s : ℕ). oneRail t (settingOf s))
 
-unfoldable pub outputOf : ModuleType → (ℕ → Value) → Value
-outputOf t values = let ws = linksOf t values in cond (joins ws (t .output) supply) at1 (cond (joins ws (t .output) ground) at0 atX)
+unfoldable pub outputValue : ModuleType → (ℕ → Value) → Value
+outputValue t values = let ws = linksOf t values in cond (joins ws (t .output) supply) at1 (cond (joins ws (t .output) ground) at0 atX)
 
 -- is a bridge marked: with it closed, does a path run from supply to ground
 unfoldable pub isMarked : ModuleType → (ℕ → Value) → Bridge → Bool

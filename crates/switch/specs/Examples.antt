@@ -8,8 +8,8 @@ use lib.ListN.{replicate}
 use Rattle.switch.specs.Conduction.{Value, at0, at1, atX, Edge, badEnds, anyOf, ground, supply}
 use Rattle.switch.specs.Modules.{ModuleType, mostEdges, inRange, linksOf}
 use Rattle.switch.specs.Bridges.{Bridge, nodes, input}
-use Rattle.switch.specs.Deciding.{joins, isComplementary, outputOf, isMarked}
-use Rattle.switch.specs.Records.{typeOf, Given}
+use Rattle.switch.specs.Deciding.{joins, isComplementary, outputValue, isMarked}
+use Rattle.switch.specs.Records.{typeOf, TypeGiven}
 use Rattle.switch.specs.declared.Edge.{Edge as EdgeRecord}
 use Rattle.switch.specs.declared.ModuleType.{ModuleType as TypeRecord}
 
@@ -54,7 +54,7 @@ pub record KnownResults : Type 0 where
   pub output-to-itself : badEnds 3 2 (edge 2 2 (0 ∷ [])) ≡ true
   pub supply-to-3 : badEnds 3 2 (edge 1 3 (0 ∷ [])) ≡ true
   pub nand-complementary : isComplementary nand ≡ true
-  pub nand-outputs : map (outputOf nand) all-four ≡ at1 ∷ at1 ∷ at1 ∷ at0 ∷ []
+  pub nand-outputs : map (outputValue nand) all-four ≡ at1 ∷ at1 ∷ at1 ∷ at0 ∷ []
   pub bridge-2-3 : marksUnder nand (nodes 2 3) all-four ≡ false ∷ true ∷ false ∷ false ∷ []
   pub bridge-0-3 : marksUnder nand (nodes 0 3) all-four ≡ false ∷ false ∷ true ∷ false ∷ []
   pub bridge-1-3 : marksUnder nand (nodes 1 3) all-four ≡ false ∷ true ∷ false ∷ true ∷ []
@@ -90,5 +90,5 @@ nandRecord = record {
 
 -- so there are records that the code takes
 pub record NandGiven : Type 0 where
-  pub given : Given nandRecord
+  pub given : TypeGiven nandRecord
   pub its-type : typeOf nandRecord ≡ nand

@@ -46,13 +46,13 @@ inRange t = typeInRange (t .highest) (t .output) (t .labels) && allOf (edgeInRan
 unfoldable pub linksOf : ModuleType → (ℕ → Value) → List Link
 linksOf t values = links (t .output) values (t .edges)
 
-unfoldable pub known : ℕ → Value
-known zero = at0
-known (suc b) = at1
+unfoldable pub valueOfBit : ℕ → Value
+valueOfBit zero = at0
+valueOfBit (suc b) = at1
 
 -- a setting gives each label 0 or 1: setting s gives label l the bit of s at l
 unfoldable pub settingOf : ℕ → ℕ → Value
-settingOf s l = known (bit s l)
+settingOf s l = valueOfBit (bit s l)
 
 pub data ExactlyOne (A B : Type 0) : Type 0 where
   only-first : A → (B → ⊥) → ExactlyOne A B

@@ -48,7 +48,7 @@ pub record Spread (rs : List EdgeRecord) (h o k : ℕ) (r : TypeRecord) : Type 0
   pub edges : take (r .count) (r .edges) ≡ rs
 
 -- counts within the places, numbers within 01's ranges; refusals 8 and 9 are not asked
-pub record Given (r : TypeRecord) : Type 0 where
+pub record TypeGiven (r : TypeRecord) : Type 0 where
   pub places : r .count ≤ mostEdges
   pub label-places : T (allOf (λ (e : EdgeRecord). leb (e .count) mostParallel) (take (r .count) (r .edges)))
   pub ranges : T (inRange (typeOf r))

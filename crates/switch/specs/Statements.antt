@@ -10,7 +10,7 @@ use Rattle.words.specs.Bits.{bit}
 use Rattle.switch.specs.Conduction.{Value, atX, Edge, Link, Among, Joined, pEnds, nEnds, badEnds, edgeOn, ground, supply}
 use Rattle.switch.specs.Modules.{ModuleType, mostNodes, inRange, linksOf, Complementary, OutputIs}
 use Rattle.switch.specs.Bridges.{Bridge, Marked, MarkedByEnds}
-use Rattle.switch.specs.Deciding.{joins, isComplementary, outputOf, isMarked}
+use Rattle.switch.specs.Deciding.{joins, isComplementary, outputValue, isMarked}
 use Rattle.switch.specs.Records.{valueOf, valuesAt}
 use Rattle.switch.specs.Promises.{railWords, planes, planesOf}
 
@@ -59,24 +59,24 @@ abbrev pub Refines : (ℕ → Value) → (ℕ → Value) → Type 0
 Refines values finer = (l : ℕ) → (values l ≡ atX) ⊎ (finer l ≡ values l)
 
 -- (b) refined values keep every on edge, every joining, every known output and every mark
-pub record Kept (t : ModuleType) (values finer : ℕ → Value) : Type 0 where
+pub record KeptByRefining (t : ModuleType) (values finer : ℕ → Value) : Type 0 where
   pub on-edge : (e : Edge) → T (edgeOn (t .output) values e) → T (edgeOn (t .output) finer e)
   pub joining : (a b : ℕ) → Joined (linksOf t values) a b → Joined (linksOf t finer) a b
-  pub output : (outputOf t values ≡ atX) ⊎ (outputOf t finer ≡ outputOf t values)
+  pub output : (outputValue t values ≡ atX) ⊎ (outputValue t finer ≡ outputValue t values)
   pub mark : (bridge : Bridge) → Marked t values bridge → Marked t finer bridge
 
 abbrev pub RefinementKeeps : Type 0
-RefinementKeeps = (t : ModuleType) → Accepted t → (values finer : ℕ → Value) → Refines values finer → Kept t values finer
+RefinementKeeps = (t : ModuleType) → Accepted t → (values finer : ℕ → Value) → Refines values finer → KeptByRefining t values finer
 
--- `outputOf` is the one value that 01 gives the output
+-- `outputValue` is the one value that 01 gives the output
 pub record OutputIsOne : Type 0 where
-  pub given : (t : ModuleType) (values : ℕ → Value) → OutputIs t values (outputOf t values)
-  pub only : (t : ModuleType) → Accepted t → (values : ℕ → Value) (value : Value) → OutputIs t values value → value ≡ outputOf t values
+  pub given : (t : ModuleType) (values : ℕ → Value) → OutputIs t values (outputValue t values)
+  pub only : (t : ModuleType) → Accepted t → (values : ℕ → Value) (value : Value) → OutputIs t values value → value ≡ outputValue t values
 
 -- where every label is known, so is the output
 abbrev pub KnownOutput : Type 0
 KnownOutput = (t : ModuleType) → Accepted t → (values : ℕ → Value)
-    → ((l : ℕ) → l < t .labels → values l ≡ atX → ⊥) → outputOf t values ≡ atX → ⊥
+    → ((l : ℕ) → l < t .labels → values l ≡ atX → ⊥) → outputValue t values ≡ atX → ⊥
 
 -- the two planes of a value tell it, at each of the 64 positions
 abbrev pub PlanesAreValues : Type 0
@@ -86,4 +86,4 @@ PlanesAreValues = (f : ℕ → Value) (v : ℕ) → v < 64 → valueOf (bit (pla
 abbrev pub OutputPlanes : Type 0
 OutputPlanes = (t : ModuleType) (ones zeros : List ℕ) → t .output < mostNodes
     → planesOf (getD (railWords t ones zeros supply) (t .output) 0) (getD (railWords t ones zeros ground) (t .output) 0)
-    ≡ planes (λ (v : ℕ). outputOf t (valuesAt ones zeros v))
+    ≡ planes (λ (v : ℕ). outputValue t (valuesAt ones zeros v))

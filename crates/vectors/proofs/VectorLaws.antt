@@ -21,7 +21,7 @@ use Rattle.circuit.specs.Fields.{cutFrom}
 use Rattle.circuit.specs.Known.{letterOf, vectorIn}
 use Rattle.circuit.specs.Table.{Test, test, passes, firstOf, isLetter, vectorTests}
 use Rattle.circuit.specs.Records.{unusedVector, vectorRecord}
-use Rattle.circuit.specs.Answers.{verdictOf, numberOf, placeOf, numberedVerdict, isRefused}
+use Rattle.circuit.specs.Answers.{verdictOf, refusalNumber, refusalPlace, numberedVerdict, isRefused}
 use Rattle.circuit.specs.Stages.{vectorStage, stageOf}
 use Rattle.fields.specs.Steps.{bodyOf, FieldAt, NextIs}
 use Rattle.vectors.specs.ReadVectors.{VectorsRead}
@@ -194,7 +194,7 @@ module _ {file : List ℕ} {from P : ℕ} {all : List VectorRecord} {count at : 
   }
 
   pub vectors-stop : NextIs file at 6 Other → VectorsRead file from P (record { refusal = Nothing; at = at; count = count; all = all })
-  unfolding verdictOf numberOf placeOf numberedVerdict stageOf
+  unfolding verdictOf refusalNumber refusalPlace numberedVerdict stageOf
   vectors-stop other = vectors-read Nothing (stops (sofar .so) other)
 
   module _ (f : FieldRecord) (here : FieldAt file at f) (own : f .tag ≡ 6) (r : Refusal)

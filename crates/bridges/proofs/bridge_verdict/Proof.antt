@@ -3,7 +3,7 @@ use mathlib.Core.Path.{_∙_}
 use mathlib.Core.List.{List}
 use Prim.Native.Nat.{ℕ}
 use borrow.Author.Needs.{needs}
-use Rattle.circuit.specs.Answers.{verdictOf, numberedVerdict, numberOf, placeOf}
+use Rattle.circuit.specs.Answers.{verdictOf, numberedVerdict, refusalNumber, refusalPlace}
 use Rattle.fields.specs.Steps.{bodyOf}
 use Rattle.fields.proofs.Bodies.{length-body}
 use Rattle.bridges.proofs.BridgeLaws.{one-by-one}
@@ -35,7 +35,7 @@ or-if-requires-3 : tie.Need-or-if-requires-3
 or-if-requires-3 c κs = search needs
 
 returns : tie.Need-returns
-unfolding verdictOf numberedVerdict numberOf placeOf
+unfolding verdictOf numberedVerdict refusalNumber refusalPlace
 returns c =
     let ranged = c .before .before .before .before in
     let bytes = ranged .before in

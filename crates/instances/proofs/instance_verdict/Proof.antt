@@ -13,7 +13,7 @@ use Rattle.switch.specs.Modules.{allOf}
 use Rattle.circuit.specs.Circuit.{Reference}
 use Rattle.circuit.specs.Numbers.{referenceGood}
 use Rattle.circuit.specs.Known.{referencesIn}
-use Rattle.circuit.specs.Answers.{numberOf, placeOf, numberedVerdict, verdictOf}
+use Rattle.circuit.specs.Answers.{refusalNumber, refusalPlace, numberedVerdict, verdictOf}
 use Rattle.fields.specs.Steps.{bodyOf}
 use Rattle.instances.specs.ReadInstances.{gatheredTests}
 use Rattle.circuit.proofs.Verdicts.{firstAfter, chain}
@@ -90,7 +90,7 @@ labels c =
     (c .if1 .came))
 
 returns : tie.Need-returns
-unfolding firstAfter gatheredTests verdictOf numberOf placeOf numberedVerdict
+unfolding firstAfter gatheredTests verdictOf refusalNumber refusalPlace numberedVerdict
 returns c =
     let six = c .before .before in
     let joined = six .before .before .before .before .before .before .before in

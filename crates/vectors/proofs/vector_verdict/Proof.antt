@@ -2,7 +2,7 @@
 use mathlib.Core.Path.{sym, _∙_}
 use borrow.Author.Needs.{needs}
 use Rattle.circuit.specs.Table.{vectorTests}
-use Rattle.circuit.specs.Answers.{verdictOf, numberOf, placeOf, numberedVerdict}
+use Rattle.circuit.specs.Answers.{verdictOf, refusalNumber, refusalPlace, numberedVerdict}
 use Rattle.fields.specs.Steps.{bodyOf}
 use Rattle.fields.proofs.Bodies.{length-body}
 use Rattle.circuit.proofs.Verdicts.{firstAfter, chain}
@@ -22,7 +22,7 @@ or-if-requires-3 : tie.Need-or-if-requires-3
 or-if-requires-3 c κs = search needs
 
 returns : tie.Need-returns
-unfolding vectorTests firstAfter verdictOf numberOf placeOf numberedVerdict
+unfolding vectorTests firstAfter verdictOf refusalNumber refusalPlace numberedVerdict
 returns c =
     let first = c .before .before in
     let letters = first .before .before in

@@ -1,7 +1,7 @@
 -- `circuit::refusal::number_of` meets its contract: each arm answers the number of its own case. Assumes nothing.
 use mathlib.Core.Path.{sym, ap}
 use borrow.Author.Needs.{needs}
-use Rattle.circuit.specs.Answers.{numberOf}
+use Rattle.circuit.specs.Answers.{refusalNumber}
 use Rattle.circuit.proofs.refusal.number_of.Statement.{statement}
 use Rattle.circuit.proofs.refusal.number_of.Tie as tie
 
@@ -51,64 +51,64 @@ enum-told-15 : tie.Need-enum-told-15
 enum-told-15 c = search needs
 
 returns : tie.Need-returns
-unfolding numberOf
-returns c = sym (ap numberOf (c .enum-told .given .1))
+unfolding refusalNumber
+returns c = sym (ap refusalNumber (c .enum-told .given .1))
 
 returns-2 : tie.Need-returns-2
-unfolding numberOf
-returns-2 c = sym (ap numberOf (c .enum-told2 .given .1))
+unfolding refusalNumber
+returns-2 c = sym (ap refusalNumber (c .enum-told2 .given .1))
 
 returns-3 : tie.Need-returns-3
-unfolding numberOf
-returns-3 c = sym (ap numberOf (c .enum-told3 .given .1))
+unfolding refusalNumber
+returns-3 c = sym (ap refusalNumber (c .enum-told3 .given .1))
 
 returns-4 : tie.Need-returns-4
-unfolding numberOf
-returns-4 c = sym (ap numberOf (c .enum-told4 .given .1))
+unfolding refusalNumber
+returns-4 c = sym (ap refusalNumber (c .enum-told4 .given .1))
 
 returns-5 : tie.Need-returns-5
-unfolding numberOf
-returns-5 c = sym (ap numberOf (c .enum-told5 .given .1))
+unfolding refusalNumber
+returns-5 c = sym (ap refusalNumber (c .enum-told5 .given .1))
 
 returns-6 : tie.Need-returns-6
-unfolding numberOf
-returns-6 c = sym (ap numberOf (c .enum-told6 .given .1))
+unfolding refusalNumber
+returns-6 c = sym (ap refusalNumber (c .enum-told6 .given .1))
 
 returns-7 : tie.Need-returns-7
-unfolding numberOf
-returns-7 c = sym (ap numberOf (c .enum-told7 .given .1))
+unfolding refusalNumber
+returns-7 c = sym (ap refusalNumber (c .enum-told7 .given .1))
 
 returns-8 : tie.Need-returns-8
-unfolding numberOf
-returns-8 c = sym (ap numberOf (c .enum-told8 .given .1))
+unfolding refusalNumber
+returns-8 c = sym (ap refusalNumber (c .enum-told8 .given .1))
 
 returns-9 : tie.Need-returns-9
-unfolding numberOf
-returns-9 c = sym (ap numberOf (c .enum-told9 .given .1))
+unfolding refusalNumber
+returns-9 c = sym (ap refusalNumber (c .enum-told9 .given .1))
 
 returns-10 : tie.Need-returns-10
-unfolding numberOf
-returns-10 c = sym (ap numberOf (c .enum-told10 .given .1))
+unfolding refusalNumber
+returns-10 c = sym (ap refusalNumber (c .enum-told10 .given .1))
 
 returns-11 : tie.Need-returns-11
-unfolding numberOf
-returns-11 c = sym (ap numberOf (c .enum-told11 .given .1))
+unfolding refusalNumber
+returns-11 c = sym (ap refusalNumber (c .enum-told11 .given .1))
 
 returns-12 : tie.Need-returns-12
-unfolding numberOf
-returns-12 c = sym (ap numberOf (c .enum-told12 .given .1))
+unfolding refusalNumber
+returns-12 c = sym (ap refusalNumber (c .enum-told12 .given .1))
 
 returns-13 : tie.Need-returns-13
-unfolding numberOf
-returns-13 c = sym (ap numberOf (c .enum-told13 .given .1))
+unfolding refusalNumber
+returns-13 c = sym (ap refusalNumber (c .enum-told13 .given .1))
 
 returns-14 : tie.Need-returns-14
-unfolding numberOf
-returns-14 c = sym (ap numberOf (c .enum-told14 .given .1))
+unfolding refusalNumber
+returns-14 c = sym (ap refusalNumber (c .enum-told14 .given .1))
 
 returns-15 : tie.Need-returns-15
-unfolding numberOf
-returns-15 c = sym (ap numberOf (c .enum-told15 .given .1))
+unfolding refusalNumber
+returns-15 c = sym (ap refusalNumber (c .enum-told15 .given .1))
 
 pub number-of-spec : {M : Type 1} → statement M
 number-of-spec =

@@ -2,25 +2,25 @@
 use mathlib.Core.Path.{_≡_, refl, sym, _∙_}
 use mathlib.Core.Bool.{Bool, true, false}
 use borrow.Author.Needs.{needs}
-use Rattle.circuit.specs.Table.{Verdict, passes, refused}
-use Rattle.circuit.specs.Answers.{numberOf, placeOf, numberedVerdict, verdictOf, isRefused, orIf}
+use Rattle.circuit.specs.Table.{Verdict, passes, refusedAt}
+use Rattle.circuit.specs.Answers.{refusalNumber, refusalPlace, numberedVerdict, verdictOf, isRefused, orIf}
 use Rattle.circuit.proofs.refusal.or_if.Statement.{statement}
 use Rattle.circuit.proofs.refusal.or_if.Tie as tie
 
 stays : (v : Verdict) (b : Bool) (this : Verdict) → isRefused v ≡ true → v ≡ orIf v b this
 unfolding isRefused orIf
 stays passes b this e = cc
-stays (refused number place) b this e = refl
+stays (refusedAt number place) b this e = refl
 
 takes : (v : Verdict) (b : Bool) (this : Verdict) → isRefused v ≡ false → b ≡ true → this ≡ orIf v b this
 unfolding isRefused orIf
 takes passes b this e t = rw t
-takes (refused number place) b this e t = cc
+takes (refusedAt number place) b this e t = cc
 
 none : (v : Verdict) (b : Bool) (this : Verdict) → isRefused v ≡ false → b ≡ false → passes ≡ orIf v b this
 unfolding isRefused orIf
 none passes b this e t = rw t
-none (refused number place) b this e t = cc
+none (refusedAt number place) b this e t = cc
 
 refuses-requires : tie.Need-refuses-requires
 refuses-requires c κs = search needs
@@ -36,7 +36,7 @@ returns-2 c =
     takes (verdictOf (a .so-far)) (a .test) (verdictOf (a .this)) (sym (c .before .before .refuses .ensures) ∙ c .before .if1 .left) (c .if2 .taken)
 
 returns-3 : tie.Need-returns-3
-unfolding verdictOf numberOf placeOf numberedVerdict
+unfolding verdictOf refusalNumber refusalPlace numberedVerdict
 returns-3 c =
     let a = c .before .before .before .args in
     none (verdictOf (a .so-far)) (a .test) (verdictOf (a .this)) (sym (c .before .before .refuses .ensures) ∙ c .before .if1 .left) (c .if2 .left)

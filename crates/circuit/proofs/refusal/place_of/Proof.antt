@@ -1,7 +1,7 @@
 -- `circuit::refusal::place_of` meets its contract: each arm answers the place that its own case holds. Assumes nothing.
 use mathlib.Core.Path.{sym, ap}
 use borrow.Author.Needs.{needs}
-use Rattle.circuit.specs.Answers.{placeOf}
+use Rattle.circuit.specs.Answers.{refusalPlace}
 use Rattle.circuit.proofs.refusal.place_of.Statement.{statement}
 use Rattle.circuit.proofs.refusal.place_of.Tie as tie
 
@@ -51,64 +51,64 @@ enum-known-r-13 : tie.Need-enum-known-r-13
 enum-known-r-13 c = search needs
 
 returns : tie.Need-returns
-unfolding placeOf
-returns c = sym (ap placeOf (c .enum-told .given .1))
+unfolding refusalPlace
+returns c = sym (ap refusalPlace (c .enum-told .given .1))
 
 returns-2 : tie.Need-returns-2
-unfolding placeOf
-returns-2 c = sym (ap placeOf (c .enum-told2 .given .1))
+unfolding refusalPlace
+returns-2 c = sym (ap refusalPlace (c .enum-told2 .given .1))
 
 returns-3 : tie.Need-returns-3
-unfolding placeOf
-returns-3 c = sym (ap placeOf (c .before .r .given .1))
+unfolding refusalPlace
+returns-3 c = sym (ap refusalPlace (c .before .r .given .1))
 
 returns-4 : tie.Need-returns-4
-unfolding placeOf
-returns-4 c = sym (ap placeOf (c .before .r2 .given .1))
+unfolding refusalPlace
+returns-4 c = sym (ap refusalPlace (c .before .r2 .given .1))
 
 returns-5 : tie.Need-returns-5
-unfolding placeOf
-returns-5 c = sym (ap placeOf (c .before .r3 .given .1))
+unfolding refusalPlace
+returns-5 c = sym (ap refusalPlace (c .before .r3 .given .1))
 
 returns-6 : tie.Need-returns-6
-unfolding placeOf
-returns-6 c = sym (ap placeOf (c .before .r4 .given .1))
+unfolding refusalPlace
+returns-6 c = sym (ap refusalPlace (c .before .r4 .given .1))
 
 returns-7 : tie.Need-returns-7
-unfolding placeOf
-returns-7 c = sym (ap placeOf (c .before .r5 .given .1))
+unfolding refusalPlace
+returns-7 c = sym (ap refusalPlace (c .before .r5 .given .1))
 
 returns-8 : tie.Need-returns-8
-unfolding placeOf
-returns-8 c = sym (ap placeOf (c .before .r6 .given .1))
+unfolding refusalPlace
+returns-8 c = sym (ap refusalPlace (c .before .r6 .given .1))
 
 returns-9 : tie.Need-returns-9
-unfolding placeOf
-returns-9 c = sym (ap placeOf (c .before .r7 .given .1))
+unfolding refusalPlace
+returns-9 c = sym (ap refusalPlace (c .before .r7 .given .1))
 
 returns-10 : tie.Need-returns-10
-unfolding placeOf
-returns-10 c = sym (ap placeOf (c .before .r8 .given .1))
+unfolding refusalPlace
+returns-10 c = sym (ap refusalPlace (c .before .r8 .given .1))
 
 returns-11 : tie.Need-returns-11
-unfolding placeOf
-returns-11 c = sym (ap placeOf (c .before .r9 .given .1))
+unfolding refusalPlace
+returns-11 c = sym (ap refusalPlace (c .before .r9 .given .1))
 
 returns-12 : tie.Need-returns-12
-unfolding placeOf
-returns-12 c = sym (ap placeOf (c .before .r10 .given .1))
+unfolding refusalPlace
+returns-12 c = sym (ap refusalPlace (c .before .r10 .given .1))
 
 returns-13 : tie.Need-returns-13
-unfolding placeOf
-returns-13 c = sym (ap placeOf (c .before .r11 .given .1))
+unfolding refusalPlace
+returns-13 c = sym (ap refusalPlace (c .before .r11 .given .1))
 
 returns-14 : tie.Need-returns-14
-unfolding placeOf
-returns-14 c = sym (ap placeOf (c .before .r12 .given .1))
+unfolding refusalPlace
+returns-14 c = sym (ap refusalPlace (c .before .r12 .given .1))
 
 returns-15 : tie.Need-returns-15
-unfolding placeOf
-returns-15 c = sym (ap placeOf (c .before .r13 .given .1))
+unfolding refusalPlace
+returns-15 c = sym (ap refusalPlace (c .before .r13 .given .1))
 
 pub place-of-spec : {M : Type 1} → statement M
 place-of-spec =

@@ -8,7 +8,7 @@ use native.Mathlib.Omega.{arith}
 use borrow.Author.Needs.{needs}
 use denote.Enum.Declared.{tagOf}
 use types.Run.{OneOf}
-use Rattle.circuit.specs.Answers.{numberOf, placeOf, numberedVerdict, verdictOf, isRefused}
+use Rattle.circuit.specs.Answers.{refusalNumber, refusalPlace, numberedVerdict, verdictOf, isRefused}
 use Rattle.circuit.specs.declared.refusal.Refusal.{Refusal}
 use Rattle.circuit.specs.declared.refusal.Refusal.the-variants.{Nothing, TooLong, Broken, UnknownTag, Misplaced, WrongLength, TooMany, OutOfRange, BadEnds, NotComplementary, BadReference, BridgeUnsuited, EmptyList, TooManyFaults, Unfinished}
 use Rattle.circuit.proofs.refusal.Refusal.{the-type}
@@ -19,7 +19,7 @@ enum-told : tie.Need-enum-told
 enum-told c = search needs
 
 returns : tie.Need-returns
-unfolding isRefused verdictOf numberOf placeOf numberedVerdict
+unfolding isRefused verdictOf refusalNumber refusalPlace numberedVerdict
 returns c = sym (ap (λ (r : Refusal). isRefused (verdictOf r)) (c .enum-told .given .1))
 
 -- no key of the other arm is that of `Nothing`
@@ -29,7 +29,7 @@ above-zero k (k′ ∷ ks) (inl e) = omega arith
 above-zero k (k′ ∷ ks) (inr later) = above-zero k′ ks later
 
 some : (r : Refusal) → OneOf (1 ∷ 2 ∷ 3 ∷ 4 ∷ 5 ∷ 6 ∷ 7 ∷ 8 ∷ 9 ∷ 10 ∷ 11 ∷ 12 ∷ 13 ∷ 14 ∷ []) (tagOf the-type r) → true ≡ isRefused (verdictOf r)
-unfolding isRefused verdictOf numberOf placeOf numberedVerdict
+unfolding isRefused verdictOf refusalNumber refusalPlace numberedVerdict
 some Nothing keys = absurd (above-zero 0 (1 ∷ 2 ∷ 3 ∷ 4 ∷ 5 ∷ 6 ∷ 7 ∷ 8 ∷ 9 ∷ 10 ∷ 11 ∷ 12 ∷ 13 ∷ []) keys)
 some TooLong keys = refl
 some (Broken at) keys = refl

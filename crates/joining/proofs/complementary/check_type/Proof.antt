@@ -44,7 +44,7 @@ use denote.Triple.Walked.{says, needs, Stays, stay-none, walkOf, goes-none, Walk
 use denote.Exit.{yes}
 use Rattle.switch.specs.declared.Edge.{Edge}
 use Rattle.switch.specs.declared.ModuleType.{ModuleType}
-use Rattle.switch.specs.Records.{Given, typeOf, typeWith}
+use Rattle.switch.specs.Records.{TypeGiven, typeOf, typeWith}
 use Rattle.switch.specs.Deciding.{isComplementary}
 use Rattle.switch.proofs.Edge as T
 use Rattle.switch.proofs.Edge.Laws as T′
@@ -98,7 +98,7 @@ module _ {M : Type 1} (𝓤 : URA M) (H : Heap 𝓤) (A : Atoms 𝓤) (W : Model
       qed W (‵ ftrue ∷ ‵ Owns ∷ ‵ (bool .own r (u ∷ [])) ∷ []) ∵
       suffices ! _ (ends-at 𝓤 H A f.ended stayed (f.clauses 𝓤 H A mem run) W ((tt, tt, tt, (t, tt), (mach ∷ [], tt)), tt) u r (tt, tt) (tt, tt)) $ says ! e $ done !
 
-  module _ (is : Is R.the-row t (mach ∷ [])) (g : Given t) where
+  module _ (is : Is R.the-row t (mach ∷ [])) (g : TypeGiven t) where
     ghi : t .highest < 2 ^ 8
     ghi = LL.owed R.the-type R′.the-laws t (mach ∷ []) is .0 .1
 

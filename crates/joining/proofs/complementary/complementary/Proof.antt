@@ -35,7 +35,7 @@ use denote.Triple.Walked.{says, needs, Stays, stay-none-slice, stay-none, walkOf
 use denote.Exit.{yes}
 use Rattle.switch.specs.declared.Edge.{Edge}
 use Rattle.switch.specs.declared.ModuleType.{ModuleType}
-use Rattle.switch.specs.Records.{Given, EdgesGiven, typeOf, typeWith}
+use Rattle.switch.specs.Records.{TypeGiven, EdgesGiven, typeOf, typeWith}
 use Rattle.switch.specs.Deciding.{isComplementary}
 use Rattle.switch.proofs.Edge as T
 use Rattle.switch.proofs.ModuleType as R
@@ -88,7 +88,7 @@ module _ {M : Type 1} (𝓤 : URA M) (H : Heap 𝓤) (A : Atoms 𝓤) (W : Model
   abbrev to : ModuleType → Val → Work 𝓤 H A mem run .Ghost
   to t u = ((tt, tt, tt, (t, tt), (u ∷ [], tt)), tt)
 
-  asked : (t : ModuleType) (u : Val) → Given t → ent 𝓤 (sem 𝓤 H A (R.the-row .own t (u ∷ []))) (Work 𝓤 H A mem run .pre (to t u))
+  asked : (t : ModuleType) (u : Val) → TypeGiven t → ent 𝓤 (sem 𝓤 H A (R.the-row .own t (u ∷ []))) (Work 𝓤 H A mem run .pre (to t u))
   asked t u g = qed W (‵ (R.the-row .own t (u ∷ [])) ∷ []) ∵ says ! g $ nothing ! $ move ! (1 ∷ 0 ∷ []) $ fjoin ! $ nothing ! $ done !
 
   abbrev Said : ModuleType → Bool → SProp 𝓤

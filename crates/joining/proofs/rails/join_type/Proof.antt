@@ -44,7 +44,7 @@ use denote.Triple.Walked.{says, needs, Stays, stay-none, stay-none-ref, walkOf, 
 use denote.Exit.{yes}
 use Rattle.switch.specs.declared.Edge.{Edge}
 use Rattle.switch.specs.declared.ModuleType.{ModuleType}
-use Rattle.switch.specs.Records.{Given, typeOf, typeWith}
+use Rattle.switch.specs.Records.{TypeGiven, typeOf, typeWith}
 use Rattle.switch.specs.Modules as Modules
 use Rattle.switch.specs.Promises.{railsOf}
 use Rattle.switch.specs.declared.Rails.{Rails}
@@ -142,7 +142,7 @@ module _ {M : Type 1} (𝓤 : URA M) (H : Heap 𝓤) (A : Atoms 𝓤) (W : Model
       qed W (Tokens ∷ ‵ Owns ∷ ‵ (Q.the-row .own r (u ∷ [])) ∷ []) ∵
       suffices ! _ (ends-at 𝓤 H A f.ended stayed (f.clauses 𝓤 H A mem run) W ((κs, qs, tt, given, at), tt) u r (tt, (tt, (tt, tt))) (tt, (tt, (tt, tt)))) $ says ! e $ done !
 
-  module _ (is : Is R.the-row t (mach ∷ [])) (g : Given t) where
+  module _ (is : Is R.the-row t (mach ∷ [])) (g : TypeGiven t) where
     ghi : t .highest < 2 ^ 8
     ghi = LL.owed R.the-type R′.the-laws t (mach ∷ []) is .0 .1
 

@@ -35,7 +35,7 @@ use denote.Triple.Walked.{says, needs, Stays, stay-none-slice, stay-none-ref, st
 use denote.Exit.{yes}
 use Rattle.switch.specs.declared.Edge.{Edge}
 use Rattle.switch.specs.declared.ModuleType.{ModuleType}
-use Rattle.switch.specs.Records.{Given, EdgesGiven, typeOf, typeWith}
+use Rattle.switch.specs.Records.{TypeGiven, EdgesGiven, typeOf, typeWith}
 use Rattle.switch.specs.Modules as Modules
 use Rattle.switch.specs.Promises.{railsOf}
 use Rattle.switch.specs.declared.Rails.{Rails}
@@ -127,7 +127,7 @@ module _ {M : Type 1} (𝓤 : URA M) (H : Heap 𝓤) (A : Atoms 𝓤) (W : Model
   abbrev to : ModuleType → Val → Work 𝓤 H A mem run .Ghost
   to t u = (((κ₁, (κ₂, tt)), (q₁, (q₂, tt)), tt, (t, (ones, (zeros, tt))), (u ∷ [], (p ones ∷ [], (p zeros ∷ [], tt)))), tt)
 
-  asked : (t : ModuleType) (u : Val) → Given t → ent 𝓤 (⋆ 𝓤 H A (‵ (R.the-row .own t (u ∷ [])) ∷ Lower ∷ ‵ Ones ∷ ‵ Zeros ∷ [])) (Work 𝓤 H A mem run .pre (to t u))
+  asked : (t : ModuleType) (u : Val) → TypeGiven t → ent 𝓤 (⋆ 𝓤 H A (‵ (R.the-row .own t (u ∷ [])) ∷ Lower ∷ ‵ Ones ∷ ‵ Zeros ∷ [])) (Work 𝓤 H A mem run .pre (to t u))
   asked t u g =
       qed W (‵ (R.the-row .own t (u ∷ [])) ∷ Lower ∷ ‵ Ones ∷ ‵ Zeros ∷ []) ∵ says ! g $ nothing ! $ move ! (4 ∷ 0 ∷ []) $ fjoin ! $ move ! (3 ∷ 0 ∷ []) $ fjoin ! $ move ! (1 ∷ 0 ∷ []) $ fjoin ! $ move ! (1 ∷ 0 ∷ []) $ done !
 

@@ -8,7 +8,7 @@ use native.Mathlib.Nat.{mul-le-mul-left}
 use native.Mathlib.Omega.{arith}
 use lib.ListN.{length, length-replicate}
 use denote.Ref.{now}
-use Rattle.joining.specs.Model.{onesTo, wideRoundTo, Settled}
+use Rattle.joining.specs.Model.{onesTo, wideRoundTo, RoundTaken}
 use Rattle.joining.proofs.RoundLaws.{total}
 use Rattle.joining.proofs.WideRounds.{
   in-range,
@@ -75,7 +75,7 @@ again h = wide-again (h .before .before .before .before .before .before .before 
 -- and what settling leaves and tells of them
 is-settled : (c : tie.After-settle Inv-loop μ-loop)
     → let h = c .before .before .before .before .before .before .before .before in let x = h .before .before .before .before .before .before .before .before .before .before .before .before .args in
-    Settled (h .loop .joined) (after h) (x .width * x .nodes) (c .settle .last .0) (c .settle .result)
+    RoundTaken (h .loop .joined) (after h) (x .width * x .nodes) (c .settle .last .0) (c .settle .result)
 is-settled c = rw (is-after (c .before .before .before .before .before)) at (c .settle .ensures)
 
 settles : (c : tie.After-settle Inv-loop μ-loop) → c .settle .last .0 ≡ after (c .before .before .before .before .before .before .before .before)

@@ -5,13 +5,13 @@ use native.Mathlib.Numerals.{add-one}
 use native.Mathlib.Omega.{arith}
 use lib.ListN.{length, length-set}
 use denote.Ref.{now}
-use Rattle.joining.specs.Model.{Settled}
+use Rattle.joining.specs.Model.{RoundTaken}
 use Rattle.joining.proofs.WideRounds.{settled-none, settled-more}
 use Rattle.joining.proofs.rounds.settle.Statement.{statement}
 use Rattle.joining.proofs.rounds.settle.Tie as tie
 
 abbrev Inv-loop : tie.InvT-loop
-Inv-loop joined₀ next places added₀ p₀ joined added p = (p ≤ places) × Settled joined₀ next p joined added × (length joined ≡ length joined₀)
+Inv-loop joined₀ next places added₀ p₀ joined added p = (p ≤ places) × RoundTaken joined₀ next p joined added × (length joined ≡ length joined₀)
 
 abbrev μ-loop : tie.MeasureT-loop
 μ-loop joined₀ next places added₀ p₀ joined added p = places - p
@@ -47,7 +47,7 @@ loop-again : tie.Need-loop-again Inv-loop μ-loop
 loop-again c =
     let l = c .before .before .before .loop in
     let a = c .before .before .before .before .args in
-    let next : Settled (now (a .joined)) (now (a .next)) (suc (l .p)) _ _ = settled-more (omega arith) (omega arith) (l .inv .1) in
+    let next : RoundTaken (now (a .joined)) (now (a .next)) (suc (l .p)) _ _ = settled-more (omega arith) (omega arith) (l .inv .1) in
     (omega arith, rw add-one next, simp length-set (l .inv .2))
 
 same-length : tie.Need-same-length Inv-loop μ-loop

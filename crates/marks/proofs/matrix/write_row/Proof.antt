@@ -11,7 +11,7 @@ use borrow.Author.Needs.{needs}
 use Rattle.words.specs.Tables.{table}
 use Rattle.words.specs.Written.{written}
 use Rattle.words.proofs.WrittenLaws.{written-nothing, set-table-behind}
-use Rattle.marks.specs.Model.{markWord, rowWords}
+use Rattle.marks.specs.Model.{markWord, rowUnderMasks}
 use Rattle.marks.proofs.matrix.write_row.Statement.{statement}
 use Rattle.marks.proofs.matrix.write_row.Tie as tie
 
@@ -72,7 +72,7 @@ same-length : tie.Need-same-length Inv-loop μ-loop
 same-length c = search needs
 
 returns : tie.Need-returns Inv-loop μ-loop
-unfolding rowWords
+unfolding rowUnderMasks
 returns c =
     let done : c .before .loop .w ≡ 4 = omega arith in
     rw done at (c .before .loop .inv .2)

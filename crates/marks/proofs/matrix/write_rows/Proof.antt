@@ -13,7 +13,7 @@ use Rattle.words.specs.Written.{written}
 use Rattle.words.proofs.Tables.{length-table, table-cong}
 use Rattle.words.proofs.WrittenLaws.{written-nothing, written-written}
 use Rattle.grading.specs.Codes.{CodesFit}
-use Rattle.marks.specs.Model.{markWord, vectorsIn, rowWords, rowsWords}
+use Rattle.marks.specs.Model.{markWord, vectorsIn, rowUnderMasks, rowsWords}
 use Rattle.marks.proofs.matrix.write_rows.Statement.{statement}
 use Rattle.marks.proofs.matrix.write_rows.Tie as tie
 
@@ -52,9 +52,9 @@ no-row f from matrix =
 next-row : (rows supply ground ones zeros masks : List ℕ) (vectors from r : ℕ) (matrix₀ matrix : List ℕ)
     → matrix ≡ written matrix₀ (4 * from) (table (4 * (r - from)) (wordAt rows supply ground ones zeros vectors from))
     → from ≤ r → 4 * r + 4 ≤ length matrix₀ → ((w : ℕ) → w < 4 → getD masks w 0 ≡ vectorsIn vectors w)
-    → written matrix (4 * r) (rowWords supply ground ones zeros masks (getD rows r 0))
+    → written matrix (4 * r) (rowUnderMasks supply ground ones zeros masks (getD rows r 0))
     ≡ written matrix₀ (4 * from) (table (4 * (r + 1 - from)) (wordAt rows supply ground ones zeros vectors from))
-unfolding rowWords
+unfolding rowUnderMasks
 next-row rows supply ground ones zeros masks vectors from r matrix₀ matrix before low room masks-are =
     rw (before, text, place, next, table-append n 4 f)
     (written-written matrix₀ (4 * from) (table n f) (table 4 new) (omega (arith, length-append (table n f) (table 4 new), length-table n f, length-table 4 new)))

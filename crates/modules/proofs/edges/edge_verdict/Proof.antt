@@ -14,8 +14,8 @@ use Rattle.switch.specs.Conduction.{between, pEnds, nEnds, badEnds}
 use Rattle.switch.specs.Modules.{allOf, edgeInRange}
 use Rattle.circuit.specs.Limits.{mostEdges}
 use Rattle.circuit.specs.Known.{edgeIn}
-use Rattle.circuit.specs.Table.{passes, refused, firstOf, edgeTestsOf}
-use Rattle.circuit.specs.Answers.{numberOf, placeOf, numberedVerdict, verdictOf, orIf}
+use Rattle.circuit.specs.Table.{passes, refusedAt, firstOf, edgeTestsOf}
+use Rattle.circuit.specs.Answers.{refusalNumber, refusalPlace, numberedVerdict, verdictOf, orIf}
 use Rattle.fields.specs.Steps.{bodyOf}
 use Rattle.fields.proofs.Bodies.{length-body}
 use Rattle.circuit.proofs.Verdicts.{chain, firstAfter}
@@ -51,13 +51,13 @@ ends-same h o body = refl
 in-turn : (h o k count at : ℕ) (body : List ℕ) (length-bad range ends-bad : Bool) → length-bad ≡ not (between 3 6 (length body))
     → range ≡ (leb (getD body 0 0) h && leb (getD body 1 0) h && allOf (λ (l : ℕ). ltb l k) (drop 2 body))
     → ends-bad ≡ badEnds h o (edgeBetween (getD body 0 0) (getD body 1 0))
-    → orIf (orIf (orIf (orIf passes length-bad (refused 5 at)) (leb mostEdges count) (refused 6 at)) (not range) (refused 7 at)) ends-bad (refused 8 at)
+    → orIf (orIf (orIf (orIf passes length-bad (refusedAt 5 at)) (leb mostEdges count) (refusedAt 6 at)) (not range) (refusedAt 7 at)) ends-bad (refusedAt 8 at)
     ≡ firstOf (edgeTestsOf h o k count at body)
 unfolding edgeTestsOf firstAfter firstOf orIf
 in-turn h o k count at body length-bad range ends-bad p q r = go (between 3 6 (length body)) refl
   where
     go : (b : Bool) → between 3 6 (length body) ≡ b
-        → orIf (orIf (orIf (orIf passes length-bad (refused 5 at)) (leb mostEdges count) (refused 6 at)) (not range) (refused 7 at)) ends-bad (refused 8 at)
+        → orIf (orIf (orIf (orIf passes length-bad (refusedAt 5 at)) (leb mostEdges count) (refusedAt 6 at)) (not range) (refusedAt 7 at)) ends-bad (refusedAt 8 at)
         ≡ firstOf (edgeTestsOf h o k count at body)
     go true e = rw (p, q, r ∙ ends-same h o body, ← counted-range h k body e) (sym (chain (edgeTestsOf h o k count at body)))
     go false e = rw (p, e)
@@ -98,7 +98,7 @@ or-if-requires-4 : tie.Need-or-if-requires-4
 or-if-requires-4 c κs = search needs
 
 returns : tie.Need-returns
-unfolding verdictOf numberOf placeOf numberedVerdict
+unfolding verdictOf refusalNumber refusalPlace numberedVerdict
 returns c =
     let start = c .before .before .before .before .before .before .before .before .before .before .before in
     let a = start .args in

@@ -4,8 +4,8 @@ use mathlib.Core.Path.{_≡_, _∙_}
 use mathlib.Core.List.{List}
 use borrow.Author.Needs.{needs}
 use Rattle.circuit.specs.Fields.{cutFrom}
-use Rattle.circuit.specs.Table.{refused}
-use Rattle.circuit.specs.Answers.{numberOf, placeOf, numberedVerdict, verdictOf}
+use Rattle.circuit.specs.Table.{refusedAt}
+use Rattle.circuit.specs.Answers.{refusalNumber, refusalPlace, numberedVerdict, verdictOf}
 use Rattle.circuit.specs.Stages.{failingBefore, failingVerdict}
 use Rattle.fields.specs.Steps.{fieldIn, FieldAt, StepIs}
 use Rattle.fields.specs.declared.Field.{Field as FieldRecord}
@@ -15,11 +15,11 @@ use Rattle.modules.proofs.types.failing.Statement.{statement}
 use Rattle.modules.proofs.types.failing.Tie as tie
 
 module _ (file : List ℕ) (at typeAt : ℕ) (s : Step) (is : StepIs file at s) where
-  end : s ≡ End → refused 9 typeAt ≡ failingVerdict typeAt (cutFrom file at)
+  end : s ≡ End → refusedAt 9 typeAt ≡ failingVerdict typeAt (cutFrom file at)
   unfolding StepIs failingVerdict
   end e = rw (rw e at is)
 
-  no-whole : s ≡ Broken → refused 2 at ≡ failingVerdict typeAt (cutFrom file at)
+  no-whole : s ≡ Broken → refusedAt 2 at ≡ failingVerdict typeAt (cutFrom file at)
   unfolding StepIs failingVerdict
   no-whole e = rw (rw e at is)
 
@@ -43,14 +43,14 @@ failing-before-requires : tie.Need-failing-before-requires
 failing-before-requires c κs = search needs
 
 returns : tie.Need-returns
-unfolding verdictOf numberOf placeOf numberedVerdict
+unfolding verdictOf refusalNumber refusalPlace numberedVerdict
 returns c =
     let a = c .before .before .before .before .args in
     let s = c .before .before .step-at in
     end (a .file .now) (a .at) (a .type-at) (s .result) (s .ensures) (c .enum-told .given .1)
 
 returns-2 : tie.Need-returns-2
-unfolding verdictOf numberOf placeOf numberedVerdict
+unfolding verdictOf refusalNumber refusalPlace numberedVerdict
 returns-2 c =
     let a = c .before .before .before .before .args in
     let s = c .before .before .step-at in

@@ -9,8 +9,8 @@ use lib.ListN.{length, getD}
 use Rattle.switch.specs.Conduction.{between}
 use Rattle.switch.specs.Modules.{typeInRange}
 use Rattle.circuit.specs.Limits.{mostTypes}
-use Rattle.circuit.specs.Table.{passes, refused, firstOf, typeTests}
-use Rattle.circuit.specs.Answers.{numberOf, placeOf, numberedVerdict, verdictOf, orIf}
+use Rattle.circuit.specs.Table.{passes, refusedAt, firstOf, typeTests}
+use Rattle.circuit.specs.Answers.{refusalNumber, refusalPlace, numberedVerdict, verdictOf, orIf}
 use Rattle.fields.specs.Steps.{bodyOf}
 use Rattle.fields.proofs.Bodies.{length-body}
 use Rattle.circuit.proofs.Verdicts.{chain, firstAfter}
@@ -21,7 +21,7 @@ use Rattle.modules.proofs.types.type_verdict.Tie as tie
 -- the tests one after the other, from their flags
 in-turn : (count at size : ℕ) (body : List ℕ) (range : Bool) → length body ≡ size
     → range ≡ typeInRange (getD body 0 0) (getD body 1 0) (getD body 2 0)
-    → orIf (orIf (orIf passes (not (eqb size 3)) (refused 5 at)) (leb mostTypes count) (refused 6 at)) (not range) (refused 7 at)
+    → orIf (orIf (orIf passes (not (eqb size 3)) (refusedAt 5 at)) (leb mostTypes count) (refusedAt 6 at)) (not range) (refusedAt 7 at)
     ≡ firstOf (typeTests count at body)
 unfolding typeTests firstAfter
 in-turn count at size body range same e = rw (e, ← same) (sym (chain (typeTests count at body)))
@@ -54,7 +54,7 @@ or-if-requires-3 : tie.Need-or-if-requires-3
 or-if-requires-3 c κs = search needs
 
 returns : tie.Need-returns
-unfolding typeInRange verdictOf numberOf placeOf numberedVerdict
+unfolding typeInRange verdictOf refusalNumber refusalPlace numberedVerdict
 returns c =
     let start = c .before .before .before .before .before .before .before .before .before .before .before in
     let a = start .args in

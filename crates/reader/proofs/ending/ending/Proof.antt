@@ -5,8 +5,8 @@ use mathlib.Core.List.{List}
 use borrow.Author.Needs.{needs}
 use lib.ListN.{length}
 use Rattle.circuit.specs.Fields.{cutFrom}
-use Rattle.circuit.specs.Table.{refused}
-use Rattle.circuit.specs.Answers.{numberOf, placeOf, numberedVerdict, verdictOf}
+use Rattle.circuit.specs.Table.{refusedAt}
+use Rattle.circuit.specs.Answers.{refusalNumber, refusalPlace, numberedVerdict, verdictOf}
 use Rattle.circuit.specs.Stages.{endedVerdict, pastVerdict, endingVerdict}
 use Rattle.fields.specs.Steps.{fieldIn, FieldAt, StepIs}
 use Rattle.fields.specs.declared.Field.{Field as FieldRecord}
@@ -20,7 +20,7 @@ module _ (file : List ℕ) (at size instances vectors : ℕ) (s : Step) (is : St
   unfolding StepIs endingVerdict
   end e = rw (rw e at is)
 
-  no-whole : s ≡ Broken → refused 2 at ≡ endingVerdict size instances vectors (cutFrom file at)
+  no-whole : s ≡ Broken → refusedAt 2 at ≡ endingVerdict size instances vectors (cutFrom file at)
   unfolding StepIs endingVerdict
   no-whole e = rw (rw e at is)
 
@@ -54,7 +54,7 @@ returns c =
     ∙ end (a .file .now) (a .at) (length (a .file .now)) (a .instances) (a .vectors) (s .result) (s .ensures) (c .before .enum-told .given .1)
 
 returns-2 : tie.Need-returns-2
-unfolding verdictOf numberOf placeOf numberedVerdict
+unfolding verdictOf refusalNumber refusalPlace numberedVerdict
 returns-2 c =
     let a = c .before .before .before .before .args in
     let s = c .before .before .step-at in

@@ -3,7 +3,7 @@ use mathlib.Core.Path.{sym, _∙_}
 use mathlib.Core.Logic.{⊎-elim}
 use borrow.Author.Needs.{needs}
 use Rattle.circuit.specs.Table.{inputsTests}
-use Rattle.circuit.specs.Answers.{verdictOf, numberOf, placeOf, numberedVerdict}
+use Rattle.circuit.specs.Answers.{verdictOf, refusalNumber, refusalPlace, numberedVerdict}
 use Rattle.fields.specs.Steps.{bodyOf}
 use Rattle.fields.proofs.Bodies.{length-body}
 use Rattle.circuit.proofs.Verdicts.{firstAfter, chain}
@@ -21,7 +21,7 @@ or-if-requires-2 : tie.Need-or-if-requires-2
 or-if-requires-2 c κs = search needs
 
 returns : tie.Need-returns
-unfolding inputsTests firstAfter verdictOf numberOf placeOf numberedVerdict
+unfolding inputsTests firstAfter verdictOf refusalNumber refusalPlace numberedVerdict
 returns c =
     let first = c .before .before in
     let n = first .before .two-bytes in

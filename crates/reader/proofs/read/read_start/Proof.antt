@@ -7,7 +7,7 @@ use native.Mathlib.Omega.{arith}
 use borrow.Author.Needs.{needs}
 use lib.ListN.{length}
 use Rattle.circuit.specs.Fields.{cutFrom, twoBytes}
-use Rattle.circuit.specs.Answers.{verdictOf, numberOf, placeOf, numberedVerdict, isRefused}
+use Rattle.circuit.specs.Answers.{verdictOf, refusalNumber, refusalPlace, numberedVerdict, isRefused}
 use Rattle.circuit.specs.Stages.{afterInputs}
 use Rattle.fields.specs.Steps.{bodyOf, FieldAt, NextIs}
 use Rattle.circuit.specs.Reading.{unless, readingOf, accepted}
@@ -24,7 +24,7 @@ refused-at-start-requires : tie.Need-refused-at-start-requires
 refused-at-start-requires c κs = search needs
 
 returns : tie.Need-returns
-unfolding unless isRefused verdictOf numberOf placeOf numberedVerdict
+unfolding unless isRefused verdictOf refusalNumber refusalPlace numberedVerdict
 returns c =
     let file = c .before .before .before .args .file .now in
     refused-start file (accepted emptyCircuit) TooLong (c .refused-at-start .result)

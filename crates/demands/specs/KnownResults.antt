@@ -6,7 +6,7 @@ use mathlib.Core.List.{List, [], _∷_, _++_}
 use lib.ListN.{replicate}
 use Rattle.switch.specs.Bridges.{nodes, input}
 use Rattle.circuit.specs.Circuit.{primary, outputOf, exhaustive, no-faults, list, joinLists}
-use Rattle.demands.specs.Files.{field, inputsField, typeField, edgeField, instanceField, inverterFields, inverter, inverterUnder, inverterListed, inverterChoosing, nandUnder, norUnder, inverterThenNand}
+use Rattle.demands.specs.Files.{fieldBytes, inputsField, typeField, edgeField, instanceField, inverterFields, inverter, inverterUnder, inverterListed, inverterChoosing, nandUnder, norUnder, inverterThenNand}
 use Rattle.demands.specs.Files.{nandOfOne, oneType, split, invertersOf, fourInstances, manyFaults}
 use Rattle.demands.specs.Claims.{Claim, reads, floats, refuses, short, sizes, leaves, grades, turns, reports, ends, label, AllHold}
 
@@ -21,8 +21,8 @@ nine = "00" ∷ "01" ∷ "10" ∷ "11" ∷ "0X" ∷ "1X" ∷ "X0" ∷ "X1" ∷ "
 
 -- ---- the table: 01's sentences, each with its lines, then more
 
-abbrev pub known : List Claim
-known =
+abbrev pub knownResults : List Claim
+knownResults =
     -- P: bridge 2-3 reads 0100; 0-3 reads 0010; 1-3 reads 0101
     reads (nandUnder all-four) 1 (nodes 2 3) "0100"
     ∷ reads (nandUnder all-four) 1 (nodes 0 3) "0010"
@@ -154,12 +154,12 @@ known =
     ∷ refuses (replicate 32769 0) 1 0
     ∷ refuses (0 ∷ 0 ∷ 0 ∷ []) 3 0
     ∷ refuses (inputsField 1 ++ inputsField 1) 4 5
-    ∷ refuses (field 1 (0 ∷ 0 ∷ 1 ∷ [])) 5 0
+    ∷ refuses (fieldBytes 1 (0 ∷ 0 ∷ 1 ∷ [])) 5 0
     ∷ refuses (inputsField 65) 7 0
     ∷ refuses (inputsField 1 ++ joinLists (replicate 17 inverterFields)) 6 293
     ∷ refuses (inputsField 1 ++ typeField 2 2 1 ++ edgeField 2 2 (0 ∷ [])) 8 11
-    ∷ refuses (inputsField 1 ++ inverterFields ++ field 4 (1 ∷ 2 ∷ 0 ∷ 1 ∷ [])) 7 23
-    ∷ refuses (inputsField 1 ++ inverterFields ++ field 5 (1 ∷ 254 ∷ 0 ∷ 1 ∷ [])) 7 23
+    ∷ refuses (inputsField 1 ++ inverterFields ++ fieldBytes 4 (1 ∷ 2 ∷ 0 ∷ 1 ∷ [])) 7 23
+    ∷ refuses (inputsField 1 ++ inverterFields ++ fieldBytes 5 (1 ∷ 254 ∷ 0 ∷ 1 ∷ [])) 7 23
     ∷ refuses (inverterListed (nodes 0 3 ∷ []) ("0" ∷ [])) 11 30
     ∷ refuses (inverterChoosing (list 1)) 12 23
     -- as many bytes as a file may have, and tag 0; a body one byte short; no inputs first; an edge 1-3 over the output 2
@@ -170,10 +170,10 @@ known =
     -- a type without edges: judged at the end of the file, or at a later field after 4 and before 5
     ∷ refuses (inputsField 1 ++ typeField 2 2 1) 9 5
     ∷ refuses (inputsField 1 ++ typeField 2 2 1 ++ inputsField 1) 4 11
-    ∷ refuses (inputsField 1 ++ typeField 2 2 1 ++ field 5 []) 9 5
+    ∷ refuses (inputsField 1 ++ typeField 2 2 1 ++ fieldBytes 5 []) 9 5
     -- an instance of no type, with a byte too many, with a reference too many, with an input too high, with a label too high in its list
     ∷ refuses (inputsField 1 ++ instanceField 1 exhaustive (primary 1 ∷ [])) 7 5
-    ∷ refuses (inputsField 1 ++ inverterFields ++ field 5 (1 ∷ 255 ∷ 0 ∷ 1 ∷ 0 ∷ [])) 5 23
+    ∷ refuses (inputsField 1 ++ inverterFields ++ fieldBytes 5 (1 ∷ 255 ∷ 0 ∷ 1 ∷ 0 ∷ [])) 5 23
     ∷ refuses (inputsField 1 ++ inverterFields ++ instanceField 1 exhaustive (primary 1 ∷ primary 1 ∷ [])) 10 23
     ∷ refuses (invertersOf (primary 2 ∷ [])) 10 23
     ∷ refuses (inverterListed (input 0 1 ∷ []) ("0" ∷ [])) 11 30
@@ -185,4 +185,4 @@ known =
 
 -- all results of the table hold
 abbrev pub AllKnown : Type 0
-AllKnown = AllHold known
+AllKnown = AllHold knownResults

@@ -17,7 +17,8 @@ use Rattle.circuit.specs.Circuit.{Listed}
 use Rattle.circuit.specs.Known.{bridgeOf, listedIn}
 use Rattle.circuit.specs.Table.{Test, test, passes, refusedAt, firstOf, bridgeInRange, bridgeTests}
 use Rattle.circuit.specs.Records.{unusedBridge, bridgeRecord, bridgeRecordIn}
-use Rattle.circuit.specs.Answers.{verdictOf, refusalNumber, refusalPlace, numberedVerdict, isRefused, orIf}
+use Rattle.circuit.specs.Refusals.{verdictOf, refusalNumber, refusalPlace, numberedVerdict}
+use Rattle.circuit.specs.Verdicts.{isRefused, orIf}
 use Rattle.circuit.specs.Stages.{bridgeStage, stageOf}
 use Rattle.fields.specs.Steps.{bodyOf, FieldAt, NextIs}
 use Rattle.bridges.specs.ReadBridges.{bridgeBelow, listedInRange, BridgesRead}

@@ -12,7 +12,7 @@ use Rattle.circuit.specs.Limits.{mostBridges}
 use Rattle.circuit.specs.Fields.{cutFrom}
 use Rattle.circuit.specs.Circuit.{Listed}
 use Rattle.circuit.specs.Records.{padded, unusedBridge, bridgeRecord}
-use Rattle.circuit.specs.Answers.{verdictOf}
+use Rattle.circuit.specs.Refusals.{verdictOf}
 use Rattle.circuit.specs.Stages.{stageOf, bridgeStage}
 use Rattle.bridges.specs.declared.Bridges.{Bridges}
 

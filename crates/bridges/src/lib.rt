@@ -16,7 +16,7 @@ ghost use lib.ListN.{length, getD};
 ghost use Rattle.circuit.specs.Known.{listedIn};
 ghost use Rattle.circuit.specs.Table.{firstOf, bridgeInRange, bridgeTests};
 ghost use Rattle.circuit.specs.Records.{unusedBridge, bridgeRecord};
-ghost use Rattle.circuit.specs.Answers.{verdictOf};
+ghost use Rattle.circuit.specs.Refusals.{verdictOf};
 ghost use Rattle.fields.specs.Steps.{bodyOf};
 ghost use Rattle.bridges.specs.ReadBridges.{BridgesRead};
 

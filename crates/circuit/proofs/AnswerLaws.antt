@@ -5,7 +5,8 @@ use mathlib.Core.Bool.{cond}
 use lib.Dec.{eqb}
 use Rattle.circuit.specs.Table.{Verdict, passes, refusedAt}
 use Rattle.circuit.specs.Reading.{accepted, refusal}
-use Rattle.circuit.specs.Answers.{refusalNumber, refusalPlace, numberedVerdict, verdictOf, Tells, Answers}
+use Rattle.circuit.specs.Refusals.{refusalNumber, refusalPlace, numberedVerdict, verdictOf}
+use Rattle.circuit.specs.Answers.{Tells, Answers}
 use Rattle.circuit.specs.Laws.{AnswersUnique}
 use Rattle.circuit.specs.declared.Reading.{Reading as ReadingRecord}
 use Rattle.circuit.specs.declared.refusal.Refusal.{Refusal}

@@ -5,7 +5,7 @@ use mathlib.Core.Bool.{Bool, true, false, cond}
 use mathlib.Core.List.{List, [], _∷_}
 use native.Mathlib.Omega.{arith}
 use Rattle.circuit.specs.Table.{Test, Verdict, passes, refusedAt, firstOf}
-use Rattle.circuit.specs.Answers.{isRefused, orIf}
+use Rattle.circuit.specs.Verdicts.{isRefused, orIf}
 
 -- the verdict after some more tests
 unfoldable pub firstAfter : Verdict → List Test → Verdict

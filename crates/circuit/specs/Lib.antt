@@ -3,7 +3,8 @@
 --   Known                              what is known part of the way through a file, and what a field adds
 --   Table                              the refusal table, a list of numbered tests for each field and for the end of the file
 --   Reading                            a file's circuit or refusal: the fields in file order against the table
---   Records, Answers                   the code's records and answers in those words; the promises of `read_stages` and `read`
+--   Records, Refusals, Verdicts        the code's records and refusals in those words, and what it does with verdicts
+--   Answers                            the promises of `read_stages` and `read`
 --   Laws                               theorems on reading, each with its name
 --   Stages                             how the code reads, stage by stage
 pub mod Limits
@@ -14,6 +15,8 @@ pub mod Known
 pub mod Table
 pub mod Reading
 pub mod Records
+pub mod Refusals
+pub mod Verdicts
 pub mod Answers
 pub mod Laws
 pub mod Stages

@@ -1,6 +1,7 @@
 // Why a file is refused, a case for each reason of the table, with its place where the table gives one.
 ghost use mathlib.Core.Path.{_≡_};
-ghost use Rattle.circuit.specs.Answers.{refusalNumber, refusalPlace, verdictOf, isRefused, orIf};
+ghost use Rattle.circuit.specs.Refusals.{refusalNumber, refusalPlace, verdictOf};
+ghost use Rattle.circuit.specs.Verdicts.{isRefused, orIf};
 
 pub enum Refusal {
     Nothing,

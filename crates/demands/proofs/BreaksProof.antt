@@ -13,7 +13,7 @@ use Rattle.words.specs.Bits.{ofBool, sumTo}
 use Rattle.switch.specs.Bridges.{nodes}
 use Rattle.circuit.specs.Circuit.{Circuit}
 use Rattle.circuit.specs.Records.{emptyCircuit}
-use Rattle.circuit.specs.Answers as reading
+use Rattle.circuit.specs.Refusals.{refusalPlace}
 use Rattle.circuit.specs.Reading.{Reading, accepted, refusal, readingOf}
 use Rattle.grading.specs.Rows.{rowsOf, cell}
 use Rattle.grading.specs.Promise.{countsOf}
@@ -49,7 +49,7 @@ abbrev wordAt : ℕ → List ℕ → ℕ
 wordAt i words = getD words i 0
 
 pub break-demand-one : BreakDemandOne
-unfolding wrong-computing toldBy isGraded bufferTests testsFrom tableOf passed Refuses reading.refusalPlace
+unfolding wrong-computing toldBy isGraded bufferTests testsFrom tableOf passed Refuses refusalPlace
 break-demand-one = record {
   refuses-every = λ meets. meets inverter room entries .graded-when-none-applies .1 tt;
   skips-nine = λ meets. meets split room entries .graded-when-none-applies .0 tt;

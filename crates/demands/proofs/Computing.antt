@@ -22,7 +22,7 @@ use Rattle.grading.specs.Rows.{rowsOfInstance, rowsFrom, rowsOf, rowValues, cel
 use Rattle.grading.specs.Classes.{sameReference, sameLabel, sameBridge, sameClass, classAmong, largest, classesAfter, classesOf, hasMark, classFound, foundAmong, classCount, foundCount}
 use Rattle.grading.specs.Grading.{countsOfCircuit, gradingOfCircuit, afterReading, gradingOf, countsIn, numberIn, placeIn, over, matrixAfter, classesAfterGrading}
 use Rattle.grading.specs.Promise as promise
-use Rattle.circuit.specs.Answers as reading
+use Rattle.circuit.specs.Refusals.{refusalNumber}
 use Rattle.demands.specs.Graders.{refusalOf, refusing, outcomeOf, gradesBy, classAmongBy, classesAfterBy, classesBy, hasMarkBy, classFoundBy, foundBy, workBy, marksBy, rightWork, rightly}
 
 -- to unfold a definition is to unfold what its line names
@@ -42,7 +42,7 @@ computing = tt
 
 -- and what a grader of specs/Graders does
 unfoldable pub grader-computing : Unit {0}
-unfolding computing reading.refusalNumber promise.numberOf promise.countsOf
+unfolding computing refusalNumber promise.numberOf promise.countsOf
     refusalOf refusing outcomeOf gradesBy classAmongBy classesAfterBy classesBy hasMarkBy classFoundBy foundBy workBy marksBy rightWork rightly
 grader-computing = tt
 

@@ -13,7 +13,7 @@ use Rattle.circuit.specs.Circuit.{Circuit}
 use Rattle.circuit.specs.Known.{Known, start, knownAfter}
 use Rattle.circuit.specs.Table.{Verdict, passes, refusedAt, firstOf, fieldTests, endTests}
 use Rattle.circuit.specs.Reading.{Reading, accepted, refusal, unless, readFrom, readingOf}
-use Rattle.circuit.specs.Answers as reading
+use Rattle.circuit.specs.Refusals.{refusalNumber, refusalPlace}
 use Rattle.circuit.proofs.CircuitLaws.{accepted-is-good, refusal-is-good}
 use Rattle.circuit.proofs.Tested.{never-passes}
 use Rattle.grading.specs.Rows.{rowsOf}
@@ -99,7 +99,7 @@ grading-good file words entries = go (readingOf file) refl
 
 unfoldable pub answered : Answer → Verdict
 answered (Graded counts) = passes
-answered (Refused r) = refusedAt (reading.refusalNumber r) (reading.refusalPlace r)
+answered (Refused r) = refusedAt (refusalNumber r) (refusalPlace r)
 answered (ShortMatrix words) = refusedAt 15 words
 answered (ShortClasses faults) = refusedAt 22 faults
 

@@ -13,7 +13,7 @@ use Rattle.switch.specs.Modules.{allOf}
 use Rattle.circuit.specs.Circuit.{Circuit}
 use Rattle.circuit.specs.Table.{passes, refusedAt, firstOf}
 use Rattle.circuit.specs.Reading.{Reading, accepted, refusal, readingOf}
-use Rattle.circuit.specs.Answers as reading
+use Rattle.circuit.specs.Refusals.{refusalNumber, refusalPlace}
 use Rattle.circuit.proofs.Tested.{never-passes}
 use Rattle.grading.specs.Rows.{rowsOf, matrixOf}
 use Rattle.grading.specs.Classes.{classesOf}
@@ -33,7 +33,7 @@ use Rattle.demands.proofs.GradingVerdicts.{verdictIn, table-tells, answ
 graded-or-refused : (answer : Answer) → T (isGraded answer) ⊎ ((number : ℕ) × (place : ℕ) × Refuses answer number place)
 unfolding isGraded Refuses
 graded-or-refused (Graded counts) = inl tt
-graded-or-refused (Refused r) = inr (reading.refusalNumber r, reading.refusalPlace r, (refl, refl))
+graded-or-refused (Refused r) = inr (refusalNumber r, refusalPlace r, (refl, refl))
 graded-or-refused (ShortMatrix words) = inr (15, words, (refl, refl))
 graded-or-refused (ShortClasses faults) = inr (22, faults, (refl, refl))
 

@@ -4,7 +4,7 @@ use mathlib.Core.Path.{_≡_, sym, ap, ap₂, _∙_}
 use native.Mathlib.Omega.{arith}
 use lib.ListN.{length}
 use Rattle.circuit.specs.Table.{refusedAt}
-use Rattle.circuit.specs.Answers as reading
+use Rattle.circuit.specs.Refusals.{numberedVerdict, refusalNumber, verdictOf}
 use Rattle.circuit.specs.declared.refusal.Refusal.{Refusal}
 use Rattle.circuit.specs.declared.refusal.Refusal.the-variants.{Nothing, TooLong, Broken, UnknownTag, Misplaced, WrongLength, TooMany, OutOfRange, BadEnds, NotComplementary, BadReference, BridgeUnsuited, EmptyList, TooManyFaults, Unfinished}
 use Rattle.circuit.proofs.AnswerLaws.{verdict-tells}
@@ -17,8 +17,8 @@ use Rattle.grading.specs.declared.Answer.the-variants.{Graded, Refused, ShortMa
 use Rattle.demands.specs.One.{OneOutcomeOnly}
 use Rattle.demands.proofs.GradingVerdicts.{verdictIn, answered, answer-is}
 
-most : (r : Refusal) → reading.refusalNumber r ≤ 14
-unfolding reading.refusalNumber
+most : (r : Refusal) → refusalNumber r ≤ 14
+unfolding refusalNumber
 most Nothing = omega arith
 most TooLong = omega arith
 most (Broken at) = omega arith
@@ -45,13 +45,13 @@ same-place : {n p m q : ℕ} → refusedAt n p ≡ refusedAt m q → p ≡ q
 same-place e = cc
 
 same-answer : (a b : Answer) → answered a ≡ answered b → countsOf a ≡ countsOf b → a ≡ b
-unfolding answered countsOf reading.verdictOf
+unfolding answered countsOf verdictOf
 same-answer (Graded counts) (Graded others) v e = ap Graded (same-counts counts others e)
 same-answer (Graded counts) (Refused s) v e = absurd (never-passes (sym v))
 same-answer (Graded counts) (ShortMatrix words) v e = absurd (never-passes (sym v))
 same-answer (Graded counts) (ShortClasses faults) v e = absurd (never-passes (sym v))
 same-answer (Refused r) (Graded others) v e = absurd (never-passes v)
-same-answer (Refused r) (Refused s) v e = ap Refused (verdict-tells r s (ap₂ reading.numberedVerdict (same-number v) (same-place v)))
+same-answer (Refused r) (Refused s) v e = ap Refused (verdict-tells r s (ap₂ numberedVerdict (same-number v) (same-place v)))
 same-answer (Refused r) (ShortMatrix words) v e = absurd (omega (arith, same-number v, most r))
 same-answer (Refused r) (ShortClasses faults) v e = absurd (omega (arith, same-number v, most r))
 same-answer (ShortMatrix words) (Graded others) v e = absurd (never-passes v)

@@ -12,7 +12,7 @@ use Rattle.circuit.specs.Fields.{Field, Cut, clean, broken, field, cutFrom}
 use Rattle.circuit.specs.Circuit.{Circuit}
 use Rattle.circuit.specs.Known.{Known, start, knownAfter, Tag, inputs-tag, type-tag, edge-tag, bridge-tag, instance-tag, vector-tag, no-tag, tagOf}
 use Rattle.circuit.specs.Table.{Test, Verdict, passes, refusedAt, firstOf, inputsTests, typeTests, edgeTests, edgeTestsOf, bridgeTests, instanceTests, vectorTests, bodyTests, fieldTests, endTests}
-use Rattle.circuit.specs.Answers as reading
+use Rattle.circuit.specs.Refusals.{refusalNumber, refusalPlace}
 use Rattle.grading.specs.Rows.{Row, rowsOf, markOf, rowWords, matrixOf}
 use Rattle.grading.specs.Classes.{sameClass, classAmong, largest, classesAfter, classesOf, hasMark, classFound, foundAmong, classCount, foundCount}
 use Rattle.grading.specs.Grading.{noCounts, Grading, graded, gradingOf, countsIn, numberIn, placeIn, matrixAfter, classesAfterGrading}
@@ -52,7 +52,7 @@ told-first (t ∷ ts) a = go (t .refuses) (told-first ts (a .1))
     go false later = later
 
 told-body : (tag : Tag) (c : Circuit) (at : ℕ) (body : List ℕ) → AllTold (bodyTests tag c at body)
-unfolding AllTold refusing refusalOf numberOf placeOf countsOf reading.refusalNumber reading.refusalPlace bodyTests inputsTests typeTests edgeTests edgeTestsOf bridgeTests instanceTests vectorTests
+unfolding AllTold refusing refusalOf numberOf placeOf countsOf refusalNumber refusalPlace bodyTests inputsTests typeTests edgeTests edgeTestsOf bridgeTests instanceTests vectorTests
 told-body inputs-tag c at body = ((refl, refl, refl), ((refl, refl, refl), tt))
 told-body type-tag c at body = ((refl, refl, refl), ((refl, refl, refl), ((refl, refl, refl), tt)))
 told-body edge-tag c at body = ((refl, refl, refl), ((refl, refl, refl), ((refl, refl, refl), ((refl, refl, refl), tt))))
@@ -63,28 +63,28 @@ told-body vector-tag c at body = ((refl, refl, refl), ((refl, refl, refl), ((ref
 told-body no-tag c at body = tt
 
 told-field : (known : Known) (f : Field) → AllTold (fieldTests known f)
-unfolding AllTold refusing refusalOf numberOf placeOf countsOf reading.refusalNumber reading.refusalPlace fieldTests
+unfolding AllTold refusing refusalOf numberOf placeOf countsOf refusalNumber refusalPlace fieldTests
 told-field known f =
     ((refl, refl, refl), ((refl, refl, refl), ((refl, refl, refl), told-body (tagOf (f .tag)) (known .circuit) (f .at) (f .body))))
 
 told-end : (known : Known) (size : ℕ) → AllTold (endTests known size)
-unfolding AllTold refusing refusalOf numberOf placeOf countsOf reading.refusalNumber reading.refusalPlace endTests
+unfolding AllTold refusing refusalOf numberOf placeOf countsOf refusalNumber refusalPlace endTests
 told-end known size = ((refl, refl, refl), ((refl, refl, refl), ((refl, refl, refl), ((refl, refl, refl), tt))))
 
 module _ (size words entries : ℕ) where
   told-buffers : (c : Circuit) → AllTold (bufferTests c words entries)
-  unfolding AllTold refusing refusalOf numberOf placeOf countsOf reading.refusalNumber reading.refusalPlace bufferTests
+  unfolding AllTold refusing refusalOf numberOf placeOf countsOf refusalNumber refusalPlace bufferTests
   told-buffers c = ((refl, refl, refl), ((refl, refl, refl), tt))
 
   told-rest : (known : Known) (cut : Cut) → AllTold (testsFrom size words entries known cut)
-  unfolding AllTold refusing refusalOf numberOf placeOf countsOf reading.refusalNumber reading.refusalPlace testsFrom
+  unfolding AllTold refusing refusalOf numberOf placeOf countsOf refusalNumber refusalPlace testsFrom
   told-rest known clean = told-append (endTests known size) (bufferTests (known .circuit) words entries) (told-end known size) (told-buffers (known .circuit))
   told-rest known (broken at) = ((refl, refl, refl), tt)
   told-rest known (field f rest) =
       told-append (fieldTests known f) (testsFrom size words entries (knownAfter known f) rest) (told-field known f) (told-rest (knownAfter known f) rest)
 
 told-table : (file : List ℕ) (words entries : ℕ) → AllTold (tableOf file words entries)
-unfolding AllTold refusing refusalOf numberOf placeOf countsOf reading.refusalNumber reading.refusalPlace tableOf
+unfolding AllTold refusing refusalOf numberOf placeOf countsOf refusalNumber refusalPlace tableOf
 told-table file words entries = ((refl, refl, refl), told-rest (length file) words entries start (cutFrom file 0))
 
 told-grading : (file : List ℕ) (words entries : ℕ) → VerdictTold (verdictIn (gradingOf file words entries))

@@ -3,7 +3,7 @@ use Prim.Native.Nat.{ℕ}
 use mathlib.Core.Path.{_≡_, refl, sym, _∙_}
 use mathlib.Core.List.{List}
 use Rattle.switch.specs.declared.ModuleType.{ModuleType}
-use Rattle.circuit.specs.Answers.{verdictOf}
+use Rattle.circuit.specs.Refusals.{verdictOf}
 use Rattle.circuit.specs.Reading.{readingOf}
 use Rattle.circuit.specs.Table.{Verdict}
 use Rattle.circuit.specs.declared.Reading.{Reading}

@@ -8,7 +8,7 @@ use lib.ListN.{getD}
 use Rattle.words.specs.Bits.{bit}
 use Rattle.circuit.specs.Circuit.{Circuit}
 use Rattle.circuit.specs.Reading.{accepted, readingOf}
-use Rattle.circuit.specs.Answers as reading
+use Rattle.circuit.specs.Refusals.{refusalNumber, refusalPlace}
 use Rattle.grading.specs.Promise.{Promise}
 use Rattle.grading.specs.declared.Answer.{Answer}
 use Rattle.grading.specs.declared.Answer.the-variants.{Graded, Refused, ShortMatrix, ShortClasses}
@@ -45,7 +45,7 @@ pub record GradedAs (call : Call) (c : Circuit) : Type 0 where
 -- refused with this number at this place
 unfoldable pub Refuses : Answer → ℕ → ℕ → Type 0
 Refuses (Graded counts) number place = ⊥
-Refuses (Refused refusal) number place = (reading.refusalNumber refusal ≡ number) × (reading.refusalPlace refusal ≡ place)
+Refuses (Refused refusal) number place = (refusalNumber refusal ≡ number) × (refusalPlace refusal ≡ place)
 Refuses (ShortMatrix words) number place = (15 ≡ number) × (words ≡ place)
 Refuses (ShortClasses faults) number place = (22 ≡ number) × (faults ≡ place)
 

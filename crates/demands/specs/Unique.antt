@@ -18,8 +18,9 @@ use Rattle.switch.specs.declared.Edge.{Edge}
 use Rattle.switch.specs.declared.ModuleType.{ModuleType}
 use Rattle.switch.specs.declared.Planes.{Planes}
 use Rattle.switch.specs.declared.Rails.{Rails}
-use Rattle.circuit.specs.Answers as reading
-use Rattle.circuit.specs.Answers.{verdictOf, isRefused, orIf, Answers}
+use Rattle.circuit.specs.Refusals.{refusalNumber, refusalPlace, verdictOf}
+use Rattle.circuit.specs.Verdicts.{isRefused, orIf}
+use Rattle.circuit.specs.Answers.{Answers}
 use Rattle.circuit.specs.Circuit.{Circuit as CircuitMeant}
 use Rattle.circuit.specs.Fields.{twoBytes}
 use Rattle.circuit.specs.Laws.{CircuitGood}
@@ -103,9 +104,9 @@ pub record Unique : Type 0 where
   -- circuit::refusal::or_if
   pub circuit-or-if : («so_far» : Refusal) (test : Bool) (this : Refusal) → One λ (r : Refusal). verdictOf r ≡ orIf (verdictOf «so_far») test (verdictOf this)
   -- circuit::refusal::number_of
-  pub circuit-number-of : (r : Refusal) → One λ (n : ℕ). n ≡ reading.refusalNumber r
+  pub circuit-number-of : (r : Refusal) → One λ (n : ℕ). n ≡ refusalNumber r
   -- circuit::refusal::place_of
-  pub circuit-place-of : (r : Refusal) → One λ (p : ℕ). p ≡ reading.refusalPlace r
+  pub circuit-place-of : (r : Refusal) → One λ (p : ℕ). p ≡ refusalPlace r
   -- modules::types::no_type
   pub modules-no-type : One λ (r : ModuleType). r ≡ unusedType
   -- bridges::no_bridge

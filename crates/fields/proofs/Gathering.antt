@@ -9,7 +9,7 @@ use lib.ListN.{length, set, replicate, length-append, length-map}
 use Rattle.circuit.specs.Fields.{Cut, cutFrom}
 use Rattle.circuit.specs.Table.{Test, Verdict, passes, refusedAt, firstOf}
 use Rattle.circuit.specs.Records.{padded}
-use Rattle.circuit.specs.Answers.{isRefused}
+use Rattle.circuit.specs.Verdicts.{isRefused}
 use Rattle.circuit.specs.Stages.{Stage, stopped, ifPasses, section, stageOf}
 use Rattle.fields.specs.Steps.{bodyOf, FieldAt, NextIs}
 use Rattle.fields.specs.declared.Field.{Field as FieldRecord}

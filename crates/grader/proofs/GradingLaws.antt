@@ -10,8 +10,9 @@ use Rattle.circuit.specs.Circuit.{Circuit}
 use Rattle.circuit.specs.Table.{Verdict, passes, refusedAt}
 use Rattle.circuit.specs.Reading.{Reading, accepted, refusal, readingOf}
 use Rattle.circuit.specs.Records.{circuitRecord}
-use Rattle.circuit.specs.Answers as reading
-use Rattle.circuit.specs.Answers.{numberedVerdict, verdictOf, isRefused, Tells}
+use Rattle.circuit.specs.Refusals.{refusalNumber, refusalPlace, numberedVerdict, verdictOf}
+use Rattle.circuit.specs.Verdicts.{isRefused}
+use Rattle.circuit.specs.Answers.{Tells}
 use Rattle.circuit.specs.Laws.{CircuitGood}
 use Rattle.circuit.specs.declared.Reading.{Reading as ReadingRecord}
 use Rattle.circuit.specs.declared.Circuit.{Circuit as CircuitRecord}
@@ -50,7 +51,7 @@ refused-meets (accepted c) r tells e words entries matrix classes = absurd (neve
     never : false ≡ true → ⊥
     never z = let y : _≡_ {A = ℕ} 0 1 = cc in absurd (omega arith)
 refused-meets (refusal n p) r tells e words entries matrix classes =
-    let parts = told (reading.refusalNumber (r .refusal)) (reading.refusalPlace (r .refusal)) n p tells in
+    let parts = told (refusalNumber (r .refusal)) (refusalPlace (r .refusal)) n p tells in
     record { number = parts .0; place = parts .1; counts = refl; matrix-at-exit = refl; classes-at-exit = refl }
 
 -- the record tells the circuit of a file that is accepted

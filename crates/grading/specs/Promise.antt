@@ -4,7 +4,7 @@ use mathlib.Core.Path.{_≡_}
 use mathlib.Core.List.{List}
 use lib.ListN.{length}
 use Rattle.circuit.specs.Reading.{readingOf}
-use Rattle.circuit.specs.Answers as reading
+use Rattle.circuit.specs.Refusals.{refusalNumber, refusalPlace}
 use Rattle.circuit.specs.Answers.{Tells}
 use Rattle.circuit.specs.declared.Reading.{Reading as ReadingRecord}
 use Rattle.grading.specs.Grading.{Counts, noCounts, Grading, gradingOf, countsIn, numberIn, placeIn, matrixAfter, classesAfterGrading}
@@ -15,13 +15,13 @@ use Rattle.grading.specs.declared.Answer.the-variants.{Graded, Refused, 
 -- for each case of an answer the paper's number, place and counts; 0 where it has none
 unfoldable pub numberOf : Answer → ℕ
 numberOf (Graded counts) = 0
-numberOf (Refused refusal) = reading.refusalNumber refusal
+numberOf (Refused refusal) = refusalNumber refusal
 numberOf (ShortMatrix words) = 15
 numberOf (ShortClasses faults) = 22
 
 unfoldable pub placeOf : Answer → ℕ
 placeOf (Graded counts) = 0
-placeOf (Refused refusal) = reading.refusalPlace refusal
+placeOf (Refused refusal) = refusalPlace refusal
 placeOf (ShortMatrix words) = words
 placeOf (ShortClasses faults) = faults
 

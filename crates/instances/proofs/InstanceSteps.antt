@@ -12,7 +12,8 @@ use Rattle.circuit.specs.Circuit.{Instance, Listed, typeOfInstance, chosenSize,
 use Rattle.circuit.specs.Known.{instanceIn}
 use Rattle.circuit.specs.Table.{Test, passes, firstOf, instanceTests}
 use Rattle.circuit.specs.Records.{unusedInstance, instanceRecord}
-use Rattle.circuit.specs.Answers.{verdictOf, refusalNumber, refusalPlace, numberedVerdict, isRefused}
+use Rattle.circuit.specs.Refusals.{verdictOf, refusalNumber, refusalPlace, numberedVerdict}
+use Rattle.circuit.specs.Verdicts.{isRefused}
 use Rattle.circuit.specs.Stages.{instanceStage, stageOf}
 use Rattle.fields.specs.Steps.{bodyOf, FieldAt, NextIs}
 use Rattle.instances.specs.ReadInstances.{InstancesRead}

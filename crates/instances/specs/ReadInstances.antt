@@ -14,7 +14,7 @@ use Rattle.circuit.specs.Fields.{cutFrom}
 use Rattle.circuit.specs.Circuit.{Instance, Listed, faultCount}
 use Rattle.circuit.specs.Table.{Test, test}
 use Rattle.circuit.specs.Records.{padded, unusedType, typeRecord, unusedInstance, instanceRecord}
-use Rattle.circuit.specs.Answers.{verdictOf}
+use Rattle.circuit.specs.Refusals.{verdictOf}
 use Rattle.circuit.specs.Known.{referencesIn}
 use Rattle.circuit.specs.Numbers.{signed, choiceInRange, referenceGood}
 use Rattle.circuit.specs.Stages.{stageOf, instanceStage}

@@ -38,7 +38,7 @@ ghost use Rattle.circuit.specs.Numbers.{signed, choiceInRange};
 ghost use Rattle.circuit.specs.Known.{instanceIn};
 ghost use Rattle.circuit.specs.Table.{firstOf};
 ghost use Rattle.circuit.specs.Records.{unusedInstance, instanceRecord};
-ghost use Rattle.circuit.specs.Answers.{verdictOf};
+ghost use Rattle.circuit.specs.Refusals.{verdictOf};
 ghost use Rattle.fields.specs.Steps.{bodyOf};
 ghost use Rattle.instances.specs.ReadInstances.{gatheredTests, InstanceFits, TypesAndLists, HeldTo, InstancesRead};
 

@@ -18,7 +18,8 @@ use Rattle.circuit.specs.Fields.{Cut, cutFrom}
 use Rattle.circuit.specs.Known.{typeIn, edgeIn, withEdge}
 use Rattle.circuit.specs.Table.{Verdict, passes, refusedAt, firstOf, typeTests, edgeTests, edgeTestsOf}
 use Rattle.circuit.specs.Records.{padded, unusedType, edgeRecord, typeRecord}
-use Rattle.circuit.specs.Answers.{refusalNumber, refusalPlace, numberedVerdict, verdictOf, isRefused}
+use Rattle.circuit.specs.Refusals.{refusalNumber, refusalPlace, numberedVerdict, verdictOf}
+use Rattle.circuit.specs.Verdicts.{isRefused}
 use Rattle.circuit.specs.Stages.{Stage, ifPasses, edgeStage, failingVerdict, typeStage, stageOf}
 use Rattle.fields.specs.Steps.{bodyOf, NextIs}
 use Rattle.modules.specs.ReadTypes.{goodType, bareOf, BareType, EdgesRead, TypeRead, TypesRead}

@@ -15,7 +15,7 @@ use Rattle.circuit.specs.Fields.{Field, Cut, clean, broken, field, cutFrom}
 use Rattle.circuit.specs.Circuit.{noType}
 use Rattle.circuit.specs.Known.{tagOf, typeIn, edgeIn, latest, withEdge, edgeAdded}
 use Rattle.circuit.specs.Table.{Verdict, passes, refusedAt, firstOf, notComplementary, isEmpty, isUnknown, typeTests, edgeTests}
-use Rattle.circuit.specs.Answers.{isRefused}
+use Rattle.circuit.specs.Verdicts.{isRefused}
 use Rattle.circuit.specs.Stages.{Stage, stopped, failed, ifPasses, section, edgeStage, failingBefore, failingVerdict, judged, typeStage}
 use Rattle.fields.specs.Steps.{bodyOf, fieldIn, FieldAt, NextIs}
 use Rattle.fields.specs.declared.Field.{Field as FieldRecord}

@@ -13,7 +13,7 @@ use Rattle.circuit.specs.Limits.{mostTypes, mostEdges}
 use Rattle.circuit.specs.Fields.{Field, Cut, field, cutFrom}
 use Rattle.circuit.specs.Table.{passes}
 use Rattle.circuit.specs.Records.{padded, unusedType, typeRecord}
-use Rattle.circuit.specs.Answers.{verdictOf}
+use Rattle.circuit.specs.Refusals.{verdictOf}
 use Rattle.circuit.specs.Known.{typeIn}
 use Rattle.fields.specs.declared.Field.{Field as FieldRecord}
 use Rattle.circuit.specs.Stages.{stageOf, ifPasses, edgeStage, typeStage}

@@ -19,7 +19,7 @@ ghost use Rattle.switch.specs.Modules.{allOf};
 ghost use Rattle.circuit.specs.Known.{edgeIn};
 ghost use Rattle.circuit.specs.Table.{firstOf, edgeTestsOf};
 ghost use Rattle.circuit.specs.Records.{edgeRecord, unusedEdge};
-ghost use Rattle.circuit.specs.Answers.{verdictOf};
+ghost use Rattle.circuit.specs.Refusals.{verdictOf};
 ghost use Rattle.fields.specs.Steps.{bodyOf};
 ghost use Rattle.modules.specs.ReadTypes.{edgeBetween, BareType, EdgesRead};
 

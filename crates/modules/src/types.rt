@@ -25,7 +25,7 @@ ghost use Rattle.circuit.specs.Fields.{cutFrom};
 ghost use Rattle.circuit.specs.Known.{typeIn};
 ghost use Rattle.circuit.specs.Table.{firstOf, typeTests};
 ghost use Rattle.circuit.specs.Records.{unusedType, typeRecord};
-ghost use Rattle.circuit.specs.Answers.{verdictOf};
+ghost use Rattle.circuit.specs.Refusals.{verdictOf};
 ghost use Rattle.circuit.specs.Stages.{failingBefore, failingVerdict};
 ghost use Rattle.fields.specs.Steps.{bodyOf, FieldAt};
 ghost use Rattle.modules.specs.ReadTypes.{TypeRead, TypesRead};

@@ -18,7 +18,9 @@ use Rattle.circuit.specs.Known.{tagOf}
 use Rattle.circuit.specs.Table.{Verdict, passes, refusedAt, firstOf, test, isUnknown, inputsTests}
 use Rattle.circuit.specs.Reading.{Reading, accepted, refusal, unless, readingOf}
 use Rattle.circuit.specs.Records.{unusedType, unusedBridge, unusedInstance, unusedVector, circuitRecord, emptyCircuit}
-use Rattle.circuit.specs.Answers.{verdictOf, isRefused, orIf, Tells, Answers}
+use Rattle.circuit.specs.Refusals.{verdictOf}
+use Rattle.circuit.specs.Verdicts.{isRefused, orIf}
+use Rattle.circuit.specs.Answers.{Tells, Answers}
 use Rattle.circuit.specs.Stages.{Stage, bridgeStage, instanceStage, vectorStage, endedVerdict, pastVerdict, endingVerdict, afterStage, afterInputs, fromStart, staged, stageOf}
 use Rattle.fields.specs.Steps.{bodyOf, fieldIn, FieldAt, NextIs}
 use Rattle.modules.specs.ReadTypes.{TypesRead}

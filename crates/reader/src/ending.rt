@@ -6,7 +6,7 @@ ghost use mathlib.Core.Path.{_≡_};
 ghost use Prim.Native.Nat.{_≤_};
 ghost use lib.ListN.{length};
 ghost use Rattle.circuit.specs.Fields.{cutFrom};
-ghost use Rattle.circuit.specs.Answers.{verdictOf};
+ghost use Rattle.circuit.specs.Refusals.{verdictOf};
 ghost use Rattle.circuit.specs.Stages.{endedVerdict, pastVerdict, endingVerdict};
 
 fn at_end(size: usize, instances: usize, vectors: usize) -> Refusal

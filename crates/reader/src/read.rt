@@ -33,7 +33,8 @@ ghost use lib.ListN.{length};
 ghost use Rattle.circuit.specs.Table.{firstOf, inputsTests};
 ghost use Rattle.circuit.specs.Reading.{readingOf};
 ghost use Rattle.circuit.specs.Records.{circuitRecord, emptyCircuit};
-ghost use Rattle.circuit.specs.Answers.{verdictOf, Tells, Answers};
+ghost use Rattle.circuit.specs.Refusals.{verdictOf};
+ghost use Rattle.circuit.specs.Answers.{Tells, Answers};
 ghost use Rattle.fields.specs.Steps.{bodyOf};
 ghost use Rattle.reader.specs.Whole.{StartRead, wholeOf};
 

@@ -21,7 +21,8 @@ use Rattle.circuit.specs.Fields.{cutFrom}
 use Rattle.circuit.specs.Known.{letterOf, vectorIn}
 use Rattle.circuit.specs.Table.{Test, test, passes, firstOf, isLetter, vectorTests}
 use Rattle.circuit.specs.Records.{unusedVector, vectorRecord}
-use Rattle.circuit.specs.Answers.{verdictOf, refusalNumber, refusalPlace, numberedVerdict, isRefused}
+use Rattle.circuit.specs.Refusals.{verdictOf, refusalNumber, refusalPlace, numberedVerdict}
+use Rattle.circuit.specs.Verdicts.{isRefused}
 use Rattle.circuit.specs.Stages.{vectorStage, stageOf}
 use Rattle.fields.specs.Steps.{bodyOf, FieldAt, NextIs}
 use Rattle.vectors.specs.ReadVectors.{VectorsRead}

@@ -7,7 +7,7 @@ use Rattle.switch.specs.Conduction.{Value}
 use Rattle.circuit.specs.Limits.{mostVectors}
 use Rattle.circuit.specs.Fields.{cutFrom}
 use Rattle.circuit.specs.Records.{padded, unusedVector, vectorRecord}
-use Rattle.circuit.specs.Answers.{verdictOf}
+use Rattle.circuit.specs.Refusals.{verdictOf}
 use Rattle.circuit.specs.Stages.{stageOf, vectorStage}
 use Rattle.vectors.specs.declared.Vectors.{Vectors}
 

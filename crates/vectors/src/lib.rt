@@ -15,7 +15,7 @@ ghost use Rattle.switch.specs.Modules.{allOf};
 ghost use Rattle.circuit.specs.Known.{vectorIn};
 ghost use Rattle.circuit.specs.Table.{firstOf, isLetter, vectorTests};
 ghost use Rattle.circuit.specs.Records.{unusedVector, vectorRecord};
-ghost use Rattle.circuit.specs.Answers.{verdictOf};
+ghost use Rattle.circuit.specs.Refusals.{verdictOf};
 ghost use Rattle.fields.specs.Steps.{bodyOf};
 ghost use Rattle.vectors.specs.ReadVectors.{VectorsRead};
 

@@ -3,7 +3,7 @@ use mathlib.Core.Path.{_∙_}
 use mathlib.Core.List.{List}
 use Prim.Native.Nat.{ℕ}
 use borrow.Author.Needs.{needs}
-use Rattle.circuit.specs.Answers.{verdictOf, numberedVerdict, refusalNumber, refusalPlace}
+use Rattle.circuit.specs.Refusals.{verdictOf, numberedVerdict, refusalNumber, refusalPlace}
 use Rattle.fields.specs.Steps.{bodyOf}
 use Rattle.fields.proofs.Bodies.{length-body}
 use Rattle.bridges.proofs.BridgeLaws.{one-by-one}

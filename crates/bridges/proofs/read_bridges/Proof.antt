@@ -7,7 +7,7 @@ use native.Mathlib.Omega.{arith}
 use borrow.Author.Needs.{needs}
 use lib.ListN.{length}
 use Rattle.circuit.specs.Table.{passes}
-use Rattle.circuit.specs.Answers.{verdictOf}
+use Rattle.circuit.specs.Refusals.{verdictOf}
 use Rattle.fields.specs.Steps.{bodyOf, NextIs, FieldAt}
 use Rattle.fields.specs.declared.Field.{Field as FieldRecord}
 use Rattle.circuit.proofs.Verdicts.{passes-is}

@@ -13,7 +13,7 @@ use Rattle.switch.specs.Modules.{allOf}
 use Rattle.circuit.specs.Circuit.{Reference}
 use Rattle.circuit.specs.Numbers.{referenceGood}
 use Rattle.circuit.specs.Known.{referencesIn}
-use Rattle.circuit.specs.Answers.{refusalNumber, refusalPlace, numberedVerdict, verdictOf}
+use Rattle.circuit.specs.Refusals.{refusalNumber, refusalPlace, numberedVerdict, verdictOf}
 use Rattle.fields.specs.Steps.{bodyOf}
 use Rattle.instances.specs.ReadInstances.{gatheredTests}
 use Rattle.circuit.proofs.Verdicts.{firstAfter, chain}

@@ -11,7 +11,7 @@ use Rattle.switch.specs.Modules.{ModuleType}
 use Rattle.circuit.specs.Circuit.{Listed, numbered, noType, typeOfInstance}
 use Rattle.circuit.specs.Known.{instanceIn}
 use Rattle.circuit.specs.Table.{passes, firstOf, instanceTests}
-use Rattle.circuit.specs.Answers.{verdictOf}
+use Rattle.circuit.specs.Refusals.{verdictOf}
 use Rattle.fields.specs.Steps.{bodyOf, NextIs, FieldAt}
 use Rattle.instances.specs.ReadInstances.{TypesAndLists, InstancesRead}
 use Rattle.instances.specs.declared.choices.Chosen.{Chosen}

@@ -2,7 +2,7 @@
 use mathlib.Core.Path.{sym, _∙_}
 use borrow.Author.Needs.{needs}
 use Rattle.circuit.specs.Table.{vectorTests}
-use Rattle.circuit.specs.Answers.{verdictOf, refusalNumber, refusalPlace, numberedVerdict}
+use Rattle.circuit.specs.Refusals.{verdictOf, refusalNumber, refusalPlace, numberedVerdict}
 use Rattle.fields.specs.Steps.{bodyOf}
 use Rattle.fields.proofs.Bodies.{length-body}
 use Rattle.circuit.proofs.Verdicts.{firstAfter, chain}

@@ -1,7 +1,7 @@
 -- `circuit::refusal::number_of` meets its contract: each arm answers the number of its own case. Assumes nothing.
 use mathlib.Core.Path.{sym, ap}
 use borrow.Author.Needs.{needs}
-use Rattle.circuit.specs.Answers.{refusalNumber}
+use Rattle.circuit.specs.Refusals.{refusalNumber}
 use Rattle.circuit.proofs.refusal.number_of.Statement.{statement}
 use Rattle.circuit.proofs.refusal.number_of.Tie as tie
 

@@ -3,7 +3,8 @@ use mathlib.Core.Path.{_≡_, refl, sym, _∙_}
 use mathlib.Core.Bool.{Bool, true, false}
 use borrow.Author.Needs.{needs}
 use Rattle.circuit.specs.Table.{Verdict, passes, refusedAt}
-use Rattle.circuit.specs.Answers.{refusalNumber, refusalPlace, numberedVerdict, verdictOf, isRefused, orIf}
+use Rattle.circuit.specs.Refusals.{refusalNumber, refusalPlace, numberedVerdict, verdictOf}
+use Rattle.circuit.specs.Verdicts.{isRefused, orIf}
 use Rattle.circuit.proofs.refusal.or_if.Statement.{statement}
 use Rattle.circuit.proofs.refusal.or_if.Tie as tie
 

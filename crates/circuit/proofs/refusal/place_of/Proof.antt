@@ -1,7 +1,7 @@
 -- `circuit::refusal::place_of` meets its contract: each arm answers the place that its own case holds. Assumes nothing.
 use mathlib.Core.Path.{sym, ap}
 use borrow.Author.Needs.{needs}
-use Rattle.circuit.specs.Answers.{refusalPlace}
+use Rattle.circuit.specs.Refusals.{refusalPlace}
 use Rattle.circuit.proofs.refusal.place_of.Statement.{statement}
 use Rattle.circuit.proofs.refusal.place_of.Tie as tie
 

@@ -15,7 +15,8 @@ use Rattle.switch.specs.Modules.{allOf, edgeInRange}
 use Rattle.circuit.specs.Limits.{mostEdges}
 use Rattle.circuit.specs.Known.{edgeIn}
 use Rattle.circuit.specs.Table.{passes, refusedAt, firstOf, edgeTestsOf}
-use Rattle.circuit.specs.Answers.{refusalNumber, refusalPlace, numberedVerdict, verdictOf, orIf}
+use Rattle.circuit.specs.Refusals.{refusalNumber, refusalPlace, numberedVerdict, verdictOf}
+use Rattle.circuit.specs.Verdicts.{orIf}
 use Rattle.fields.specs.Steps.{bodyOf}
 use Rattle.fields.proofs.Bodies.{length-body}
 use Rattle.circuit.proofs.Verdicts.{chain, firstAfter}

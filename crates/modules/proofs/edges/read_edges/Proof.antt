@@ -7,7 +7,8 @@ use native.Mathlib.Omega.{arith}
 use borrow.Author.Needs.{needs}
 use lib.ListN.{length}
 use Rattle.circuit.specs.Limits.{mostEdges}
-use Rattle.circuit.specs.Answers.{verdictOf, isRefused}
+use Rattle.circuit.specs.Refusals.{verdictOf}
+use Rattle.circuit.specs.Verdicts.{isRefused}
 use Rattle.fields.specs.Steps.{FieldAt, NextIs}
 use Rattle.fields.specs.declared.Next.the-variants.{Found, Other}
 use Rattle.fields.proofs.Bodies.{length-body}

@@ -5,7 +5,7 @@ use mathlib.Core.List.{List}
 use borrow.Author.Needs.{needs}
 use Rattle.circuit.specs.Fields.{cutFrom}
 use Rattle.circuit.specs.Table.{refusedAt}
-use Rattle.circuit.specs.Answers.{refusalNumber, refusalPlace, numberedVerdict, verdictOf}
+use Rattle.circuit.specs.Refusals.{refusalNumber, refusalPlace, numberedVerdict, verdictOf}
 use Rattle.circuit.specs.Stages.{failingBefore, failingVerdict}
 use Rattle.fields.specs.Steps.{fieldIn, FieldAt, StepIs}
 use Rattle.fields.specs.declared.Field.{Field as FieldRecord}

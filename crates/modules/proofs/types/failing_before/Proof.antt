@@ -1,7 +1,7 @@
 -- `modules::types::failing_before` meets its contract: number 3 at a tag that no field has, 4 at tag 1, else 9. Assumes nothing.
 use mathlib.Core.Logic.{⊎-elim}
 use borrow.Author.Tests.{ltb-true, ltb-false, eq-eqb, ne-eqb}
-use Rattle.circuit.specs.Answers.{refusalNumber, refusalPlace, numberedVerdict, verdictOf}
+use Rattle.circuit.specs.Refusals.{refusalNumber, refusalPlace, numberedVerdict, verdictOf}
 use Rattle.circuit.specs.Stages.{failingBefore}
 use Rattle.circuit.proofs.TagLaws.{tag-below, tag-above, tag-known}
 use Rattle.modules.proofs.types.failing_before.Statement.{statement}

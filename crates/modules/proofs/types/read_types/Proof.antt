@@ -11,7 +11,8 @@ use lib.ListN.{getD, replicate}
 use Rattle.switch.specs.Modules.{typeInRange}
 use Rattle.switch.specs.declared.ModuleType.{ModuleType as TypeRecord}
 use Rattle.circuit.specs.Limits.{mostTypes}
-use Rattle.circuit.specs.Answers.{verdictOf, isRefused}
+use Rattle.circuit.specs.Refusals.{verdictOf}
+use Rattle.circuit.specs.Verdicts.{isRefused}
 use Rattle.fields.specs.Steps.{bodyOf, FieldAt, NextIs}
 use Rattle.fields.specs.declared.Next.the-variants.{Found, Other}
 use Rattle.modules.specs.ReadTypes.{TypesRead}

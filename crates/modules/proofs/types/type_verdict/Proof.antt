@@ -10,7 +10,8 @@ use Rattle.switch.specs.Conduction.{between}
 use Rattle.switch.specs.Modules.{typeInRange}
 use Rattle.circuit.specs.Limits.{mostTypes}
 use Rattle.circuit.specs.Table.{passes, refusedAt, firstOf, typeTests}
-use Rattle.circuit.specs.Answers.{refusalNumber, refusalPlace, numberedVerdict, verdictOf, orIf}
+use Rattle.circuit.specs.Refusals.{refusalNumber, refusalPlace, numberedVerdict, verdictOf}
+use Rattle.circuit.specs.Verdicts.{orIf}
 use Rattle.fields.specs.Steps.{bodyOf}
 use Rattle.fields.proofs.Bodies.{length-body}
 use Rattle.circuit.proofs.Verdicts.{chain, firstAfter}

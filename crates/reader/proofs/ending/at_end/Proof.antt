@@ -1,6 +1,6 @@
 -- `reader::ending::at_end` meets its contract: number 14 where there is no instance or no vector. Assumes nothing.
 use borrow.Author.Tests.{eq-eqb, ne-eqb}
-use Rattle.circuit.specs.Answers.{refusalNumber, refusalPlace, numberedVerdict, verdictOf}
+use Rattle.circuit.specs.Refusals.{refusalNumber, refusalPlace, numberedVerdict, verdictOf}
 use Rattle.circuit.specs.Stages.{endedVerdict}
 use Rattle.reader.proofs.ending.at_end.Statement.{statement}
 use Rattle.reader.proofs.ending.at_end.Tie as tie

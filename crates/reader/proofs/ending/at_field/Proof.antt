@@ -1,7 +1,7 @@
 -- `reader::ending::at_field` meets its contract: number 3 at a tag that no field has, else 4. Assumes nothing.
 use mathlib.Core.Logic.{⊎-elim}
 use borrow.Author.Tests.{ltb-true, ltb-false}
-use Rattle.circuit.specs.Answers.{refusalNumber, refusalPlace, numberedVerdict, verdictOf}
+use Rattle.circuit.specs.Refusals.{refusalNumber, refusalPlace, numberedVerdict, verdictOf}
 use Rattle.circuit.specs.Stages.{pastVerdict}
 use Rattle.circuit.proofs.TagLaws.{tag-below, tag-above, tag-known}
 use Rattle.reader.proofs.ending.at_field.Statement.{statement}

@@ -6,7 +6,7 @@ use borrow.Author.Needs.{needs}
 use lib.ListN.{length}
 use Rattle.circuit.specs.Fields.{cutFrom}
 use Rattle.circuit.specs.Table.{refusedAt}
-use Rattle.circuit.specs.Answers.{refusalNumber, refusalPlace, numberedVerdict, verdictOf}
+use Rattle.circuit.specs.Refusals.{refusalNumber, refusalPlace, numberedVerdict, verdictOf}
 use Rattle.circuit.specs.Stages.{endedVerdict, pastVerdict, endingVerdict}
 use Rattle.fields.specs.Steps.{fieldIn, FieldAt, StepIs}
 use Rattle.fields.specs.declared.Field.{Field as FieldRecord}

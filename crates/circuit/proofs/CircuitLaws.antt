@@ -21,7 +21,7 @@ use Rattle.circuit.specs.Known.{typeIn, edgeIn, listedIn, instanceIn, ve
 use Rattle.circuit.specs.Table.{Test, Verdict, passes, refusedAt, firstOf, notComplementary, isEmpty, isUnknown, inputsTests, typeTests, edgeTests, bridgeTests, instanceTests, vectorTests}
 use Rattle.circuit.specs.Reading.{Reading, accepted, refusal, unless}
 use Rattle.circuit.specs.Records.{emptyCircuit}
-use Rattle.circuit.specs.Stages.{Stage, stopped, ifPasses, section, failingBefore, failingVerdict, judged, typeStage, endedVerdict, pastVerdict, endingVerdict, afterStage, afterInputs, fromStart, staged}
+use Rattle.circuit.specs.Stages.{Stage, stopped, ifPasses, section, failingBefore, failingVerdict, judged, typeStage, readTo, endedVerdict, pastVerdict, endingVerdict, afterStage, afterInputs, fromStart, staged}
 use Rattle.circuit.specs.Laws.{Each, TypeSound, TypeGood, ListedGood, InstanceGood, CircuitGood, RefusalGood, AcceptedIsGood, RefusalIsGood}
 use Rattle.circuit.proofs.StageLaws.{staged-is-reading}
 use Rattle.circuit.proofs.Tested.{VerdictGood, TestsGood, first-good, inputs-refuse, types-refuse, edges-refuse, bridges-refuse, instances-refuse, vectors-refuse, inputs-pass, type-pass, edge-pass, bridge-pass, faults-snoc, instance-pass, vector-pass, holds, length-snoc, each-none, each-snoc, never-passes}
@@ -283,10 +283,10 @@ bridge-keeps bs at body g e =
     }
 
 instance-keeps : (P : ℕ) (types : List ModuleType) (bridges : List Listed) (is : List Instance) (at : ℕ) (body : List ℕ)
-    → InstancesGood P types bridges is → firstOf (instanceTests P types bridges (length is) (faultCount types bridges is) at body) ≡ passes
+    → InstancesGood P types bridges is → firstOf (instanceTests (readTo P types bridges is) at body) ≡ passes
     → InstancesGood P types bridges (is ++ (instanceIn body ∷ []))
 instance-keeps P types bridges is at body g e =
-    let new = instance-pass P types bridges (length is) (faultCount types bridges is) at body e in
+    let new = instance-pass (readTo P types bridges is) at body e in
     let room = new .0 in
     let fits = new .2 in
     record {
@@ -360,7 +360,7 @@ after-inputs-good size P cut some p =
     types-good size _ (λ types cut₂ t p₂.
     section-good size 4 _ _ BridgesGood (λ bs at body h. bridges-refuse size at h body (length bs)) bridge-keeps _ (λ bridges cut₃ b p₃.
     section-good size 5 _ _ (InstancesGood P types bridges)
-    (λ is at body h. instances-refuse size at h body P types bridges (length is) (faultCount types bridges is)) (instance-keeps P types bridges) _
+    (λ is at body h. instances-refuse size at h body (readTo P types bridges is)) (instance-keeps P types bridges) _
     (λ instances cut₄ i p₄.
     section-good size 6 _ _ (VectorsGood P) (λ vs at body h. vectors-refuse size at h body P (length vs)) (vector-keeps P) _ (λ vectors cut₅ v p₅.
     unless-good size (endingVerdict size (length instances) (length vectors) cut₅) _ (ending-good size (length instances) (length vectors) cut₅ p₅)

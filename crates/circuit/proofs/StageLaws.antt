@@ -12,25 +12,16 @@ use Rattle.switch.specs.Conduction.{Value, between}
 use Rattle.switch.specs.Modules.{ModuleType}
 use Rattle.circuit.specs.Fields.{Field, Cut, clean, broken, field, cutFrom, twoBytes}
 use Rattle.circuit.specs.Circuit.{Circuit, Instance, Listed, faultCount}
-use Rattle.circuit.specs.Known.{Known, start, Tag, inputs-tag, type-tag, edge-tag, bridge-tag, instance-tag, vector-tag, no-tag, tagOf, typeIn, edgeIn, listedIn, instanceIn, vectorIn, latest, withEdge, edgeAdded, taken, typeAtAfter, knownAfter}
+use Rattle.circuit.specs.Known.{Known, start, Tag, inputs-tag, type-tag, edge-tag, bridge-tag, instance-tag, vector-tag, no-tag, tagOf, typeIn, edgeIn, listedIn, instanceIn, vectorIn, latest, withEdge, edgeAdded, taken, typeAtAfter, knownAfter, rank}
 use Rattle.circuit.specs.Table.{Test, Verdict, passes, refusedAt, firstOf, misplaced, isEdge, unjudged, notComplementary, isEmpty, isUnknown, inputsTests, typeTests, edgeTests, bridgeTests, instanceTests, vectorTests, bodyTests, fieldTests, endTests}
 use Rattle.circuit.specs.Reading.{Reading, accepted, unless, readFrom, readingOf}
 use Rattle.circuit.specs.Records.{emptyCircuit}
-use Rattle.circuit.specs.Stages.{Stage, stopped, ifPasses, section, failingBefore, failingVerdict, judged, typeStage, endedVerdict, pastVerdict, endingVerdict, afterStage, afterInputs, fromStart, staged}
+use Rattle.circuit.specs.Stages.{Stage, stopped, ifPasses, section, failingBefore, failingVerdict, judged, typeStage, readTo, endedVerdict, pastVerdict, endingVerdict, afterStage, afterInputs, fromStart, staged}
 use Rattle.circuit.specs.Laws.{StagedIsReading}
 
 -- ---- tags by number
 
--- the place of a tag in the file's order
-abbrev rank : Tag → ℕ
-rank inputs-tag = 1
-rank type-tag = 2
-rank edge-tag = 3
-rank bridge-tag = 4
-rank instance-tag = 5
-rank vector-tag = 6
-rank no-tag = 7
-
+-- the kind of field that a tag stands for
 data Kind (t : ℕ) : Tag → Type 0 where
   is-inputs : t ≡ 1 → Kind t inputs-tag
   is-type : t ≡ 2 → Kind t type-tag
@@ -204,7 +195,7 @@ module _ (P : ℕ) (types : List ModuleType) where
   }
 
   instances-stage : (bridges : List Listed) → StageOf 5 types
-      (λ (is : List Instance). instanceTests P types bridges (length is) (faultCount types bridges is))
+      (λ (is : List Instance). instanceTests (readTo P types bridges is))
       (λ (is : List Instance) (body : List ℕ). is ++ (instanceIn body ∷ []))
       (λ (is : List Instance). record { inputs = P; types = types; bridges = bridges; instances = is; vectors = [] })
   unfolding tagOf bodyTests taken isUnknown misplaced between

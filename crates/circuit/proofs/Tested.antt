@@ -16,7 +16,7 @@ use Rattle.switch.specs.Modules.{ModuleType, allOf, typeInRange, edgeInRange, i
 use Rattle.switch.proofs.Paths.{both}
 use Rattle.circuit.specs.Limits.{mostTypes, mostEdges, mostBridges, mostInstances, mostVectors, mostFaults}
 use Rattle.circuit.specs.Fields.{twoBytes}
-use Rattle.circuit.specs.Circuit.{Instance, Listed, typeOfInstance, chosenSize, faultCount}
+use Rattle.circuit.specs.Circuit.{Circuit, Instance, Listed, typeOfInstance, chosenSize, faultCount}
 use Rattle.circuit.specs.Numbers.{plus, minus, signed, choiceOf, choiceInRange, referenceGood}
 use Rattle.circuit.specs.Known.{typeIn, edgeIn, bridgeOf, listedIn, instanceIn, letterOf, vectorIn, withEdge}
 use Rattle.circuit.specs.Table.{Test, Verdict, passes, refusedAt, firstOf, bridgeInRange, inputsTests, typeTests, edgeTests, edgeTestsOf, bridgeTests, instanceTests, vectorTests}
@@ -92,10 +92,9 @@ module _ (size at : ℕ) (inside : at ≤ size) (body : List ℕ) where
   unfolding bridgeTests
   bridges-refuse count = omega arith
 
-  pub instances-refuse : (P : ℕ) (types : List ModuleType) (bridges : List Listed) (count faults : ℕ)
-      → TestsGood size (instanceTests P types bridges count faults at body)
+  pub instances-refuse : (c : Circuit) → TestsGood size (instanceTests c at body)
   unfolding instanceTests
-  instances-refuse P types bridges count faults = omega arith
+  instances-refuse c = omega arith
 
   pub vectors-refuse : (P count : ℕ) → TestsGood size (vectorTests P count at body)
   unfolding vectorTests
@@ -189,14 +188,16 @@ unfolding faultCount
 faults-snoc types bridges [] i = omega arith
 faults-snoc types bridges (j ∷ is) i = omega (arith, faults-snoc types bridges is i)
 
-module _ (P : ℕ) (types : List ModuleType) (bridges : List Listed) where
-  pub instance-pass : (count faults at : ℕ) (body : List ℕ) → firstOf (instanceTests P types bridges count faults at body) ≡ passes
-      → (count < mostInstances) × InstanceGood P types bridges count (instanceIn body)
-      × (faults + chosenSize (typeOfInstance types (instanceIn body)) bridges (instanceIn body .choice) ≤ mostFaults)
+module _ (c : Circuit) where
+  pub instance-pass : (at : ℕ) (body : List ℕ) → firstOf (instanceTests c at body) ≡ passes
+      → (length (c .instances) < mostInstances) × InstanceGood (c .inputs) (c .types) (c .bridges) (length (c .instances)) (instanceIn body)
+      × (faultCount (c .types) (c .bridges) (c .instances) + chosenSize (typeOfInstance (c .types) (instanceIn body)) (c .bridges) (instanceIn body .choice) ≤ mostFaults)
   unfolding instanceTests instanceIn
-  instance-pass count faults at body e =
+  instance-pass at body e =
       let i = instanceIn body in
-      let t = typeOfInstance types i in
+      let t = typeOfInstance (c .types) i in
+      let count = length (c .instances) in
+      let faults = faultCount (c .types) (c .bridges) (c .instances) in
       let five = first-passes _ _ e in
       let six = first-passes _ _ (five .1) in
       let seven = first-passes _ _ (six .1) in
@@ -204,10 +205,10 @@ module _ (P : ℕ) (types : List ModuleType) (bridges : List Listed) where
       let eleven = first-passes _ _ (ten .1) in
       let twelve = first-passes _ _ (eleven .1) in
       let thirteen = first-passes _ _ (twelve .1) in
-      let typed = between 1 (length types) (i .type) in
+      let typed = between 1 (length (c .types)) (i .type) in
       let chosen = choiceInRange (signed 128 (getD body 1 0)) in
       let counted = eqb (length (i .references)) (t .labels) in
-      let tied = allOf (referenceGood P count) (i .references) in
+      let tied = allOf (referenceGood (c .inputs) count) (i .references) in
       let refs = both counted tied (passed (counted && tied) (ten .0)) in (
         leb-false mostInstances count (six .0),
         record {
@@ -218,7 +219,7 @@ module _ (P : ℕ) (types : List ModuleType) (bridges : List Listed) where
           suited = eleven .0;
           filled = twelve .0;
         },
-        ltb-false mostFaults (faults + chosenSize t bridges (i .choice)) (thirteen .0),
+        ltb-false mostFaults (faults + chosenSize t (c .bridges) (i .choice)) (thirteen .0),
       )
 
 pub vector-pass : (P count at : ℕ) (body : List ℕ) → firstOf (vectorTests P count at body) ≡ passes → (count < mostVectors) × (length (vectorIn body) ≡ P)

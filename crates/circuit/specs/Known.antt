@@ -35,6 +35,16 @@ tagOf n =
     cond (eqb n 1) inputs-tag (cond (eqb n 2) type-tag (cond (eqb n 3) edge-tag
     (cond (eqb n 4) bridge-tag (cond (eqb n 5) instance-tag (cond (eqb n 6) vector-tag no-tag)))))
 
+-- the place of a kind of field in 01's order of fields, by its tag; last what is none of 01's
+abbrev pub rank : Tag → ℕ
+rank inputs-tag = 1
+rank type-tag = 2
+rank edge-tag = 3
+rank bridge-tag = 4
+rank instance-tag = 5
+rank vector-tag = 6
+rank no-tag = 7
+
 -- ---- what a body says
 
 unfoldable pub typeIn : List ℕ → ModuleType

@@ -9,7 +9,7 @@ use Rattle.switch.specs.Conduction.{Value}
 use Rattle.switch.specs.Modules.{ModuleType}
 use Rattle.circuit.specs.Limits.{mostBytes}
 use Rattle.circuit.specs.Fields.{Cut, clean, broken, field, cutFrom, twoBytes}
-use Rattle.circuit.specs.Circuit.{Instance, Listed, faultCount}
+use Rattle.circuit.specs.Circuit.{Circuit, Instance, Listed}
 use Rattle.circuit.specs.Known.{typeIn, edgeIn, listedIn, instanceIn, vectorIn, latest, withEdge, edgeAdded, tagOf}
 use Rattle.circuit.specs.Table.{Test, Verdict, passes, refusedAt, firstOf, notComplementary, isEmpty, isUnknown, inputsTests, typeTests, edgeTests, bridgeTests, instanceTests, vectorTests}
 use Rattle.circuit.specs.Reading.{Reading, accepted, refusal, unless}
@@ -47,9 +47,13 @@ abbrev pub bridgeStage : List Listed → Cut → Stage (List Listed)
 bridgeStage =
     section 4 (λ (bs : List Listed). bridgeTests (length bs)) (λ (bs : List Listed) (body : List ℕ). bs ++ (listedIn body ∷ []))
 
+-- the circuit when these instances are read, before any vector
+abbrev pub readTo : ℕ → List ModuleType → List Listed → List Instance → Circuit
+readTo P types bridges instances = record { inputs = P; types = types; bridges = bridges; instances = instances; vectors = [] }
+
 abbrev pub instanceStage : ℕ → List ModuleType → List Listed → List Instance → Cut → Stage (List Instance)
 instanceStage P types bridges =
-    section 5 (λ (is : List Instance). instanceTests P types bridges (length is) (faultCount types bridges is))
+    section 5 (λ (is : List Instance). instanceTests (readTo P types bridges is))
     (λ (is : List Instance) (body : List ℕ). is ++ (instanceIn body ∷ []))
 
 abbrev pub vectorStage : ℕ → List (List Value) → Cut → Stage (List (List Value))

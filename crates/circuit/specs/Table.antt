@@ -13,7 +13,7 @@ use Rattle.circuit.specs.Limits.{mostTypes, mostEdges, mostBridges, most
 use Rattle.circuit.specs.Fields.{Field, twoBytes}
 use Rattle.circuit.specs.Circuit.{Circuit, Listed, Choice, exhaustive, no-faults, list, typeOfInstance, userList, chosenSize, faultCount}
 use Rattle.circuit.specs.Numbers.{signed, choiceInRange, referenceGood}
-use Rattle.circuit.specs.Known.{Known, Tag, inputs-tag, type-tag, edge-tag, bridge-tag, instance-tag, vector-tag, no-tag, tagOf, edgeIn, instanceIn, latest}
+use Rattle.circuit.specs.Known.{Known, Tag, inputs-tag, type-tag, edge-tag, bridge-tag, instance-tag, vector-tag, no-tag, rank, tagOf, edgeIn, instanceIn, latest}
 
 -- a test of the table: its number, whether it refuses, and the place that it gives
 pub record Test : Type 0 where
@@ -48,13 +48,7 @@ misplaced previous no-tag = false
 -- ---- number 9: a type is judged when a tag other than 3 has passed 4, or at the end of the file before 14
 
 unfoldable pub isEdge : Tag → Bool
-isEdge inputs-tag = false
-isEdge type-tag = false
-isEdge edge-tag = true
-isEdge bridge-tag = false
-isEdge instance-tag = false
-isEdge vector-tag = false
-isEdge no-tag = false
+isEdge tag = eqb (rank tag) 3
 
 -- the field before was a type's or one of its edges, so that the latest type has not been judged
 unfoldable pub unjudged : ℕ → Bool
@@ -128,18 +122,20 @@ bridgeTests count at body =
     ∷ test 7 (not (bridgeInRange (getD body 0 0) (getD body 1 0) (getD body 2 0) (getD body 3 0))) at
     ∷ []
 
--- with P inputs, after `count` instances with `faults` faults
-unfoldable pub instanceTests : ℕ → List ModuleType → List Listed → ℕ → ℕ → ℕ → List ℕ → List Test
-instanceTests P types bridges count faults at body =
+-- in a circuit as far as it is read
+unfoldable pub instanceTests : Circuit → ℕ → List ℕ → List Test
+instanceTests c at body =
     let i = instanceIn body in
-    let t = typeOfInstance types i in
+    let t = typeOfInstance (c .types) i in
+    let count = length (c .instances) in
+    let faults = faultCount (c .types) (c .bridges) (c .instances) in
     test 5 (not (eqb (length body % 2) 0 && between 4 26 (length body))) at
     ∷ test 6 (leb mostInstances count) at
-    ∷ test 7 (not (between 1 (length types) (i .type) && choiceInRange (signed 128 (getD body 1 0)))) at
-    ∷ test 10 (not (eqb (length (i .references)) (t .labels) && allOf (referenceGood P count) (i .references))) at
-    ∷ test 11 (listUnsuited t bridges (i .choice)) at
-    ∷ test 12 (listEmpty bridges (i .choice)) at
-    ∷ test 13 (ltb mostFaults (faults + chosenSize t bridges (i .choice))) at
+    ∷ test 7 (not (between 1 (length (c .types)) (i .type) && choiceInRange (signed 128 (getD body 1 0)))) at
+    ∷ test 10 (not (eqb (length (i .references)) (t .labels) && allOf (referenceGood (c .inputs) count) (i .references))) at
+    ∷ test 11 (listUnsuited t (c .bridges) (i .choice)) at
+    ∷ test 12 (listEmpty (c .bridges) (i .choice)) at
+    ∷ test 13 (ltb mostFaults (faults + chosenSize t (c .bridges) (i .choice))) at
     ∷ []
 
 -- with P inputs, after `count` vectors
@@ -155,21 +151,14 @@ bodyTests inputs-tag c at body = inputsTests at body
 bodyTests type-tag c at body = typeTests (length (c .types)) at body
 bodyTests edge-tag c at body = edgeTests (latest (c .types)) at body
 bodyTests bridge-tag c at body = bridgeTests (length (c .bridges)) at body
-bodyTests instance-tag c at body =
-    instanceTests (c .inputs) (c .types) (c .bridges) (length (c .instances)) (faultCount (c .types) (c .bridges) (c .instances)) at body
+bodyTests instance-tag c at body = instanceTests c at body
 bodyTests vector-tag c at body = vectorTests (c .inputs) (length (c .vectors)) at body
 bodyTests no-tag c at body = []
 
 -- ---- all tests of a field, and those of the end of the file
 
 unfoldable pub isUnknown : Tag → Bool
-isUnknown inputs-tag = false
-isUnknown type-tag = false
-isUnknown edge-tag = false
-isUnknown bridge-tag = false
-isUnknown instance-tag = false
-isUnknown vector-tag = false
-isUnknown no-tag = true
+isUnknown tag = eqb (rank tag) 7
 
 unfoldable pub fieldTests : Known → Field → List Test
 fieldTests known f =

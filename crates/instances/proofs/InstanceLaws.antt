@@ -25,6 +25,7 @@ use Rattle.circuit.specs.Numbers.{signed, choiceOf, choiceInRange, referenceGoo
 use Rattle.circuit.specs.Known.{referencesIn, instanceIn}
 use Rattle.circuit.specs.Records.{padded, unusedEdge, unusedType, typeRecord}
 use Rattle.circuit.specs.Table.{Test, passes, firstOf, listUnsuited, listEmpty, instanceTests}
+use Rattle.circuit.specs.Stages.{readTo}
 use Rattle.bridges.specs.ListSums.{topNode, labelsNamed, most, listsOf}
 use Rattle.instances.specs.Choices.{listNamed, chosenOf, givenBy}
 use Rattle.instances.specs.ReadInstances.{shapesOf, gatheredTests, InstanceFits, TypesAndLists}
@@ -160,11 +161,12 @@ module _ {types : List ModuleType} {bridges : List Listed} {typeCount : ℕ} {no
       (given t bridges b)
 
   -- and the tests on it are those of the table
-  pub gathered : (body : List ℕ) (at P k : ℕ) (gives : Chosen) (count faults : ℕ) → k ≡ typeOfInstance types (instanceIn body) .labels
+  pub gathered : (body : List ℕ) (at P k : ℕ) (gives : Chosen) (is : List Instance) (count faults : ℕ)
+      → count ≡ length is → faults ≡ faultCount types bridges is → k ≡ typeOfInstance types (instanceIn body) .labels
       → gives ≡ meant (typeOfInstance types (instanceIn body)) bridges (instanceIn body .choice)
-      → gatheredTests body at P typeCount k gives count faults ≡ instanceTests P types bridges count faults at body
+      → gatheredTests body at P typeCount k gives count faults ≡ instanceTests (readTo P types bridges is) at body
   unfolding gatheredTests instanceTests instanceIn
-  gathered body at P k gives count faults ek eg = rw (told .counted, ek, eg)
+  gathered body at P k gives is count faults ec ef ek eg = rw (told .counted, ec, ef, ek, eg)
 
 -- ---- an instance field that passes its tests
 

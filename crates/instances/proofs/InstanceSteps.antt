@@ -14,7 +14,7 @@ use Rattle.circuit.specs.Table.{Test, passes, firstOf, instanceTests}
 use Rattle.circuit.specs.Records.{unusedInstance, instanceRecord}
 use Rattle.circuit.specs.Refusals.{verdictOf, refusalNumber, refusalPlace, numberedVerdict}
 use Rattle.circuit.specs.Verdicts.{isRefused}
-use Rattle.circuit.specs.Stages.{instanceStage, stageOf}
+use Rattle.circuit.specs.Stages.{readTo, instanceStage, stageOf}
 use Rattle.fields.specs.Steps.{bodyOf, FieldAt, NextIs}
 use Rattle.instances.specs.ReadInstances.{InstancesRead}
 use Rattle.circuit.specs.declared.Instance.{Instance as InstanceRecord}
@@ -27,7 +27,7 @@ use Rattle.fields.proofs.Gathering.{SoFar, none-yet, stops, fails, one-more}
 use Rattle.instances.proofs.InstanceLaws.{ShapesAndLists, faults-more}
 
 abbrev testsAfter : ℕ → List ModuleType → List Listed → List Instance → ℕ → List ℕ → List Test
-testsAfter P types bridges is = instanceTests P types bridges (length is) (faultCount types bridges is)
+testsAfter P types bridges is = instanceTests (readTo P types bridges is)
 
 -- some instances are read, they and their faults stand in the record, and the stage goes on from them
 pub record InstancesSoFar (file : List ℕ) (from P : ℕ) (types : List ModuleType) (bridges : List Listed) (all : List InstanceRecord)
@@ -74,16 +74,13 @@ module _ {file : List ℕ} {from P : ℕ} {types : List ModuleType} {bridges : L
   instances-stop other = instances-read Nothing (stops (sofar .so) other)
 
   module _ (f : FieldRecord) (here : FieldAt file at f) (own : f .tag ≡ 5) (r : Refusal)
-      (verdict : verdictOf r ≡ firstOf (instanceTests P types bridges count faults (f .at) (bodyOf file f))) where
+      (verdict : verdictOf r ≡ firstOf (testsAfter P types bridges (sofar .instances) (f .at) (bodyOf file f))) where
     abbrev one : Instance
     one = instanceIn (bodyOf file f)
 
-    of-read : verdictOf r ≡ firstOf (testsAfter P types bridges (sofar .instances) (f .at) (bodyOf file f))
-    of-read = verdict ∙ cc (sofar .so .counted, sofar .summed)
-
     pub instances-refused : isRefused (verdictOf r) ≡ true
         → InstancesRead file from P types bridges (record { refusal = r; at = at; count = count; faults = faults; all = all })
-    instances-refused e = instances-read r (fails (sofar .so) f here own (verdictOf r) of-read e)
+    instances-refused e = instances-read r (fails (sofar .so) f here own (verdictOf r) verdict e)
 
     pub one-instance-more : verdictOf r ≡ passes → count < mostInstances
         → (made : InstanceRecord) → made ≡ instanceRecord one
@@ -91,6 +88,6 @@ module _ {file : List ℕ} {from P : ℕ} {types : List ModuleType} {bridges : L
         → InstancesSoFar file from P types bridges (set all count made) (count + 1) (faults + more) (f .body + f .len)
     one-instance-more e room made is more sum = record {
       instances = sofar .instances ++ (one ∷ []);
-      so = rw is (one-more (sofar .so) f here own (verdictOf r) of-read e room);
+      so = rw is (one-more (sofar .so) f here own (verdictOf r) verdict e room);
       summed = let summed = sofar .summed in omega (arith, faults-more types bridges (sofar .instances) one);
     }

@@ -11,6 +11,7 @@ use Rattle.switch.specs.Modules.{ModuleType}
 use Rattle.circuit.specs.Circuit.{Listed, numbered, noType, typeOfInstance}
 use Rattle.circuit.specs.Known.{instanceIn}
 use Rattle.circuit.specs.Table.{passes, firstOf, instanceTests}
+use Rattle.circuit.specs.Stages.{readTo}
 use Rattle.circuit.specs.Refusals.{verdictOf}
 use Rattle.fields.specs.Steps.{bodyOf, NextIs, FieldAt}
 use Rattle.instances.specs.ReadInstances.{TypesAndLists, InstancesRead}
@@ -155,20 +156,17 @@ instance-verdict-requires c κs =
 
 -- the verdict is that of the table
 judged : (c : tie.After-instance-verdict Inv-loop μ-loop) (ts : List ModuleType) (bs : List Listed)
-    → Told (loop-of (named (c .before))) ts bs
+    → (told : Told (loop-of (named (c .before))) ts bs)
     → verdictOf (c .instance-verdict .result)
     ≡ firstOf
     (instanceTests
-    (start-of (named (c .before)) .args .inputs)
-    ts
-    bs
-    (loop-of (named (c .before)) .loop .count)
-    (loop-of (named (c .before)) .loop .faults)
+    (readTo (start-of (named (c .before)) .args .inputs) ts bs (loop-of (named (c .before)) .loop .inv .read ts bs told .instances))
     (field-at (named (c .before)) .at)
     (body-at (named (c .before))))
 judged c ts bs told =
+    let read = loop-of (named (c .before)) .loop .inv .read ts bs told in
     c .instance-verdict .ensures
-    ∙ ap firstOf (gathered told _ _ _ _ _ _ _ (labelled (c .before) ts bs told) (chose (c .before) ts bs told))
+    ∙ ap firstOf (gathered told _ _ _ _ _ _ _ _ (read .so .counted) (read .summed) (labelled (c .before) ts bs told) (chose (c .before) ts bs told))
 
 refuses-requires : tie.Need-refuses-requires Inv-loop μ-loop
 refuses-requires c κs = search needs

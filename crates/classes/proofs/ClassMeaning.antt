@@ -12,7 +12,7 @@ use Rattle.switch.specs.Bridges.{Bridge}
 use Rattle.circuit.specs.Circuit.{Circuit, Instance, faultsOf}
 use Rattle.circuit.specs.Laws.{CircuitGood}
 use Rattle.grading.specs.Rows.{Row, rowsOfInstance}
-use Rattle.grading.specs.Classes.{sameClass, classAmong, largest, classesAfter, classesOf}
+use Rattle.grading.specs.Classes.{sameClass, classAmongBy, classAmong, largest, classesAfterBy, classesAfter, classesBy, classesOf}
 use Rattle.grading.specs.Codes.{codeOf}
 use Rattle.grading.proofs.Everywhere.{Every, every-nil, every-cons, every-append}
 use Rattle.grading.proofs.FaultRanges.{faults-fit, BridgeFits}
@@ -36,7 +36,7 @@ count-largest count (n ∷ ns) = omega (arith, count-largest (max count n) ns)
 -- rows that do not match are passed over
 among-skips : (row : Row) (new : ℕ) (old : List Row) (ms : List ℕ) (rest : List Row) (ns : List ℕ) → length old ≡ length ms
     → Every (λ (r : Row). sameClass r row ≡ false) old → classAmong row new (old ++ rest) (ms ++ ns) ≡ classAmong row new rest ns
-unfolding classAmong
+unfolding classAmongBy
 among-skips row new [] [] rest ns e other = refl
 among-skips row new [] (m ∷ ms) rest ns e other = absurd (omega arith)
 among-skips row new (r ∷ rs) [] rest ns e other = absurd (omega arith)
@@ -58,7 +58,7 @@ module _ (inst : Instance) (n : ℕ) where
   -- among rows of one instance the search is by key
   among-keys : (b : Bridge) → BridgeFits b → (new : ℕ) (ds : List Bridge) → Every BridgeFits ds → (ns : List ℕ)
       → classAmong (rowAt b) new (map rowAt ds) ns ≡ classByKey (keyAt b) new (map keyAt ds) ns
-  unfolding classAmong classByKey sameClass
+  unfolding classAmongBy classByKey sameClass
   among-keys b p new [] q ns = refl
   among-keys b p new (d ∷ ds) q [] = refl
   among-keys b p new (d ∷ ds) q (m ∷ ms) =
@@ -77,7 +77,7 @@ module _ (inst : Instance) (n : ℕ) where
       → (done : List Bridge) → Every BridgeFits done → (ns : List ℕ) (count : ℕ) → count ≡ largest (ms ++ ns)
       → (bs : List Bridge) → Every BridgeFits bs
       → classesAfter (old ++ map rowAt done) (ms ++ ns) (map rowAt bs) ≡ ms ++ numberAfter (map keyAt done) ns count (map keyAt bs)
-  unfolding classesAfter numberAfter
+  unfolding classesAfterBy numberAfter
   step old ms e other done p ns count k [] q = refl
   step old ms e other done p ns count k (b ∷ bs) q =
       let class : ℕ = classByKey (keyAt b) (suc count) (map keyAt done) ns in
@@ -123,7 +123,7 @@ module _ (c : Circuit) (good : CircuitGood c) (i : ℕ) (within : i < length (c 
 
   pub class-step : classesOf (rowsBefore c i ++ rowsOfInstance (c .types) (c .bridges) (suc i) inst)
       ≡ classesOf (rowsBefore c i) ++ numbers (largest (classesOf (rowsBefore c i))) (faultKeys c (suc i) inst)
-  unfolding classesOf numbers rowsOfInstance
+  unfolding classesBy numbers rowsOfInstance
   class-step =
       classes-append [] [] before new
       ∙ ap₂ (λ (l : List Row) (m : List ℕ). classesAfter l m new) (sym (append-nil before)) (sym (append-nil (classesAfter [] [] before)))

@@ -17,7 +17,7 @@ use Rattle.switch.specs.Bridges.{nodes}
 use Rattle.circuit.specs.Circuit.{Circuit, Instance, joinLists}
 use Rattle.circuit.specs.Laws.{CircuitGood}
 use Rattle.grading.specs.Rows.{Row, rowsOfInstance, cell, markOf, rowWords}
-use Rattle.grading.specs.Classes.{classAmong, largest, classesOf, hasMark, foundAmong}
+use Rattle.grading.specs.Classes.{classAmong, largest, classesOf, hasMarkBy, hasMark, foundAmong}
 use Rattle.grading.specs.Statements.{RowOf}
 use Rattle.grading.proofs.Everywhere.{Every, every-at, every-first}
 use Rattle.grading.proofs.MatrixLaws.{length-matrix, word-at}
@@ -36,7 +36,7 @@ mark-le-one c row v = ofBool-le-one (cell c (getD (c .vectors) v []) row)
 
 pub row-marked : (c : Circuit) → length (c .vectors) ≤ 256 → (rows : List Row) (matrix : List ℕ) → WordsOf c rows matrix
     → (r : ℕ) (none : Row) → r < length rows → eqb (rowMarked matrix r) 0 ≡ not (hasMark c (getD rows r none))
-unfolding rowMarked hasMark rowWords
+unfolding rowMarked hasMarkBy rowWords
 row-marked c few rows matrix words r none h =
     let row : Row = getD rows r none in
     let f : ℕ → ℕ = markOf c row in

@@ -14,7 +14,7 @@ use Rattle.words.specs.Bits.{ofBool, sumTo}
 use Rattle.words.proofs.Laws.{ofBool-le-one, set-bit, bit-set}
 use Rattle.circuit.specs.Circuit.{Circuit}
 use Rattle.grading.specs.Rows.{Row, rowsOf}
-use Rattle.grading.specs.Classes.{classAmong, largest, classesAfter, classesOf, classFound, foundAmong, classCount, foundCount}
+use Rattle.grading.specs.Classes.{classAmong, largest, classesAfterBy, classesAfter, classesBy, classesOf, classFound, foundBy, classCount, foundCount}
 use Rattle.grading.specs.Grading as meant
 use Rattle.grading.specs.Promise.{countsOf}
 use Rattle.grading.specs.Statements.{RowOf, ClassNumbers}
@@ -87,7 +87,7 @@ class-next row before classes long = ⊎-elim matched fresh (searched row row (s
 
 rising-after : (before : List Row) (classes : List ℕ) (rows : List Row) → length classes ≡ length before → Rising classes
     → Rising (classesAfter before classes rows)
-unfolding classesAfter
+unfolding classesAfterBy
 rising-after before classes [] long so-far = so-far
 rising-after before classes (row ∷ rows) long so-far =
     let class : ℕ = classAmong row (suc (largest classes)) before classes in
@@ -100,7 +100,7 @@ unfolding largest
 rising-none = record { rises = λ r n h. absurd (not-suc-le-zero h); each = λ n p q. absurd (omega arith) }
 
 rising : (c : Circuit) → Rising (classesOf (rowsOf c))
-unfolding classesOf
+unfolding classesBy
 rising c = rising-after [] [] (rowsOf c) refl rising-none
 
 -- ---- a graded call
@@ -141,7 +141,7 @@ module _ (call : Call) (c : Circuit) (g : GradedAs call c) where
   foundAt n = ofBool (classFoundAt n)
 
   found-sum : foundCount c ≡ sumTo (classCount c) foundAt
-  unfolding foundCount foundAmong
+  unfolding foundCount foundBy
   found-sum = refl
 
   same : (none : Row) (r s : ℕ) → r < length (rowsOf c) → s < length (rowsOf c)

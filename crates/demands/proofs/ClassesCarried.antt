@@ -11,7 +11,7 @@ use Rattle.words.proofs.Laws.{ofBool-le-one, set-bit, bit-set}
 use Rattle.words.proofs.Sums.{sum-into, sum-ones}
 use Rattle.circuit.specs.Circuit.{Circuit}
 use Rattle.grading.specs.Rows.{Row, rowsOf, markOf}
-use Rattle.grading.specs.Classes.{sameClass, classesOf, classFound, foundAmong, classCount, foundCount}
+use Rattle.grading.specs.Classes.{sameClass, classesOf, classFound, foundBy, classCount, foundCount}
 use Rattle.grading.specs.Statements.{RowOf, SameClassIsEquivalence, classNumber}
 use Rattle.grading.proofs.Everywhere.{every-at, place-of}
 use Rattle.grading.proofs.SameClass.{same-class-is-equivalence, classes-have-equal-marks}
@@ -140,7 +140,7 @@ module _ (c all d : Circuit) (carries : Carries c all d) where
   foundAt e n = ofBool (classFound e (suc n) (rowsOf e) (classesOf (rowsOf e)))
 
   pub found-carried : foundCount c ≤ foundCount d
-  unfolding foundCount foundAmong
+  unfolding foundCount foundBy
   found-carried =
       sum-into (classCount c) (classCount d) (foundAt c) (foundAt d) To
       (λ i. ofBool-le-one (classFound c (suc i) (rowsOf c) (classesOf (rowsOf c)))) goes one-each

@@ -19,11 +19,11 @@ use Rattle.circuit.specs.Table.{firstOf, misplaced, isEdge, unjudged, notComple
 use Rattle.circuit.specs.Reading.{unless, readFrom, readingOf}
 use Rattle.grading.specs.Values.{valueAt, labelValues, outputsAfter, outputsOf}
 use Rattle.grading.specs.Rows.{rowsOfInstance, rowsFrom, rowsOf, rowValues, cell, markOf, rowWords, matrixOf}
-use Rattle.grading.specs.Classes.{sameReference, sameLabel, sameBridge, sameClass, classAmong, largest, classesAfter, classesOf, hasMark, classFound, foundAmong, classCount, foundCount}
+use Rattle.grading.specs.Classes.{sameReference, sameLabel, sameBridge, sameClass, classAmongBy, largest, classesAfterBy, classesBy, hasMarkBy, classFoundBy, foundBy, classCount, foundCount}
 use Rattle.grading.specs.Grading.{countsOfCircuit, gradingOfCircuit, afterReading, gradingOf, countsIn, numberIn, placeIn, over, matrixAfter, classesAfterGrading}
 use Rattle.grading.specs.Promise as promise
 use Rattle.circuit.specs.Refusals.{refusalNumber}
-use Rattle.demands.specs.Graders.{refusalOf, refusing, outcomeOf, gradesBy, classAmongBy, classesAfterBy, classesBy, hasMarkBy, classFoundBy, foundBy, workBy, marksBy, rightWork, rightly}
+use Rattle.demands.specs.Graders.{refusalOf, refusing, outcomeOf, gradesBy, workBy, marksBy, rightWork, rightly}
 
 -- to unfold a definition is to unfold what its line names
 unfoldable pub computing : Unit {0}
@@ -36,14 +36,14 @@ unfolding bit pack word sumTo table upTo rowOf
     firstOf misplaced isEdge unjudged notComplementary bridgeInRange bridgeSuits isEmpty listUnsuited listEmpty isLetter
     inputsTests typeTests edgeTestsOf edgeTests bridgeTests instanceTests vectorTests bodyTests isUnknown fieldTests endTests
     unless readFrom readingOf valueAt labelValues outputsAfter outputsOf rowsOfInstance rowsFrom rowsOf rowValues cell markOf rowWords matrixOf
-    sameReference sameLabel sameBridge sameClass classAmong largest classesAfter classesOf hasMark classFound foundAmong classCount foundCount
+    sameReference sameLabel sameBridge sameClass classAmongBy largest classesAfterBy classesBy hasMarkBy classFoundBy foundBy classCount foundCount
     countsOfCircuit gradingOfCircuit afterReading gradingOf countsIn numberIn placeIn over matrixAfter classesAfterGrading
 computing = tt
 
 -- and what a grader of specs/Graders does
 unfoldable pub grader-computing : Unit {0}
 unfolding computing refusalNumber promise.numberOf promise.countsOf
-    refusalOf refusing outcomeOf gradesBy classAmongBy classesAfterBy classesBy hasMarkBy classFoundBy foundBy workBy marksBy rightWork rightly
+    refusalOf refusing outcomeOf gradesBy workBy marksBy rightWork rightly
 grader-computing = tt
 
 -- buffers that hold zeros, enough for 16 rows

@@ -15,7 +15,7 @@ use Rattle.switch.proofs.Paths.{both}
 use Rattle.circuit.specs.Circuit.{Circuit}
 use Rattle.circuit.proofs.Tested.{holds}
 use Rattle.grading.specs.Rows.{Row, rowsOf, cell, markOf}
-use Rattle.grading.specs.Classes.{classesOf, hasMark, classFound}
+use Rattle.grading.specs.Classes.{classesOf, hasMarkBy, hasMark, classFoundBy, classFound}
 use Rattle.grading.proofs.ClassNumbering.{class-numbers}
 use Rattle.grading.proofs.FoundLaws.{found-by}
 use Rattle.grading.proofs.SameClass.{or-cases}
@@ -29,13 +29,13 @@ module _ (c : Circuit) (row : Row) where
   mark-le-one v = ofBool-le-one (cell c (getD (c .vectors) v []) row)
 
   has-mark : T (hasMark c row) → (v : ℕ) × (v < length (c .vectors)) × (markOf c row v ≡ 1)
-  unfolding hasMark
+  unfolding hasMarkBy
   has-mark t =
       let found = sum-some (length (c .vectors)) (markOf c row) (ltb→lt 0 (sumTo (length (c .vectors)) (markOf c row)) t) in
       (found .0, found .1, omega (arith, found .2, mark-le-one (found .0)))
 
   mark-had : (v : ℕ) → v < length (c .vectors) → markOf c row v ≡ 1 → hasMark c row ≡ true
-  unfolding hasMark
+  unfolding hasMarkBy
   mark-had v h e = lt-ltb 0 (sumTo (length (c .vectors)) (markOf c row)) (omega (arith, sum-part (length (c .vectors)) (markOf c row) v h))
 
 -- ---- found classes
@@ -51,7 +51,7 @@ module _ (c : Circuit) where
     pub mark : markOf c (getD rows place noRow) vector ≡ 1
 
   found-shown : (n : ℕ) (rows : List Row) (classes : List ℕ) → T (classFound c n rows classes) → ShownIn n rows classes
-  unfolding classFound
+  unfolding classFoundBy
   found-shown n [] classes t = absurd t
   found-shown n (r ∷ rs) [] t = absurd t
   found-shown n (r ∷ rs) (m ∷ ms) t =

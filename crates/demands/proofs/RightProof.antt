@@ -1,26 +1,23 @@
 -- `rightly` meets the promise of `grade`: each test of the table has an answer that tells its number and its place, and the work on a circuit is the definitions'.
 -- So every input is answered (demand 1). Assumes nothing.
-use Prim.Native.Nat.{ℕ, suc}
-use mathlib.Core.Path.{_≡_, refl, ap, subst, _∙_}
-use mathlib.Core.Bool.{Bool, true, false, cond, _&&_, _||_}
+use Prim.Native.Nat.{ℕ}
+use mathlib.Core.Path.{_≡_, refl, subst}
+use mathlib.Core.Bool.{Bool, true, false, cond}
 use mathlib.Core.List.{List, [], _∷_, _++_}
-use lib.Dec.{eqb}
 use lib.ListN.{length}
-use Rattle.words.specs.Bits.{ofBool}
-use Rattle.words.proofs.Counting.{sum-cong}
 use Rattle.circuit.specs.Fields.{Field, Cut, clean, broken, field, cutFrom}
 use Rattle.circuit.specs.Circuit.{Circuit}
 use Rattle.circuit.specs.Known.{Known, start, knownAfter, Tag, inputs-tag, type-tag, edge-tag, bridge-tag, instance-tag, vector-tag, no-tag, tagOf}
 use Rattle.circuit.specs.Table.{Test, Verdict, passes, refusedAt, firstOf, inputsTests, typeTests, edgeTests, edgeTestsOf, bridgeTests, instanceTests, vectorTests, bodyTests, fieldTests, endTests}
 use Rattle.circuit.specs.Refusals.{refusalNumber, refusalPlace}
-use Rattle.grading.specs.Rows.{Row, rowsOf, markOf, rowWords, matrixOf}
-use Rattle.grading.specs.Classes.{sameClass, classAmong, largest, classesAfter, classesOf, hasMark, classFound, foundAmong, classCount, foundCount}
+use Rattle.grading.specs.Rows.{rowWords, matrixOf}
+use Rattle.grading.specs.Classes.{classCount, foundCount}
 use Rattle.grading.specs.Grading.{noCounts, Grading, graded, gradingOf, countsIn, numberIn, placeIn, matrixAfter, classesAfterGrading}
 use Rattle.grading.specs.Grading.{refused}
 use Rattle.grading.specs.Grading as grading
 use Rattle.grading.specs.Promise.{numberOf, placeOf, countsOf, Meets}
 use Rattle.demands.specs.One.{bufferTests, testsFrom, tableOf, EveryInputIsAnswered}
-use Rattle.demands.specs.Graders.{Outcome, called, refusalOf, refusing, outcomeOf, gradesBy, classAmongBy, classesAfterBy, classesBy, hasMarkBy, classFoundBy, foundBy, workBy, rightWork, rightly, RightlyIsRight}
+use Rattle.demands.specs.Graders.{Outcome, called, refusalOf, refusing, outcomeOf, gradesBy, workBy, rightWork, rightly, RightlyIsRight}
 use Rattle.demands.proofs.GradingVerdicts.{verdictIn, table-tells}
 
 -- ---- each test of the table has an answer
@@ -91,51 +88,13 @@ told-grading : (file : List ℕ) (words entries : ℕ) → VerdictTold (verdictI
 told-grading file words entries =
     subst VerdictTold (table-tells file words entries) (told-first (tableOf file words entries) (told-table file words entries))
 
--- ---- the work on a circuit is the definitions'
-
-among-same : (row : Row) (new : ℕ) (before : List Row) (classes : List ℕ) → classAmongBy sameClass row new before classes ≡ classAmong row new before classes
-unfolding classAmongBy classAmong
-among-same row new [] classes = refl
-among-same row new (r ∷ rs) [] = refl
-among-same row new (r ∷ rs) (n ∷ ns) = ap (λ (later : ℕ). cond (sameClass r row) n later) (among-same row new rs ns)
-
-after-same : (before : List Row) (classes : List ℕ) (rows : List Row) → classesAfterBy sameClass before classes rows ≡ classesAfter before classes rows
-unfolding classesAfterBy classesAfter
-after-same before classes [] = refl
-after-same before classes (row ∷ rows) =
-    ap (λ (n : ℕ). classesAfterBy sameClass (before ++ (row ∷ [])) (classes ++ (n ∷ [])) rows) (among-same row (suc (largest classes)) before classes)
-    ∙ after-same (before ++ (row ∷ [])) (classes ++ (classAmong row (suc (largest classes)) before classes ∷ [])) rows
-
-classes-same : (rows : List Row) → classesBy sameClass rows ≡ classesOf rows
-unfolding classesBy classesOf
-classes-same rows = after-same [] [] rows
-
-found-one : (c : Circuit) (n : ℕ) (rows : List Row) (classes : List ℕ)
-    → classFoundBy (length (c .vectors)) (markOf c) n rows classes ≡ classFound c n rows classes
-unfolding classFoundBy classFound hasMarkBy hasMark
-found-one c n [] classes = refl
-found-one c n (r ∷ rs) [] = refl
-found-one c n (r ∷ rs) (m ∷ ms) = ap (λ (later : Bool). eqb m n && hasMark c r || later) (found-one c n rs ms)
-
-found-same : (c : Circuit) (rows : List Row) (classes : List ℕ) (count : ℕ)
-    → foundBy (length (c .vectors)) (markOf c) rows classes count ≡ foundAmong c rows classes count
-unfolding foundBy foundAmong
-found-same c rows classes count = sum-cong count _ _ (λ n h. ap ofBool (found-one c (suc n) rows classes))
-
 -- ---- so every file's outcome meets the promise
 
 outcome-meets : (g : Grading) → VerdictTold (verdictIn g) → (matrix classes : List ℕ)
     → let out : Outcome = outcomeOf rightWork g matrix classes in Meets g (out .answer) matrix classes (out .matrix) (out .classes)
 unfolding outcomeOf rightWork workBy rowWords matrixOf classCount foundCount VerdictTold verdictIn
     numberOf placeOf countsOf numberIn placeIn countsIn matrixAfter classesAfterGrading grading.countsOfCircuit
-outcome-meets (graded c) told matrix classes =
-    let same = classes-same (rowsOf c) in record {
-      number = refl;
-      place = refl;
-      counts = rw (same, found-same c (rowsOf c) (classesOf (rowsOf c)) (largest (classesOf (rowsOf c)))) refl;
-      matrix-at-exit = refl;
-      classes-at-exit = rw same refl;
-    }
+outcome-meets (graded c) told matrix classes = record { number = refl; place = refl; counts = refl; matrix-at-exit = refl; classes-at-exit = refl }
 outcome-meets (refused number place) told matrix classes =
     record { number = told .0; place = told .1; counts = told .2; matrix-at-exit = refl; classes-at-exit = refl }
 

@@ -1,10 +1,10 @@
 -- Graders as functions, to try against the promise of `grade`: what they answer and leave in the buffers, a right one, and where a wrong one may differ.
-use Prim.Native.Nat.{ℕ, suc}
-use mathlib.Core.Bool.{Bool, false, cond, _&&_, _||_}
-use mathlib.Core.List.{List, [], _∷_, _++_, map}
-use lib.Dec.{eqb, ltb}
+use Prim.Native.Nat.{ℕ}
+use mathlib.Core.Bool.{Bool, cond}
+use mathlib.Core.List.{List, [], map}
+use lib.Dec.{eqb}
 use lib.ListN.{length, getD}
-use Rattle.words.specs.Bits.{ofBool, sumTo}
+use Rattle.words.specs.Bits.{ofBool}
 use Rattle.words.specs.Rows.{rowOf}
 use Rattle.switch.specs.Conduction.{Value}
 use Rattle.switch.specs.Modules.{ModuleType}
@@ -13,7 +13,7 @@ use Rattle.circuit.specs.Circuit.{Circuit, typeOfInstance, joinLists}
 use Rattle.circuit.specs.declared.refusal.Refusal.{Refusal}
 use Rattle.circuit.specs.declared.refusal.Refusal.the-variants.{TooLong, Broken, UnknownTag, Misplaced, WrongLength, TooMany, OutOfRange, BadEnds, NotComplementary, BadReference, BridgeUnsuited, EmptyList, TooManyFaults, Unfinished}
 use Rattle.grading.specs.Rows.{Row, rowsOf, rowValues, markOf}
-use Rattle.grading.specs.Classes.{sameClass, largest}
+use Rattle.grading.specs.Classes.{sameClass, largest, classesBy, foundBy}
 use Rattle.grading.specs.Grading.{Grading, graded, refused, gradingOf, over}
 use Rattle.grading.specs.declared.Answer.{Answer}
 use Rattle.grading.specs.declared.Answer.the-variants.{Graded, Refused, ShortMatrix, ShortClasses}
@@ -80,33 +80,6 @@ unfoldable pub gradesBy : (Circuit → Work) → Grader
 gradesBy work file matrix classes = outcomeOf work (gradingOf file (length matrix) (length classes)) matrix classes
 
 -- ---- work by the marks of rows, their packing into words, and the test for one class
-
--- the class numbers by a test for one class, as `classesOf` gives them by `sameClass`
-unfoldable pub classAmongBy : (Row → Row → Bool) → Row → ℕ → List Row → List ℕ → ℕ
-classAmongBy same row new [] classes = new
-classAmongBy same row new (r ∷ rs) [] = new
-classAmongBy same row new (r ∷ rs) (n ∷ ns) = let later = classAmongBy same row new rs ns in cond (same r row) n later
-
-unfoldable pub classesAfterBy : (Row → Row → Bool) → List Row → List ℕ → List Row → List ℕ
-classesAfterBy same before classes [] = classes
-classesAfterBy same before classes (row ∷ rows) =
-    classesAfterBy same (before ++ (row ∷ [])) (classes ++ (classAmongBy same row (suc (largest classes)) before classes ∷ [])) rows
-
-unfoldable pub classesBy : (Row → Row → Bool) → List Row → List ℕ
-classesBy same rows = classesAfterBy same [] [] rows
-
--- has a row a mark under one of so many vectors
-unfoldable pub hasMarkBy : ℕ → (Row → ℕ → ℕ) → Row → Bool
-hasMarkBy vectors marks row = ltb 0 (sumTo vectors (marks row))
-
--- the number of found classes by the marks, as `foundCount` gives it by `markOf`
-unfoldable pub classFoundBy : ℕ → (Row → ℕ → ℕ) → ℕ → List Row → List ℕ → Bool
-classFoundBy vectors marks n [] classes = false
-classFoundBy vectors marks n (r ∷ rs) [] = false
-classFoundBy vectors marks n (r ∷ rs) (m ∷ ms) = eqb m n && hasMarkBy vectors marks r || classFoundBy vectors marks n rs ms
-
-unfoldable pub foundBy : ℕ → (Row → ℕ → ℕ) → List Row → List ℕ → ℕ → ℕ
-foundBy vectors marks rows classes count = sumTo count (λ (n : ℕ). ofBool (classFoundBy vectors marks (suc n) rows classes))
 
 -- how a row is packed: from the number of vectors and the marks, from 0
 abbrev pub Packing : Type 0

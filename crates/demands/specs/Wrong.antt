@@ -22,11 +22,11 @@ use Rattle.circuit.specs.Known.{Known, start, knownAfter}
 use Rattle.circuit.specs.Table.{Test, firstOf, fieldTests, endTests}
 use Rattle.circuit.specs.Reading.{Reading, accepted, refusal, unless}
 use Rattle.grading.specs.Rows.{Row, rowsOf, rowValues, markOf}
-use Rattle.grading.specs.Classes.{sameClass}
+use Rattle.grading.specs.Classes.{sameClass, hasMarkBy}
 use Rattle.grading.specs.Grading.{Grading, graded, refused, gradingOf, afterReading}
 use Rattle.grading.specs.declared.Answer.{Answer}
 use Rattle.demands.specs.Calls.{isGraded}
-use Rattle.demands.specs.Graders.{Grader, MeetsPromise, refusing, Work, outcomeOf, gradesBy, hasMarkBy, Packing, workBy, marksBy, rightWork, rightly}
+use Rattle.demands.specs.Graders.{Grader, MeetsPromise, refusing, Work, outcomeOf, gradesBy, Packing, workBy, marksBy, rightWork, rightly}
 
 -- only the marks are wrong
 abbrev pub marking : (Circuit → Row → ℕ → ℕ) → Grader

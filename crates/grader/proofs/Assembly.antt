@@ -30,7 +30,7 @@ use Rattle.circuit.proofs.Padding.{getD-padded}
 use Rattle.circuit.proofs.RangeLaws.{in-between}
 use Rattle.circuit.proofs.TypeLaws.{type-back, type-given}
 use Rattle.grading.specs.Rows.{Row, rowsOfInstance, rowsFrom, rowsOf, rowWords, matrixOf}
-use Rattle.grading.specs.Classes.{largest, classesAfter, classesOf, classFound, foundAmong, classCount, foundCount}
+use Rattle.grading.specs.Classes.{largest, classesAfterBy, classesBy, classesOf, classFound, foundBy, classCount, foundCount}
 use Rattle.grading.specs.Grading.{over, countsOfCircuit}
 use Rattle.grading.specs.Codes.{codeOf}
 use Rattle.grading.proofs.ValueLaws.{InstanceAt, good-at, type-at, type-ranges}
@@ -73,7 +73,7 @@ pub record Turned (c : Circuit) (matrix₀ classes₀ ones zeros matrix classes 
 
 -- no more classes are found than there are
 pub found-few : (c : Circuit) → CircuitGood c → (i : ℕ) → foundBefore c i ≤ 2048
-unfolding foundAmong
+unfolding foundBy
 found-few c good i =
     let rows : List Row = rowsBefore c i in
     omega (
@@ -120,7 +120,7 @@ module _ (c : Circuit) (m : CircuitRecord) (is : m ≡ circuitRecord c) where
 
   pub turned-none : (matrix classes ones zeros : List ℕ) → ones ≡ inputWords (onesOf (m .vectors)) ((m .«vector_count» + 63) / 64)
       → zeros ≡ inputWords (zerosOf (m .vectors)) ((m .«vector_count» + 63) / 64) → Turned c matrix classes ones zeros matrix classes 0 0 0 0
-  unfolding circuitRecord joinLists rowsFrom classesOf classesAfter largest foundAmong sumTo
+  unfolding circuitRecord joinLists rowsFrom classesBy classesAfterBy largest foundBy sumTo
   turned-none matrix classes ones zeros e g = record {
     inside = omega arith;
     ones-are = e ∙ ap (λ (x : CircuitRecord). inputWords (onesOf (x .vectors)) ((x .«vector_count» + 63) / 64)) is ∙ signals-start c .0;

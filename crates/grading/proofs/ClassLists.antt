@@ -7,19 +7,19 @@ use native.Mathlib.Nat.{zero-add}
 use native.Mathlib.Omega.{arith}
 use lib.ListN.{length, getD, take, drop, length-append, length-take, take-append-drop, List·getD-append}
 use Rattle.grading.specs.Rows.{Row}
-use Rattle.grading.specs.Classes.{sameClass, classAmong, largest, classesAfter, classesOf}
+use Rattle.grading.specs.Classes.{sameClass, classAmongBy, classAmong, largest, classesAfterBy, classesAfter, classesBy, classesOf}
 
 -- ---- lengths
 
 pub length-after : (before : List Row) (classes : List ℕ) (rows : List Row) → length (classesAfter before classes rows) ≡ length classes + length rows
-unfolding classesAfter
+unfolding classesAfterBy
 length-after before classes [] = omega arith
 length-after before classes (row ∷ rows) =
     let class : ℕ = classAmong row (suc (largest classes)) before classes in
     omega (arith, length-after (before ++ (row ∷ [])) (classes ++ (class ∷ [])) rows, length-append classes (class ∷ []))
 
 pub length-classes : (rows : List Row) → length (classesOf rows) ≡ length rows
-unfolding classesOf
+unfolding classesBy
 length-classes rows = length-after [] [] rows ∙ zero-add (length rows)
 
 -- ---- the largest number
@@ -39,7 +39,7 @@ at-most-largest (n ∷ ns) (suc r) = omega (arith, at-most-largest ns r)
 
 pub classes-append : (before : List Row) (classes : List ℕ) (xs ys : List Row)
     → classesAfter before classes (xs ++ ys) ≡ classesAfter (before ++ xs) (classesAfter before classes xs) ys
-unfolding classesAfter
+unfolding classesAfterBy
 classes-append before classes [] ys = rw append-nil
 classes-append before classes (x ∷ xs) ys =
     let class : ℕ = classAmong x (suc (largest classes)) before classes in
@@ -49,7 +49,7 @@ classes-append before classes (x ∷ xs) ys =
 -- later rows change no number
 pub classes-kept : (before : List Row) (classes : List ℕ) (rows : List Row) (r : ℕ) → r < length classes
     → getD (classesAfter before classes rows) r 0 ≡ getD classes r 0
-unfolding classesAfter
+unfolding classesAfterBy
 classes-kept before classes [] r h = refl
 classes-kept before classes (row ∷ rows) r h =
     let class : ℕ = classAmong row (suc (largest classes)) before classes in
@@ -58,7 +58,7 @@ classes-kept before classes (row ∷ rows) r h =
 
 -- a new number is at most one more than the largest, so there are no more numbers than rows
 among-most : (row : Row) (new : ℕ) (before : List Row) (classes : List ℕ) → classAmong row new before classes ≤ max new (largest classes)
-unfolding classAmong largest
+unfolding classAmongBy largest
 among-most row new [] classes = omega arith
 among-most row new (r ∷ rs) [] = omega arith
 among-most row new (r ∷ rs) (n ∷ ns) = go (sameClass r row) (among-most row new rs ns)
@@ -69,7 +69,7 @@ among-most row new (r ∷ rs) (n ∷ ns) = go (sameClass r row) (among-most row 
 
 largest-after : (before : List Row) (classes : List ℕ) (rows : List Row) → largest classes ≤ length classes
     → largest (classesAfter before classes rows) ≤ length classes + length rows
-unfolding classesAfter largest
+unfolding classesAfterBy largest
 largest-after before classes [] h = omega arith
 largest-after before classes (row ∷ rows) h =
     let class : ℕ = classAmong row (suc (largest classes)) before classes in
@@ -78,12 +78,12 @@ largest-after before classes (row ∷ rows) h =
     omega (arith, largest-after (before ++ (row ∷ [])) (classes ++ (class ∷ [])) rows most, length-append classes (class ∷ []))
 
 pub largest-most : (rows : List Row) → largest (classesOf rows) ≤ length rows
-unfolding classesOf largest
+unfolding classesBy largest
 largest-most rows = omega (arith, largest-after [] [] rows (omega arith))
 
 -- so the numbers of the first rows are the first numbers
 pub classes-first : (rows : List Row) (n r : ℕ) → r < n → n ≤ length rows → getD (classesOf rows) r 0 ≡ getD (classesOf (take n rows)) r 0
-unfolding classesOf
+unfolding classesBy
 classes-first rows n r h k =
     ap (λ (l : List Row). getD (classesAfter [] [] l) r 0) (sym (take-append-drop n rows))
     ∙ ap (λ (l : List ℕ). getD l r 0) (classes-append [] [] (take n rows) (drop n rows))
@@ -92,5 +92,5 @@ classes-first rows n r h k =
 -- the number of one row more
 pub classes-snoc : (rows : List Row) (row : Row)
     → classesOf (rows ++ (row ∷ [])) ≡ classesOf rows ++ (classAmong row (suc (largest (classesOf rows))) rows (classesOf rows) ∷ [])
-unfolding classesOf classesAfter
+unfolding classesBy classesAfterBy
 classes-snoc rows row = classes-append [] [] rows (row ∷ [])

@@ -13,7 +13,7 @@ use lib.ListN.{length, getD, length-append, List·getD-append}
 use lib.Seq.{getD-at}
 use Rattle.circuit.specs.Circuit.{Circuit}
 use Rattle.grading.specs.Rows.{Row, rowsOf}
-use Rattle.grading.specs.Classes.{sameClass, classAmong, largest, classesAfter, classesOf, classCount}
+use Rattle.grading.specs.Classes.{sameClass, classAmongBy, classAmong, largest, classesAfterBy, classesAfter, classesBy, classesOf, classCount}
 use Rattle.grading.specs.Statements.{RowOf, SameClassIsEquivalence, ClassNumbers}
 use Rattle.grading.proofs.Everywhere.{Every, every-at, every-first, every-second}
 use Rattle.grading.proofs.RowLaws.{noRow}
@@ -37,7 +37,7 @@ module _ (none : Row) where
 
   pub searched : (row : Row) (new : ℕ) (before : List Row) (classes : List ℕ) → length classes ≡ length before
       → Matched row before classes (classAmong row new before classes) ⊎ Fresh row before new (classAmong row new before classes)
-  unfolding classAmong
+  unfolding classAmongBy
   searched row new [] classes e = inr (record { unmatched = λ r h. absurd (not-suc-le-zero h); class-is = refl })
   searched row new (r ∷ rs) [] e = absurd (omega arith)
   searched row new (r ∷ rs) (n ∷ ns) e = go (sameClass r row) refl (searched row new rs ns (omega arith))
@@ -185,7 +185,7 @@ module _ (c : Circuit) (none : Row) where
 
   numbered-after : (before : List Row) (classes : List ℕ) (rows : List Row) → Numbered before classes → Every (RowOf c) (before ++ rows)
       → Numbered (before ++ rows) (classesAfter before classes rows)
-  unfolding classesAfter
+  unfolding classesAfterBy
   numbered-after before classes [] so-far ours = rw append-nil so-far
   numbered-after before classes (row ∷ rows) so-far ours =
       let joined : (before ++ (row ∷ [])) ++ rows ≡ before ++ (row ∷ rows) = append-assoc before (row ∷ []) rows in
@@ -199,7 +199,7 @@ module _ (c : Circuit) (none : Row) where
       (rw joined ours))
 
   numbered-all : Numbered (rowsOf c) (classesOf (rowsOf c))
-  unfolding classesOf
+  unfolding classesBy
   numbered-all = numbered-after [] [] (rowsOf c) numbered-none (λ row m. m)
 
 pub class-numbers : (c : Circuit) → ClassNumbers c

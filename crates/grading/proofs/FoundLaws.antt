@@ -12,7 +12,7 @@ use Rattle.words.specs.Bits.{ofBool, sumTo}
 use Rattle.words.proofs.Counting.{sum-cong, sum-snoc}
 use Rattle.circuit.specs.Circuit.{Circuit}
 use Rattle.grading.specs.Rows.{Row, markOf}
-use Rattle.grading.specs.Classes.{sameClass, classAmong, largest, hasMark, classFound, foundAmong}
+use Rattle.grading.specs.Classes.{sameClass, classAmong, largest, hasMarkBy, hasMark, classFoundBy, classFound, foundBy, foundAmong}
 use Rattle.grading.specs.Statements.{RowOf}
 use Rattle.grading.proofs.Everywhere.{Every, every-at}
 use Rattle.grading.proofs.SameClass.{classes-have-equal-marks}
@@ -24,7 +24,7 @@ use Rattle.grading.proofs.ClassNumbering.{Matched, Fresh, searched}
 module _ (c : Circuit) where
   found-snoc : (n : ℕ) (rows : List Row) (classes : List ℕ) (row : Row) (class : ℕ) → length classes ≡ length rows
       → classFound c n (rows ++ (row ∷ [])) (classes ++ (class ∷ [])) ≡ (classFound c n rows classes || eqb class n && hasMark c row)
-  unfolding classFound
+  unfolding classFoundBy
   found-snoc n [] [] row class e = or-false (eqb class n && hasMark c row)
   found-snoc n [] (m ∷ ms) row class e = absurd (omega arith)
   found-snoc n (r ∷ rs) [] row class e = absurd (omega arith)
@@ -34,7 +34,7 @@ module _ (c : Circuit) where
 
   -- past the largest number there is no class
   not-found : (n : ℕ) (rows : List Row) (classes : List ℕ) → largest classes < n → classFound c n rows classes ≡ false
-  unfolding classFound largest
+  unfolding classFoundBy largest
   not-found n [] classes h = refl
   not-found n (r ∷ rs) [] h = refl
   not-found n (r ∷ rs) (m ∷ ms) h = rw (ne-eqb m n (omega arith), not-found n rs ms (omega arith))
@@ -42,7 +42,7 @@ module _ (c : Circuit) where
   -- a class is found where one of its rows has a mark
   pub found-by : (n : ℕ) (rows : List Row) (classes : List ℕ) (none : Row) (r : ℕ) → r < length rows → length classes ≡ length rows
       → getD classes r 0 ≡ n → hasMark c (getD rows r none) ≡ true → classFound c n rows classes ≡ true
-  unfolding classFound
+  unfolding classFoundBy
   found-by n [] classes none r h e p m = absurd (omega arith)
   found-by n (s ∷ ss) [] none r h e p m = absurd (omega arith)
   found-by n (s ∷ ss) (k ∷ ks) none zero h e p m = rw (eq-eqb k n p, m)
@@ -50,7 +50,7 @@ module _ (c : Circuit) where
       ap (λ (b : Bool). eqb k n && hasMark c s || b) (found-by n ss ks none r (omega arith) (omega arith) p m) ∙ or-true (eqb k n && hasMark c s)
 
   same-mark : (r s : Row) → RowOf c r → RowOf c s → T (sameClass r s) → hasMark c r ≡ hasMark c s
-  unfolding hasMark markOf
+  unfolding hasMarkBy markOf
   same-mark r s p q t =
       ap (ltb 0)
       (sum-cong (length (c .vectors)) (markOf c r) (markOf c s) (λ v h. ap ofBool (classes-have-equal-marks c r s p q t (getD (c .vectors) v []))))
@@ -82,7 +82,7 @@ module _ (c : Circuit) where
     -- one row more: a new class is found when its first row has a mark
     pub found-more : foundAmong c (rows ++ (row ∷ [])) (classes ++ (class ∷ [])) (max count class)
         ≡ foundAmong c rows classes count + cond (ltb count class) (ofBool (hasMark c row)) 0
-    unfolding foundAmong
+    unfolding foundBy
     found-more = ⊎-elim matched fresh (searched row row (suc count) rows classes long)
       where
         matched : Matched row row rows classes class → sumTo (max count class) foundAt⁺ ≡ sumTo count foundAt + cond (ltb count class) (ofBool (hasMark c row)) 0

@@ -31,41 +31,63 @@ sameBridge i (input m l) (input n k) = eqb m n && sameLabel i l k
 unfoldable pub sameClass : Row → Row → Bool
 sameClass r s = eqb (r .number) (s .number) && sameBridge (r .instance) (r .bridge) (s .bridge)
 
+-- ---- class numbers, by a test for one class
+
 -- the class of a row: that of the first earlier row that matches, else the next new number.
 -- The earlier rows come with their classes, in order
-unfoldable pub classAmong : Row → ℕ → List Row → List ℕ → ℕ
-classAmong row new [] classes = new
-classAmong row new (r ∷ rs) [] = new
-classAmong row new (r ∷ rs) (n ∷ ns) = let later = classAmong row new rs ns in cond (sameClass r row) n later
+unfoldable pub classAmongBy : (Row → Row → Bool) → Row → ℕ → List Row → List ℕ → ℕ
+classAmongBy same row new [] classes = new
+classAmongBy same row new (r ∷ rs) [] = new
+classAmongBy same row new (r ∷ rs) (n ∷ ns) = let later = classAmongBy same row new rs ns in cond (same r row) n later
 
 -- the number of classes so far: the largest number given
 unfoldable pub largest : List ℕ → ℕ
 largest [] = 0
 largest (n ∷ ns) = max n (largest ns)
 
-unfoldable pub classesAfter : List Row → List ℕ → List Row → List ℕ
-classesAfter before classes [] = classes
-classesAfter before classes (row ∷ rows) =
-    classesAfter (before ++ (row ∷ [])) (classes ++ (classAmong row (suc (largest classes)) before classes ∷ [])) rows
+unfoldable pub classesAfterBy : (Row → Row → Bool) → List Row → List ℕ → List Row → List ℕ
+classesAfterBy same before classes [] = classes
+classesAfterBy same before classes (row ∷ rows) =
+    classesAfterBy same (before ++ (row ∷ [])) (classes ++ (classAmongBy same row (suc (largest classes)) before classes ∷ [])) rows
 
-unfoldable pub classesOf : List Row → List ℕ
-classesOf rows = classesAfter [] [] rows
+unfoldable pub classesBy : (Row → Row → Bool) → List Row → List ℕ
+classesBy same rows = classesAfterBy same [] [] rows
 
--- ---- found classes
+-- ---- found classes, by the marks of rows under so many vectors
 
--- has a row a mark under one of the circuit's vectors
-unfoldable pub hasMark : Circuit → Row → Bool
-hasMark c row = ltb 0 (sumTo (length (c .vectors)) (markOf c row))
+-- has a row a mark
+unfoldable pub hasMarkBy : ℕ → (Row → ℕ → ℕ) → Row → Bool
+hasMarkBy vectors marks row = ltb 0 (sumTo vectors (marks row))
 
 -- has a row of class n a mark
-unfoldable pub classFound : Circuit → ℕ → List Row → List ℕ → Bool
-classFound c n [] classes = false
-classFound c n (r ∷ rs) [] = false
-classFound c n (r ∷ rs) (m ∷ ms) = eqb m n && hasMark c r || classFound c n rs ms
+unfoldable pub classFoundBy : ℕ → (Row → ℕ → ℕ) → ℕ → List Row → List ℕ → Bool
+classFoundBy vectors marks n [] classes = false
+classFoundBy vectors marks n (r ∷ rs) [] = false
+classFoundBy vectors marks n (r ∷ rs) (m ∷ ms) = eqb m n && hasMarkBy vectors marks r || classFoundBy vectors marks n rs ms
 
 -- of the classes 1 to `count`, how many are found
-unfoldable pub foundAmong : Circuit → List Row → List ℕ → ℕ → ℕ
-foundAmong c rows classes count = sumTo count (λ (n : ℕ). ofBool (classFound c (suc n) rows classes))
+unfoldable pub foundBy : ℕ → (Row → ℕ → ℕ) → List Row → List ℕ → ℕ → ℕ
+foundBy vectors marks rows classes count = sumTo count (λ (n : ℕ). ofBool (classFoundBy vectors marks (suc n) rows classes))
+
+-- ---- 01's: by `sameClass`, and by the marks under the circuit's vectors
+
+abbrev pub classAmong : Row → ℕ → List Row → List ℕ → ℕ
+classAmong = classAmongBy sameClass
+
+abbrev pub classesAfter : List Row → List ℕ → List Row → List ℕ
+classesAfter = classesAfterBy sameClass
+
+abbrev pub classesOf : List Row → List ℕ
+classesOf = classesBy sameClass
+
+abbrev pub hasMark : Circuit → Row → Bool
+hasMark c = hasMarkBy (length (c .vectors)) (markOf c)
+
+abbrev pub classFound : Circuit → ℕ → List Row → List ℕ → Bool
+classFound c = classFoundBy (length (c .vectors)) (markOf c)
+
+abbrev pub foundAmong : Circuit → List Row → List ℕ → ℕ → ℕ
+foundAmong c = foundBy (length (c .vectors)) (markOf c)
 
 unfoldable pub classCount : Circuit → ℕ
 classCount c = largest (classesOf (rowsOf c))

@@ -4,7 +4,6 @@ use Rattle.words.specs.Bits.{firstTo}
 use Rattle.words.specs.Rows.{markAt, marksOf, firstMarkOf}
 use Rattle.text.specs.Decimal.{digitsOf, lengthIn, decimal}
 use Rattle.grading.specs.Codes.{codeOf}
-use Rattle.marks.specs.Model.{pairWord, inputMarkWord, markWord}
 use Rattle.report.specs.Lines.{firstLine, kindLetter, digitsOfMarks, rowLine, refusalLine}
 use Rattle.demands.specs.Calls.{cellAt}
 use Rattle.demands.specs.Report.{kindOf, firstOf, secondOf, lineOf, linesOf, countsLine, reportOf}
@@ -13,11 +12,11 @@ use Rattle.demands.specs.KnownResults.{AllKnown}
 use Rattle.demands.proofs.Computing.{computing}
 
 pub all-known : AllKnown
-unfolding computing codeOf pairWord inputMarkWord markWord cellAt marksFrom marksIn floatsUnder floatsOf floatsIn Holds
+unfolding computing codeOf cellAt marksFrom marksIn floatsUnder floatsOf floatsIn Holds
     firstTo markAt marksOf firstMarkOf digitsOf lengthIn decimal firstLine kindLetter digitsOfMarks rowLine refusalLine
     kindOf firstOf secondOf lineOf linesOf countsLine reportOf
 all-known =
     refl and refl and refl and refl and refl and refl and refl and refl and refl and refl and refl and refl and refl and refl and refl and refl and refl and refl and refl and refl
     and refl and refl and refl and refl and refl and refl and refl and refl and refl and refl and refl and refl and refl and refl and refl and refl and refl and refl and refl and refl
     and refl and refl and refl and refl and refl and refl and refl and refl and refl and refl and refl and refl and refl and refl and refl and refl and refl and refl and refl and refl
-    and refl and refl and refl and refl and refl and refl and refl and refl and refl and no-more
+    and refl and refl and refl and refl and refl and refl and refl and refl and refl and refl and refl and refl and refl and refl and refl and refl and refl and no-more

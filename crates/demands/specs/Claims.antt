@@ -1,4 +1,4 @@
--- What a line of the table of known results (specs/Known) can claim, of a file's grading, its report, the buffers, or the mark rule on words; and when a claim holds.
+-- What a line of the table of known results (specs/Known) can claim of a file's grading, its report or the buffers, and when a claim holds.
 -- `joins`, by which a node floats and a cell is marked, decides `Joined` (switch, `JoinsDecides`).
 use Prim.Native.Nat.{ℕ, suc, _+_, _-_, _*_}
 use Prim.Native.String.{String}
@@ -11,14 +11,13 @@ use Rattle.words.specs.Tables.{table}
 use Rattle.text.specs.Ascii.{bytesOf}
 use Rattle.switch.specs.Conduction.{Value, between, ground, supply}
 use Rattle.switch.specs.Modules.{ModuleType, linksOf}
-use Rattle.switch.specs.Bridges.{Bridge, nodes, input}
+use Rattle.switch.specs.Bridges.{Bridge}
 use Rattle.switch.specs.Deciding.{joins}
 use Rattle.circuit.specs.Circuit.{Circuit, Instance, no-faults, numbered, typeOfInstance, joinLists}
 use Rattle.grading.specs.Values.{labelValues, outputsOf}
 use Rattle.grading.specs.Rows.{Row, rowsOf}
 use Rattle.grading.specs.Grading.{Counts, Grading, graded, refused, gradingOf, countsIn, numberIn, placeIn, matrixAfter, classesAfterGrading}
 use Rattle.grading.specs.Codes.{codeOf}
-use Rattle.marks.specs.Model.{markWord}
 use Rattle.demands.specs.Calls.{cellAt}
 use Rattle.demands.specs.Report.{reportOf}
 
@@ -103,17 +102,9 @@ buffersAfter file matrix classes =
 abbrev pub bytesOfLines : List String → List ℕ
 bytesOfLines lines = joinLists (map (λ (line : String). bytesOf line ++ (10 ∷ [])) lines)
 
--- a word of one node or label, in the four that it has
+-- a row of at most 64 vectors, by its first word
 abbrev pub four : ℕ → List ℕ
 four w = w ∷ 0 ∷ 0 ∷ 0 ∷ []
-
--- the mark rule on words for two ends, each with its words of supply and of ground
-abbrev pub endsWord : ℕ → ℕ → ℕ → ℕ → ℕ
-endsWord supply-a ground-a supply-b ground-b = markWord (four supply-a ++ four supply-b) (four ground-a ++ four ground-b) [] [] (codeOf 1 (nodes 0 1)) 0
-
--- and for a label, by the words in which it is known to be 1 and to be 0, and a node
-abbrev pub labelWord : ℕ → ℕ → ℕ → ℕ → ℕ
-labelWord ones zeros supply-m ground-m = markWord (four supply-m) (four ground-m) (four ones) (four zeros) (codeOf 1 (input 0 0)) 0
 
 -- ---- claims
 
@@ -136,10 +127,6 @@ pub data Claim : Type 0 where
   turns : List ℕ → List ℕ → List ℕ → List ℕ → List ℕ → Claim
   -- a file's whole report, line by line
   reports : List ℕ → List String → Claim
-  -- the mark rule on words: supply and ground at one end, at the other; marks
-  ends : String → String → String → String → String → Claim
-  -- known 1 and known 0 of a label, supply and ground of a node; marks
-  label : String → String → String → String → String → Claim
 
 unfoldable pub Holds : Claim → Type 0
 Holds (reads file n bridge marks) = marksIn (graded-whole file) n bridge ≡ marksOfText marks
@@ -153,9 +140,6 @@ Holds (grades file size counts marks classes) =
     ≡ record { size = size; number = 0; counts = counts; words = joinLists (map (λ (text : String). four (wordOf text)) marks); classes = classes }
 Holds (turns file matrix classes matrix′ classes′) = buffersAfter file matrix classes ≡ (matrix′, classes′)
 Holds (reports file lines) = reportOf (graded-whole file) ≡ bytesOfLines lines
-Holds (ends supply-a ground-a supply-b ground-b marks) =
-    endsWord (wordOf supply-a) (wordOf ground-a) (wordOf supply-b) (wordOf ground-b) ≡ wordOf marks
-Holds (label ones zeros supply-m ground-m marks) = labelWord (wordOf ones) (wordOf zeros) (wordOf supply-m) (wordOf ground-m) ≡ wordOf marks
 
 infixr 40 _and_
 pub data AllHold : List Claim → Type 0 where

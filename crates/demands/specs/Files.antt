@@ -66,6 +66,13 @@ norFields = typeField 3 3 2 ++ edgeField 1 2 (0 ∷ []) ++ edgeField 2 3 (1 ∷ 
 abbrev pub nand3Fields : List ℕ
 nand3Fields = typeField 4 2 3 ++ edgeField 0 4 (2 ∷ []) ++ edgeField 3 4 (1 ∷ []) ++ edgeField 2 3 (0 ∷ []) ++ edgeField 1 2 (0 ∷ 1 ∷ 2 ∷ [])
 
+-- two branches from supply to the output: h=5, o=4, k=4; edges 1-2 label 0, 2-4 label 1; 1-3 label 2, 3-4 label 3;
+-- then 4-5 with labels 0 and 1, 5-0 with labels 2 and 3
+abbrev pub branchesFields : List ℕ
+branchesFields =
+    typeField 5 4 4 ++ edgeField 1 2 (0 ∷ []) ++ edgeField 2 4 (1 ∷ []) ++ edgeField 1 3 (2 ∷ []) ++ edgeField 3 4 (3 ∷ [])
+    ++ edgeField 4 5 (0 ∷ 1 ∷ []) ++ edgeField 5 0 (2 ∷ 3 ∷ [])
+
 -- ---- files with one instance, or two
 
 -- one instance of a type, each label on an input of its own; with the exhaustive list, or with the user list 1 of some bridges
@@ -96,6 +103,13 @@ nandListed bridges vectors = oneListed 2 nandFields bridges vectors
 
 abbrev pub norUnder : List String → List ℕ
 norUnder vectors = oneUnder 2 norFields vectors
+
+-- document 002's example: the nodes 2 and 3 of the two branches, and label 3; each with both rails, and node 2 with the two others
+abbrev pub branches : List ℕ
+branches =
+    oneListed 4 branchesFields
+    (nodes 0 2 ∷ nodes 1 2 ∷ nodes 0 3 ∷ nodes 1 3 ∷ nodes 2 3 ∷ input 0 3 ∷ input 1 3 ∷ input 2 3 ∷ [])
+    ("0101" ∷ "1001" ∷ "0110" ∷ "1110" ∷ [])
 
 -- an inverter from input a, then a NAND of a and the inverter's output; the NAND has the exhaustive list
 abbrev pub inverterThenNand : List String → List ℕ

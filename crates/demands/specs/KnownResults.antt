@@ -6,9 +6,9 @@ use mathlib.Core.List.{List, [], _∷_, _++_}
 use lib.ListN.{replicate}
 use Rattle.switch.specs.Bridges.{nodes, input}
 use Rattle.circuit.specs.Circuit.{primary, outputOf, exhaustive, no-faults, list, joinLists}
-use Rattle.demands.specs.Files.{fieldBytes, inputsField, typeField, edgeField, instanceField, inverterFields, inverter, inverterUnder, inverterListed, inverterChoosing, nandUnder, norUnder, inverterThenNand}
+use Rattle.demands.specs.Files.{fieldBytes, inputsField, typeField, edgeField, instanceField, inverterFields, inverter, inverterUnder, inverterListed, inverterChoosing, nandUnder, norUnder, branches, inverterThenNand}
 use Rattle.demands.specs.Files.{nandOfOne, oneType, split, invertersOf, fourInstances, manyFaults}
-use Rattle.demands.specs.Claims.{Claim, reads, floats, refuses, short, sizes, leaves, grades, turns, reports, ends, label, AllHold}
+use Rattle.demands.specs.Claims.{Claim, reads, floats, refuses, short, sizes, leaves, grades, turns, reports, AllHold}
 
 -- ---- vectors
 
@@ -36,10 +36,18 @@ knownResults =
     ∷ reads (nandUnder nine) 1 (nodes 0 1) "111111111"
     -- P: an inverter from input a, then a NAND of a and the inverter's output: X for a does not mark the NAND's 0-2, although both fillings do
     ∷ reads (inverterThenNand ("0" ∷ "1" ∷ "X" ∷ [])) 2 (nodes 0 2) "110"
-    -- P: document 002's example: supply 1010 and ground 0100 at one end, 1100 and 0011 at the other, gives 0110
-    ∷ ends "1010" "0100" "1100" "0011" "0110"
-    -- P: its input short: label 1100, supply 1010, ground 0100, gives 0110
-    ∷ label "1100" "0011" "1010" "0100" "0110"
+    -- P: document 002's example: supply 1010 and ground 0100 at one end, 1100 and 0011 at the other, gives 0110.
+    -- The ends are nodes 2 and 3. A node's bridge to ground reads where it is joined to supply, that to supply where it is joined to ground
+    ∷ reads branches 1 (nodes 0 2) "1010"
+    ∷ reads branches 1 (nodes 1 2) "0100"
+    ∷ reads branches 1 (nodes 0 3) "1100"
+    ∷ reads branches 1 (nodes 1 3) "0011"
+    ∷ reads branches 1 (nodes 2 3) "0110"
+    -- P: its input short: label 1100, supply 1010, ground 0100, gives 0110.
+    -- The node is 2 and the label is 3. A label's bridge to ground reads where it is 1, that to supply where it is 0
+    ∷ reads branches 1 (input 0 3) "1100"
+    ∷ reads branches 1 (input 1 3) "0011"
+    ∷ reads branches 1 (input 2 3) "0110"
     -- P: h=2, o=2, k=2, edges 1-2 label 0 and 0-2 label 1: refusal 9. No edges: 9
     ∷ refuses split 9 5
     ∷ refuses (oneType []) 9 5
@@ -137,6 +145,9 @@ knownResults =
     ∷ grades (fourInstances ("00" ∷ "01" ∷ "10" ∷ "11" ∷ "X0" ∷ "0X" ∷ [])) 152 (record { vectors = 6; faults = 10; classes = 10; found = 9 })
     ("010100" ∷ "111110" ∷ "000100" ∷ "100000" ∷ "001000" ∷ "101100" ∷ "010100" ∷ "101010" ∷ "000000" ∷ "111110" ∷ [])
     (1 ∷ 2 ∷ 3 ∷ 4 ∷ 5 ∷ 6 ∷ 7 ∷ 8 ∷ 9 ∷ 10 ∷ [])
+    -- the NAND's output is 1 under 00, 01 and 10, and 0 under 11
+    ∷ reads (nandUnder all-four) 1 (nodes 0 2) "1110"
+    ∷ reads (nandUnder all-four) 1 (nodes 1 2) "0001"
     -- a NOR, whose output is above node 2: what lies between supply and the output is p-channel
     ∷ reads (norUnder all-four) 1 (nodes 0 2) "1100"
     ∷ reads (norUnder all-four) 1 (nodes 1 2) "0010"

@@ -2,7 +2,7 @@
 --   Paths, Channels, Deciding, Apart, Marks, Refinement, KnownOutputs      the statements of specs/Statements on paths
 --   Ranges                                                                 what a record tells that a file can give
 --   Outputs                                                                the statements on planes
---   Examples                                                               01's known results on the NAND and the inverter, computed
+--   Examples                                                               a type that is accepted, and a record that the code takes
 pub mod Paths
 pub mod Channels
 pub mod Deciding

@@ -3,7 +3,7 @@
 --   Deciding                       Boolean tests that compute what the three say of paths
 --   Records, Promises              the code's records in those words, and the words that a caller is promised
 --   Statements                     the theorems that all later crates rest on
---   Examples                       01's known results on the NAND and the inverter
+--   Examples                       the NAND: a type that is accepted, and a record that the code takes
 pub mod Conduction
 pub mod Modules
 pub mod Bridges

@@ -1,6 +1,6 @@
 -- Found classes by the code's count, instance by instance: at the first row of each class the or of the row's four words tells whether it has a mark.
 -- Assumes nothing.
-use Prim.Native.Nat.{ℕ, zero, suc, _+_, _*_, _/_, _%_, _<_, _≤_, max}
+use Prim.Native.Nat.{ℕ, zero, suc, _+_, _*_, _<_, _≤_, max}
 use mathlib.Core.Path.{_≡_, sym, ap, ap₂, _∙_}
 use mathlib.Core.Bool.{Bool, true, false, cond, not, Bool·not-not as not-not}
 use mathlib.Core.List.{List, [], _∷_, _++_, map}
@@ -20,7 +20,7 @@ use Rattle.grading.specs.Rows.{Row, rowsOfInstance, cell, markOf, rowWords}
 use Rattle.grading.specs.Classes.{classAmong, largest, classesOf, hasMarkBy, hasMark, foundAmong}
 use Rattle.grading.specs.Statements.{RowOf}
 use Rattle.grading.proofs.Everywhere.{Every, every-at, every-first}
-use Rattle.grading.proofs.MatrixLaws.{length-matrix, word-at}
+use Rattle.grading.proofs.MatrixLaws.{row-long, word-in}
 use Rattle.grading.proofs.RowLaws.{rowsBefore, rowsAfter, rows-split, grown}
 use Rattle.grading.proofs.FoundLaws.{found-more}
 use Rattle.grading.proofs.ClassLists.{length-classes, largest-append, classes-first, classes-snoc}
@@ -150,12 +150,7 @@ module _ (c : Circuit) (good : CircuitGood c) (i : ℕ) (within : i < length (c 
 -- ---- buffers that begin with the rows' words, and with their numbers
 
 pub words-are : (c : Circuit) (rows : List Row) (more : List ℕ) → WordsOf c rows (joinLists (map (rowWords c) rows) ++ more)
-words-are c rows more r w none h k =
-    let high : (4 * r + w) / 4 ≡ r = omega arith in
-    let low : (4 * r + w) % 4 ≡ w = omega arith in
-    List·getD-append (joinLists (map (rowWords c) rows)) more 0 (4 * r + w) (omega (arith, length-matrix c rows))
-    ∙ word-at c none rows (4 * r + w) (omega arith)
-    ∙ rw (high, low)
+words-are c rows more r w none = word-in (rowWords c) (row-long c) none rows more r w
 
 pub numbers-are : (rows : List Row) (more : List ℕ) → ClassesOf rows (classesOf rows ++ more)
 numbers-are rows more r h = List·getD-append (classesOf rows) more 0 r (omega (arith, length-classes rows))

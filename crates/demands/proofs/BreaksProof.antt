@@ -1,8 +1,9 @@
 -- Each wrong grader breaks the demand that specs/Breaks names, on a small file. Cells, classes and counts are computed; a cell is a path by `cell-decides`.
 use Prim.Native.Nat.{ℕ, zero, suc, _≤_, _<_}
+use Prim.Native.String.{String}
 use mathlib.Core.Path.{_≡_, refl, sym, ap, subst, _∙_}
 use mathlib.Core.Bool.{Bool, true, false, not}
-use mathlib.Core.Logic.{_↔_, inr}
+use mathlib.Core.Logic.{_↔_, _⊎_, inl, inr}
 use mathlib.Core.List.{List, [], _∷_}
 use native.Mathlib.Omega.{arith}
 use native.Mathlib.Decide.{ℕ-discrete}
@@ -10,7 +11,8 @@ use native.Mathlib.Nat.{add-zero}
 use lib.Dec.{T, leb, ltb, leb→le}
 use lib.ListN.{length, getD}
 use Rattle.words.specs.Bits.{ofBool, sumTo}
-use Rattle.switch.specs.Bridges.{nodes}
+use Rattle.switch.specs.Conduction.{Value, at1, atX}
+use Rattle.switch.specs.Bridges.{nodes, input}
 use Rattle.circuit.specs.Circuit.{Circuit}
 use Rattle.circuit.specs.Records.{emptyCircuit}
 use Rattle.circuit.specs.Refusals.{refusalPlace}
@@ -20,12 +22,13 @@ use Rattle.grading.specs.Promise.{countsOf}
 use Rattle.grading.proofs.RowLaws.{noRow}
 use Rattle.demands.specs.Calls.{Call, isGraded, Refuses, cellAt, classAt}
 use Rattle.demands.specs.One.{bufferTests, testsFrom, tableOf, passed}
-use Rattle.demands.specs.Two.{vectorOf, rowAt, EqualBridges, OneClass, Found}
+use Rattle.demands.specs.Two.{vectorOf, rowAt, AlikeButVectors, EqualBridges, OneClass, Found}
+use Rattle.demands.specs.Three.{given, Refined}
 use Rattle.demands.specs.Files.{inverter, inverterUnder, inverterListed, nandListed, nandOfOne, oneListed, nand3Fields, split}
 use Rattle.demands.specs.Graders.{Grader, called}
 use Rattle.demands.specs.Wrong.{marksAll, marksNever, leavesMatrix, firstWordOnly, inventsFound, sweepsOnce, onePlane, marksFloating, countsRows, spills, wraps, goesOn}
-use Rattle.demands.specs.Wrong.{watchesOutputs, holdsLevels, countsTwice, countsLabels, readsXAsZero}
-use Rattle.demands.specs.Breaks.{MeetsCells, MeetsClasses, BreakDemandOne, BreakDemandTwo}
+use Rattle.demands.specs.Wrong.{isOne, watchesOutputs, holdsLevels, countsTwice, countsLabels, readsXAsZero}
+use Rattle.demands.specs.Breaks.{MeetsCells, MeetsClasses, MeetsThree, MeetsThreeByPaths, MeetsFillings, BreakDemandOne, BreakDemandTwo, BreakDemandThree}
 use Rattle.demands.proofs.Cells.{cell-decides}
 use Rattle.demands.proofs.Computing.{room, entries}
 use Rattle.demands.proofs.WrongProof.{wrong-computing, many, lastOnly, listedTwice, ones, Differ, apart}
@@ -242,4 +245,117 @@ break-demand-two = record {
   counts-rows = by-found _ _ _ found-rows;
   counts-twice = by-class _ _ _ _ (cells .counts-twice);
   counts-labels = by-class _ _ _ _ (cells .counts-labels);
+}
+
+-- ---- demand 3
+
+-- over the definition: a cell that a path marks and the grader does not, in a file that refines itself
+alike-itself : (c : Circuit) → AlikeButVectors c c
+alike-itself c = record { inputs = refl; types = refl; bridges = refl; instances = refl }
+
+refined-itself : (vectors : List (List Value)) → Refined vectors vectors
+refined-itself vectors = record { no-fewer = omega arith; agree = λ v i h. inr refl }
+
+by-path : (grader : Grader) (file : List ℕ) (r v : ℕ) → CellWrong grader file r v
+    → T (cell (circuitOf file) (vectorOf (circuitOf file) v) (rowAt (circuitOf file) noRow r)) → MeetsThreeByPaths grader → ⊥
+by-path grader file r v (grades, is-row, is-vector, differs) path meets =
+    let c = circuitOf file in
+    let stands = meets file file room entries c c (grades .0) (grades .0) (grades .1) (alike-itself c) (refined-itself (c .vectors)) in
+    let decides = cell-decides c (vectorOf c v) (rowAt c noRow r) in
+    opposite _ (cell c (vectorOf c v) (rowAt c noRow r)) differs (
+      λ e. path,
+      λ t. stands .marks noRow r v (leb→le _ _ is-row) (leb→le _ _ is-vector) (decides .1 t),
+    )
+
+-- over its own marks: a mark that the refined file takes back
+record TakenBack (grader : Grader) (file finer : List ℕ) (r v : ℕ) : Type 0 where
+  grades : Grades grader file
+  grades′ : Grades grader finer
+  alike : AlikeButVectors (circuitOf file) (circuitOf finer)
+  refined : Refined (circuitOf file .vectors) (circuitOf finer .vectors)
+  is-row : T (ltb r (length (rowsOf (circuitOf file))))
+  is-vector : T (ltb v (length (circuitOf file .vectors)))
+  mark : cellAt (callFor grader file .matrix-after) r v ≡ 1
+  none : cellAt (callFor grader finer .matrix-after) r v ≡ 0
+
+by-mark : (grader : Grader) (file finer : List ℕ) (r v : ℕ) → TakenBack grader file finer r v → MeetsThree grader → ⊥
+by-mark grader file finer r v w meets =
+    let three =
+    meets file room entries finer room entries (circuitOf file) (circuitOf finer) (w .grades .0) (w .grades .1) (w .grades′ .0) (w .grades′ .1)
+    (w .alike) (w .refined) in
+    omega (arith, w .none, three .marks r v (leb→le _ _ (w .is-row)) (leb→le _ _ (w .is-vector)) (w .mark))
+
+-- an inverter's 0-2, and node 1 with the label: under X, and under its filling 1, which marks neither
+abbrev inverterAt : String → List ℕ
+inverterAt vector = inverterListed (nodes 0 2 ∷ input 1 0 ∷ []) (vector ∷ [])
+
+filled : (i : ℕ) → (getD (atX ∷ []) i atX ≡ atX) ⊎ (getD (at1 ∷ []) i atX ≡ getD (atX ∷ []) i atX)
+filled zero = inl refl
+filled (suc i) = inl refl
+
+filled-vectors : Refined ((atX ∷ []) ∷ []) ((at1 ∷ []) ∷ [])
+unfolding given
+filled-vectors = record { no-fewer = omega arith; agree = agrees }
+  where
+    agrees : (v i : ℕ) → v < 1 → (getD (getD ((atX ∷ []) ∷ []) v []) i atX ≡ atX) ⊎ (getD (getD ((at1 ∷ []) ∷ []) v []) i atX ≡ getD (getD ((atX ∷ []) ∷ []) v []) i atX)
+    agrees zero i h = filled i
+    agrees (suc v) i h = absurd (omega arith)
+
+plane-taken-back : TakenBack onePlane (inverterAt "X") (inverterAt "1") 1 0
+unfolding wrong-computing toldBy isGraded cellAt
+plane-taken-back = record {
+  grades = (refl, tt);
+  grades′ = (refl, tt);
+  alike = record { inputs = refl; types = refl; bridges = refl; instances = refl };
+  refined = filled-vectors;
+  is-row = tt;
+  is-vector = tt;
+  mark = refl;
+  none = refl;
+}
+
+zero-taken-back : TakenBack readsXAsZero (inverterAt "X") (inverterAt "1") 0 0
+unfolding wrong-computing toldBy isGraded cellAt
+zero-taken-back = record {
+  grades = (refl, tt);
+  grades′ = (refl, tt);
+  alike = record { inputs = refl; types = refl; bridges = refl; instances = refl };
+  refined = filled-vectors;
+  is-row = tt;
+  is-vector = tt;
+  mark = refl;
+  none = refl;
+}
+
+is-one : at1 ≡ atX → ⊥
+unfolding isOne
+is-one e = subst (λ (value : Value). T (isOne value)) e tt
+
+all-under-x : MeetsFillings marksAll → ⊥
+unfolding wrong-computing toldBy isGraded cellAt
+all-under-x meets =
+    let c = circuitOf (inverterAt "X") in
+    let path = meets (inverterAt "X") room entries c refl tt noRow 0 0 (omega arith) (omega arith) refl (at1 ∷ [])
+    (record { long = refl; keeps = filled; no-x = no-x }) in
+    cell-decides c (at1 ∷ []) (rowAt c noRow 0) .0 path
+  where
+    no-x : (i : ℕ) → i < 1 → getD (at1 ∷ []) i atX ≡ atX → ⊥
+    no-x zero h e = is-one e
+    no-x (suc i) h e = absurd (omega arith)
+
+record MarkedByPath : Type 0 where
+  inverter-0-1 : T (cell (circuitOf inverter) (vectorOf (circuitOf inverter) 0) (rowAt (circuitOf inverter) noRow 0))
+  many-65 : T (cell (circuitOf many) (vectorOf (circuitOf many) 64) (rowAt (circuitOf many) noRow 0))
+
+paths : MarkedByPath
+unfolding wrong-computing toldBy
+paths = record { inverter-0-1 = tt; many-65 = tt }
+
+pub break-demand-three : BreakDemandThree
+break-demand-three = record {
+  one-plane = by-mark _ _ _ _ _ plane-taken-back;
+  reads-x-as-zero = by-mark _ _ _ _ _ zero-taken-back;
+  marks-never = by-path _ _ _ _ (cells .marks-never) (paths .inverter-0-1);
+  first-word-only = by-path _ _ _ _ (cells .first-word-only) (paths .many-65);
+  marks-all = all-under-x;
 }

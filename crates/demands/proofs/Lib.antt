@@ -1,7 +1,7 @@
 -- The proofs of the statements in specs/, and what they share: Gave, what a call that graded its file gave; Computing, what a proof by computation unfolds.
 --   demand 1      Verdicts, GradingVerdicts, OneProof, Outcomes, RightProof
 --   demand 2      SettledValues, Cells, Floating, Columns, RowFaults, OneClass, FoundClasses, ClassCounts, ClassesCarried, NamedAgain
---   demand 3      Refining, NoConverseProof
+--   demand 3      Refining, RefinedMarks, NoConverseProof
 --   one outcome   StepsOnce, UniqueProof
 --   by computing  KnownProof, WrongProof, BreaksProof; MeetsProof, what the demands do not break
 pub mod Gave
@@ -20,6 +20,7 @@ pub mod ClassCounts
 pub mod ClassesCarried
 pub mod NamedAgain
 pub mod Refining
+pub mod RefinedMarks
 pub mod Computing
 pub mod RightProof
 pub mod KnownProof

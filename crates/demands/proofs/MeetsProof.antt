@@ -1,24 +1,33 @@
--- The right grader meets demands 1 and 2; every grader that refuses by the table meets demand 1, whatever it works out of a circuit, and one that works out
--- the right words meets the cells of demand 2.
-use Prim.Native.Nat.{ℕ}
+-- The right grader meets all demands; every grader that refuses by the table meets demand 1, whatever it works out of a circuit, one that works out
+-- the right words meets the cells of demand 2, and what of demand 3 those meet that mark all, never, or under the first 64 vectors.
+use Prim.Native.Nat.{ℕ, _≤_}
 use mathlib.Core.Path.{_≡_, refl, sym, ap, _∙_}
+use mathlib.Core.Bool.{Bool, true, false, cond}
 use mathlib.Core.List.{List}
-use lib.Dec.{T}
+use native.Mathlib.Omega.{arith}
+use lib.Dec.{T, ltb}
 use lib.ListN.{length}
+use Rattle.words.specs.Tables.{upTo}
+use Rattle.words.proofs.Laws.{ofBool-le-one}
+use Rattle.words.proofs.Rows.{upTo-le-one}
 use Rattle.circuit.specs.Circuit.{Circuit}
 use Rattle.circuit.specs.Table.{refusedAt}
+use Rattle.circuit.proofs.CircuitLaws.{accepted-is-good}
 use Rattle.circuit.proofs.Tested.{never-passes}
+use Rattle.grading.specs.Rows.{Row, cell, markOf}
 use Rattle.grading.specs.Grading.{Grading, graded, gradingOf, over}
 use Rattle.grading.specs.Grading.{refused}
 use Rattle.demands.specs.Calls.{Call, Accepts, GradedAs, isGraded}
-use Rattle.demands.specs.Two.{CellsTell}
+use Rattle.demands.specs.Two.{vectorOf, CellsTell}
 use Rattle.demands.specs.Graders.{Work, outcomeOf, gradesBy, workBy, rightWork, rightly, called}
-use Rattle.demands.specs.Wrong.{marksAll, marksNever, inventsFound, countsRows, countsTwice, countsLabels}
-use Rattle.demands.specs.Breaks.{MeetsOne, MeetsCells, RightlyMeetsAll, MeetDemandOne, MeetCellClause}
+use Rattle.demands.specs.Wrong.{marksAll, marksNever, firstWordOnly, inventsFound, countsRows, countsTwice, countsLabels}
+use Rattle.demands.specs.Breaks.{MeetsOne, MeetsCells, RightlyMeetsAll, MeetDemandOne, MeetCellClause, MeetDemandThree}
 use Rattle.demands.proofs.GradingVerdicts.{answered, answer-is}
 use Rattle.demands.proofs.OneProof.{one-by-the-table, one-holds, grading-keeps-the-rest}
 use Rattle.demands.proofs.Cells.{cell-is-path}
 use Rattle.demands.proofs.ClassCounts.{classes-count-once}
+use Rattle.demands.proofs.Refining.{mark-stands, three-holds}
+use Rattle.demands.proofs.RefinedMarks.{by-marks-that-stand, marks-above, marks-below}
 use Rattle.demands.proofs.RightProof.{rightly-is-right}
 
 -- ---- the right grader
@@ -27,12 +36,22 @@ right-as : (file matrix classes : List ℕ) (c : Circuit) → Accepts file c →
     → GradedAs (called rightly file matrix classes) c
 right-as file matrix classes c accepts is-graded = record { kept = rightly-is-right file matrix classes; accepts = accepts; graded = is-graded }
 
+mark-le-one : (c : Circuit) (row : Row) (v : ℕ) → markOf c row v ≤ 1
+unfolding markOf
+mark-le-one c row v = ofBool-le-one (cell c (vectorOf c v) row)
+
 pub rightly-meets-all : RightlyMeetsAll
+unfolding rightly rightWork
 rightly-meets-all = record {
   one = λ file matrix classes. one-holds (called rightly file matrix classes) (rightly-is-right file matrix classes);
   rest = λ file matrix classes c e g. grading-keeps-the-rest (called rightly file matrix classes) c (right-as file matrix classes c e g);
   cells = λ file matrix classes c e g. cell-is-path (called rightly file matrix classes) c (right-as file matrix classes c e g);
   classes = λ file matrix classes c e g. classes-count-once (called rightly file matrix classes) c (right-as file matrix classes c e g);
+  three = λ file matrix classes file′ matrix′ classes′ c d e g e′ g′.
+      three-holds (called rightly file matrix classes) (called rightly file′ matrix′ classes′) c d
+      (right-as file matrix classes c e g) (right-as file′ matrix′ classes′ d e′ g′);
+  three-by-paths = marks-above markOf mark-le-one (λ file c d e. mark-stands c d (accepted-is-good file c e));
+  fillings = marks-below markOf mark-le-one (λ c row v. omega arith);
 }
 
 -- ---- any work
@@ -101,4 +120,34 @@ meet-cell-clause = record {
   counts-rows = by-right-words _ (λ c. refl);
   counts-twice = by-right-words _ (λ c. refl);
   counts-labels = by-right-words _ (λ c. refl);
+}
+
+-- ---- demand 3
+
+-- a number, or 0 in its place
+cut-grows : (b : Bool) (x y : ℕ) → x ≤ y → cond b x 0 ≤ cond b y 0
+cut-grows true x y h = h
+cut-grows false x y h = omega arith
+
+cut-below : (b : Bool) (x : ℕ) → cond b x 0 ≤ x
+cut-below true x = omega arith
+cut-below false x = omega arith
+
+first-le-one : (c : Circuit) (row : Row) (v : ℕ) → upTo 64 (markOf c row) v ≤ 1
+first-le-one c row v = upTo-le-one 64 (markOf c row) (mark-le-one c row) v
+
+pub meet-demand-three : MeetDemandThree
+unfolding marksAll marksNever firstWordOnly upTo
+meet-demand-three = record {
+  by-marks-that-stand = by-marks-that-stand;
+  marks-all = by-marks-that-stand _ (record { bits = λ c row v. omega arith; stand = λ file c d e alike refined row v h. omega arith });
+  marks-never = by-marks-that-stand _ (record { bits = λ c row v. omega arith; stand = λ file c d e alike refined row v h. omega arith });
+  first-word-only = by-marks-that-stand _ (record {
+    bits = first-le-one;
+    stand = λ file c d e alike refined row v h.
+        cut-grows (ltb v 64) (markOf c row v) (markOf d row v) (mark-stands c d (accepted-is-good file c e) alike refined row v h);
+  });
+  marks-all-by-paths = marks-above _ (λ c row v. omega arith) (λ file c d e alike refined row v h. mark-le-one c row v);
+  marks-never-fillings = marks-below _ (λ c row v. omega arith) (λ c row v. omega arith);
+  first-word-only-fillings = marks-below _ first-le-one (λ c row v. cut-below (ltb v 64) (markOf c row v));
 }

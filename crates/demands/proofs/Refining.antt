@@ -92,7 +92,7 @@ module _ (vector finer : List Value) (refines : Finer vector finer) where
         (λ j none h. type-accepted _ (type-good c good j h none (getD (c .instances) j none) refl)) [] [] tt)
         (row .instance)
 
-    path-stays : CellMarked c vector row → CellMarked c finer row
+    pub path-stays : CellMarked c vector row → CellMarked c finer row
     unfolding CellMarked
     path-stays = mark-stays (rowValues c vector row) (rowValues c finer row) values-refine (typeOfRow c row) (row .bridge)
 
@@ -102,7 +102,7 @@ module _ (vector finer : List Value) (refines : Finer vector finer) where
 -- ---- marks
 
 module _ (c d : Circuit) (good : CircuitGood c) (alike : AlikeButVectors c d) (refined : Refined (c .vectors) (d .vectors)) where
-  mark-stands : (row : Row) (v : ℕ) → v < length (c .vectors) → markOf c row v ≤ markOf d row v
+  pub mark-stands : (row : Row) (v : ℕ) → v < length (c .vectors) → markOf c row v ≤ markOf d row v
   unfolding markOf given
   mark-stands row v h =
       ofBool-le (cell c (vectorOf c v) row) (cell d (vectorOf d v) row)

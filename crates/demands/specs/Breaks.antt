@@ -1,15 +1,25 @@
--- Which demand each wrong grader breaks (specs/Wrong), held against the demands themselves, and which it meets. 01, last paragraph: to refuse every file, or to
--- grade one that the table refuses, breaks demand 1; wrong marks break demand 2 and not demand 1; an invented found count breaks the class clause of demand 2.
+-- Which demand each wrong grader breaks (specs/Wrong), held against the demands themselves, and which it meets. 01, last paragraph: to
+-- refuse every file, or to grade one that the table refuses, breaks demand 1; wrong marks break demand 2 and not demand 1; an invented
+-- found count breaks the class clause of demand 2. One that marks all, or never, meets part of demand 3 but breaks demand 2. One that grades
+-- the first 64 vectors and writes zeros for the rest breaks demand 2, and demand 3 is read over that same definition.
 -- The proofs are in proofs/BreaksProof and proofs/MeetsProof.
-use Prim.Native.Nat.{ℕ}
+use Prim.Native.Nat.{ℕ, _≤_, _<_}
+use mathlib.Core.Path.{_≡_}
 use mathlib.Core.List.{List}
 use lib.Dec.{T}
+use lib.ListN.{length}
+use Rattle.switch.specs.Conduction.{Value}
 use Rattle.circuit.specs.Circuit.{Circuit}
-use Rattle.demands.specs.Calls.{Accepts, isGraded}
+use Rattle.grading.specs.Rows.{Row, rowsOf, CellMarked}
+use Rattle.grading.specs.Classes.{foundCount}
+use Rattle.grading.specs.Promise.{countsOf}
+use Rattle.demands.specs.Calls.{Call, Accepts, isGraded, cellAt}
 use Rattle.demands.specs.One.{One, RestKept}
-use Rattle.demands.specs.Two.{CellsTell, ClassesTell}
+use Rattle.demands.specs.Two.{vectorOf, rowAt, CellsTell, ClassesTell, AlikeButVectors}
+use Rattle.demands.specs.Three.{Refined, Three}
+use Rattle.demands.specs.NoConverse.{Filling}
 use Rattle.demands.specs.Graders.{Grader, called, Work, gradesBy, rightly}
-use Rattle.demands.specs.Wrong.{refusesEvery, skips, marksAll, marksNever, leavesMatrix, firstWordOnly, inventsFound, sweepsOnce, onePlane, marksFloating, countsRows, spills, wraps, goesOn}
+use Rattle.demands.specs.Wrong.{marking, refusesEvery, skips, marksAll, marksNever, leavesMatrix, firstWordOnly, inventsFound, sweepsOnce, onePlane, marksFloating, countsRows, spills, wraps, goesOn}
 use Rattle.demands.specs.Wrong.{watchesOutputs, holdsLevels, countsTwice, countsLabels, readsXAsZero, writesPast, clearsFirst}
 
 -- demand 1 holds of every call
@@ -33,12 +43,46 @@ MeetsClasses grader =
     (file matrix classes : List ℕ) (c : Circuit) → Accepts file c → T (isGraded (grader file matrix classes .answer))
     → ClassesTell (called grader file matrix classes) c
 
+-- demand 3, over what the grader itself marks: of two files that it grades, alike but for their vectors, and these refined in the second
+abbrev pub MeetsThree : Grader → Type 0
+MeetsThree grader =
+    (file matrix classes file′ matrix′ classes′ : List ℕ) (c d : Circuit)
+    → Accepts file c → T (isGraded (grader file matrix classes .answer))
+    → Accepts file′ d → T (isGraded (grader file′ matrix′ classes′ .answer))
+    → AlikeButVectors c d → Refined (c .vectors) (d .vectors)
+    → Three (called grader file matrix classes) (called grader file′ matrix′ classes′) c
+
+-- demand 3 read over the definition of demand 2: where a path marks a cell of the first file, the grader marks that of the refined one, and
+-- it finds no fewer classes than the definition does in the first
+pub record ThreeByPaths (finer : Call) (c : Circuit) : Type 0 where
+  pub marks : (none : Row) (r v : ℕ) → r < length (rowsOf c) → v < length (c .vectors)
+      → CellMarked c (vectorOf c v) (rowAt c none r) → cellAt (finer .matrix-after) r v ≡ 1
+  pub found : foundCount c ≤ countsOf (finer .answer) .found
+
+abbrev pub MeetsThreeByPaths : Grader → Type 0
+MeetsThreeByPaths grader =
+    (first file matrix classes : List ℕ) (c d : Circuit)
+    → Accepts first c → Accepts file d → T (isGraded (grader file matrix classes .answer))
+    → AlikeButVectors c d → Refined (c .vectors) (d .vectors)
+    → ThreeByPaths (called grader file matrix classes) c
+
+-- and what follows from both demands: a mark that was made with X holds under every filling of its vector
+abbrev pub MeetsFillings : Grader → Type 0
+MeetsFillings grader =
+    (file matrix classes : List ℕ) (c : Circuit) → Accepts file c → T (isGraded (grader file matrix classes .answer))
+    → (none : Row) (r v : ℕ) → r < length (rowsOf c) → v < length (c .vectors)
+    → cellAt (grader file matrix classes .matrix) r v ≡ 1
+    → (filling : List Value) → Filling (c .inputs) (vectorOf c v) filling → CellMarked c filling (rowAt c none r)
+
 -- the right grader meets all of them
 pub record RightlyMeetsAll : Type 0 where
   pub one : MeetsOne rightly
   pub rest : MeetsRest rightly
   pub cells : MeetsCells rightly
   pub classes : MeetsClasses rightly
+  pub three : MeetsThree rightly
+  pub three-by-paths : MeetsThreeByPaths rightly
+  pub fillings : MeetsFillings rightly
 
 -- whatever a grader works out and writes, it meets demand 1 if it refuses by the table; so do those that mark all or never, which break demand 2
 pub record MeetDemandOne : Type 0 where
@@ -52,6 +96,23 @@ pub record MeetCellClause : Type 0 where
   pub counts-rows : MeetsCells countsRows
   pub counts-twice : MeetsCells countsTwice
   pub counts-labels : MeetsCells countsLabels
+
+-- marks of rows, 0 or 1 each, that stand where the vectors of an accepted file are refined
+pub record MarksThatStand (marks : Circuit → Row → ℕ → ℕ) : Type 0 where
+  pub bits : (c : Circuit) (row : Row) (v : ℕ) → marks c row v ≤ 1
+  pub stand : (file : List ℕ) (c d : Circuit) → Accepts file c → AlikeButVectors c d → Refined (c .vectors) (d .vectors)
+      → (row : Row) (v : ℕ) → v < length (c .vectors) → marks c row v ≤ marks d row v
+
+-- the part of demand 3 that is met: over its own marks, by a grader with any marks that stand, as all, none, and those of the first 64
+-- vectors do; over the definition, by one that marks all; under fillings, by those that mark only what a path marks
+pub record MeetDemandThree : Type 0 where
+  pub by-marks-that-stand : (marks : Circuit → Row → ℕ → ℕ) → MarksThatStand marks → MeetsThree (marking marks)
+  pub marks-all : MeetsThree marksAll
+  pub marks-never : MeetsThree marksNever
+  pub first-word-only : MeetsThree firstWordOnly
+  pub marks-all-by-paths : MeetsThreeByPaths marksAll
+  pub marks-never-fillings : MeetsFillings marksNever
+  pub first-word-only-fillings : MeetsFillings firstWordOnly
 
 pub record BreakDemandOne : Type 0 where
   pub refuses-every : MeetsOne refusesEvery → ⊥
@@ -78,3 +139,12 @@ pub record BreakDemandTwo : Type 0 where
   pub counts-rows : MeetsClasses countsRows → ⊥
   pub counts-twice : MeetsClasses countsTwice → ⊥
   pub counts-labels : MeetsClasses countsLabels → ⊥
+
+-- the part that is broken: over its own marks, by graders that mark with X what a filling takes back; over the definition, by those that
+-- leave marks out; under fillings, by one that marks all
+pub record BreakDemandThree : Type 0 where
+  pub one-plane : MeetsThree onePlane → ⊥
+  pub reads-x-as-zero : MeetsThree readsXAsZero → ⊥
+  pub marks-never : MeetsThreeByPaths marksNever → ⊥
+  pub first-word-only : MeetsThreeByPaths firstWordOnly → ⊥
+  pub marks-all : MeetsFillings marksAll → ⊥

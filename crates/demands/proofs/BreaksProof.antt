@@ -1,4 +1,5 @@
--- Each wrong grader breaks the demand that specs/Breaks names, on a small file. Cells, classes and counts are computed; a cell is a path by `cell-decides`.
+-- Each wrong grader breaks the demand that specs/Breaks names, on a small file. Cells, classes and counts are computed; a cell is a path
+-- by `cell-decides`.
 use Prim.Native.Nat.{ℕ, zero, suc, _≤_, _<_}
 use Prim.Native.String.{String}
 use mathlib.Core.Path.{_≡_, refl, sym, ap, subst, _∙_}
@@ -19,16 +20,17 @@ use Rattle.circuit.specs.Refusals.{refusalPlace}
 use Rattle.circuit.specs.Reading.{Reading, accepted, refusal, readingOf}
 use Rattle.grading.specs.Rows.{rowsOf, cell}
 use Rattle.grading.specs.Promise.{countsOf}
-use Rattle.grading.proofs.RowLaws.{noRow}
 use Rattle.demands.specs.Calls.{Call, isGraded, Refuses, cellAt, classAt}
 use Rattle.demands.specs.One.{bufferTests, testsFrom, tableOf, passed}
-use Rattle.demands.specs.Two.{vectorOf, rowAt, AlikeButVectors, EqualBridges, OneClass, Found}
+use Rattle.demands.specs.Two.{vectorOf, rowAt, MatrixCell, AlikeButVectors, EqualBridges, OneClass, Found}
 use Rattle.demands.specs.Three.{given, Refined}
 use Rattle.demands.specs.Files.{inverter, inverterUnder, inverterListed, nandListed, nandOfOne, oneListed, nand3Fields, split}
 use Rattle.demands.specs.Graders.{Grader, called}
-use Rattle.demands.specs.Wrong.{marksAll, marksNever, leavesMatrix, firstWordOnly, inventsFound, sweepsOnce, onePlane, marksFloating, countsRows, spills, wraps, goesOn}
+use Rattle.demands.specs.Wrong.{marksAll, marksNever, leavesMatrix, firstWordOnly, inventsFound, sweepsOnce, onePlane}
+use Rattle.demands.specs.Wrong.{marksFloating, countsRows, spills, wraps, goesOn}
 use Rattle.demands.specs.Wrong.{isOne, watchesOutputs, holdsLevels, countsTwice, countsLabels, readsXAsZero}
-use Rattle.demands.specs.Breaks.{MeetsCells, MeetsClasses, MeetsThree, MeetsThreeByPaths, MeetsFillings, BreakDemandOne, BreakDemandTwo, BreakDemandThree}
+use Rattle.demands.specs.Breaks.{MeetsCells, MeetsClasses, MeetsThree, MeetsThreeByPaths, MeetsFillings}
+use Rattle.demands.specs.Breaks.{BreakDemandOne, BreakDemandTwo, BreakDemandThree}
 use Rattle.demands.proofs.Cells.{cell-decides}
 use Rattle.demands.proofs.Computing.{room, entries}
 use Rattle.demands.proofs.WrongProof.{wrong-computing, many, lastOnly, listedTwice, ones, Differ, apart}
@@ -71,7 +73,8 @@ Grades grader file = (readingOf file ≡ accepted (circuitOf file)) × T (isGrad
 abbrev CellWrong : Grader → List ℕ → ℕ → ℕ → Type 0
 CellWrong grader file r v =
     Grades grader file × T (ltb r (length (rowsOf (circuitOf file)))) × T (ltb v (length (circuitOf file .vectors)))
-    × (cellAt (callFor grader file .matrix-after) r v ≡ ofBool (not (cell (circuitOf file) (vectorOf (circuitOf file) v) (rowAt (circuitOf file) noRow r))))
+    × (cellAt (callFor grader file .matrix-after) r v
+    ≡ ofBool (not (cell (circuitOf file) (vectorOf (circuitOf file) v) (rowAt (circuitOf file) r))))
 
 opposite : (n : ℕ) (b : Bool) → n ≡ ofBool (not b) → (n ≡ 1) ↔ T b → ⊥
 opposite n true e iff = let one = iff .1 tt in omega arith
@@ -80,9 +83,10 @@ opposite n false e iff = iff .0 e
 by-cell : (grader : Grader) (file : List ℕ) (r v : ℕ) → CellWrong grader file r v → MeetsCells grader → ⊥
 by-cell grader file r v (grades, is-row, is-vector, differs) meets =
     let c = circuitOf file in
-    let tells = meets file room entries c (grades .0) (grades .1) .marked noRow r v (leb→le _ _ is-row) (leb→le _ _ is-vector) in
-    let decides = cell-decides c (vectorOf c v) (rowAt c noRow r) in
-    opposite _ (cell c (vectorOf c v) (rowAt c noRow r)) differs (λ e. decides .0 (tells .0 e), λ t. tells .1 (decides .1 t))
+    let at : MatrixCell c = record { row = r; vector = v; is-row = leb→le _ _ is-row; is-vector = leb→le _ _ is-vector } in
+    let tells = meets file room entries c (grades .0) (grades .1) .marked at in
+    let decides = cell-decides c (vectorOf c v) (rowAt c r) in
+    opposite _ (cell c (vectorOf c v) (rowAt c r)) differs (λ e. decides .0 (tells .0 e), λ t. tells .1 (decides .1 t))
 
 -- a mark past the last vector
 abbrev MarkPast : Grader → List ℕ → ℕ → ℕ → Type 0
@@ -100,12 +104,13 @@ by-past grader file r v (grades, is-row, past, inside, mark) meets =
 abbrev ClassWrong : Grader → List ℕ → ℕ → ℕ → Type 0
 ClassWrong grader file r s =
     Grades grader file × T (ltb r (length (rowsOf (circuitOf file)))) × T (ltb s (length (rowsOf (circuitOf file))))
-    × OneClass (rowAt (circuitOf file) noRow r) (rowAt (circuitOf file) noRow s)
+    × OneClass (rowAt (circuitOf file) r) (rowAt (circuitOf file) s)
     × Differ (classAt (callFor grader file .classes-after) r) (classAt (callFor grader file .classes-after) s)
 
 by-class : (grader : Grader) (file : List ℕ) (r s : ℕ) → ClassWrong grader file r s → MeetsClasses grader → ⊥
 by-class grader file r s (grades, is-row, is-row-too, one, differ) meets =
-    apart _ _ differ (meets file room entries (circuitOf file) (grades .0) (grades .1) .same noRow r s (leb→le _ _ is-row) (leb→le _ _ is-row-too) .1 one)
+    let tells = meets file room entries (circuitOf file) (grades .0) (grades .1) in
+    apart _ _ differ (tells .same r s (leb→le _ _ is-row) (leb→le _ _ is-row-too) .1 one)
 
 -- ---- found counts, on one short whose rows, all of class 1, are marked or not
 
@@ -130,19 +135,18 @@ module _ (grader : Grader) (file : List ℕ) (found : Bool) (w : FoundWrong grad
   -- class 1 is found where its first row is marked
   is-found : ofBool found ≡ 1 → HereFound
   is-found e = record {
-    row = 0;
-    is-row = w .some;
+    cell = record { row = 0; vector = 0; is-row = w .some; is-vector = omega (arith, w .one-vector) };
     of-class = w .rows 0 (w .some) .0;
-    vector = 0;
-    is-vector = omega (arith, w .one-vector);
     mark = w .rows 0 (w .some) .1 ∙ e;
   }
 
   -- and only there
   found-is : HereFound → ofBool found ≡ 1
   found-is f =
-      let first : f .vector ≡ 0 = omega (arith, f .is-vector, w .one-vector) in
-      sym (w .rows (f .row) (f .is-row) .1) ∙ subst (λ (v : ℕ). cellAt (callFor grader file .matrix-after) (f .row) v ≡ 1) first (f .mark)
+      let at = f .cell in
+      let first : at .vector ≡ 0 = omega (arith, at .is-vector, w .one-vector) in
+      sym (w .rows (at .row) (at .is-row) .1)
+      ∙ subst (λ (v : ℕ). cellAt (callFor grader file .matrix-after) (at .row) v ≡ 1) first (f .mark)
 
   -- so what counts class 1 is what it should be
   counted : (n : ℕ) → n ≤ 1 → (n ≡ 1) ↔ HereFound → n ≡ ofBool found
@@ -220,7 +224,14 @@ rows-twice (suc (suc r)) h = absurd (omega arith)
 
 found-invented : FoundWrong inventsFound unmarked false
 unfolding wrong-computing toldBy isGraded cellAt classAt
-found-invented = record { grades = (refl, tt); rows = row-unmarked; some = omega arith; one-vector = refl; one-class = refl; differs = refl }
+found-invented = record {
+  grades = (refl, tt);
+  rows = row-unmarked;
+  some = omega arith;
+  one-vector = refl;
+  one-class = refl;
+  differs = refl;
+}
 
 found-rows : FoundWrong countsRows listedTwice true
 unfolding wrong-computing toldBy isGraded cellAt classAt

@@ -1,5 +1,5 @@
--- Demand 2, cells: the cell of a row and a vector is the mark of the row's bridge under the vector, by a path or by the bridge's ends, and past the last vector it is 0.
--- The rails of a row's instance are apart, since reading accepts complementary types only.
+-- Demand 2, cells: the cell of a row and a vector is the mark of the row's bridge under the vector, by a path or by the bridge's ends, and
+-- past the last vector it is 0. The rails of a row's instance are apart, since reading accepts complementary types only.
 use Prim.Native.Nat.{ℕ, _-_, _/_, _≤_, _<_}
 use mathlib.Core.Path.{_≡_, refl, sym, _∙_}
 use mathlib.Core.Bool.{Bool, true, false}
@@ -22,34 +22,34 @@ use Rattle.switch.proofs.Deciding.{mark-decides}
 use Rattle.switch.proofs.Marks.{closed-path-is-ends}
 use Rattle.circuit.specs.Circuit.{Circuit}
 use Rattle.circuit.specs.Laws.{CircuitGood}
-use Rattle.grading.specs.Rows.{Row, rowsOf, rowValues, CellMarked, cell, markOf, rowWords, matrixOf}
+use Rattle.grading.specs.Rows as rows
+use Rattle.grading.specs.Rows.{Row, rowsOf, rowValues, CellMarked, markOf, rowWords, matrixOf}
 use Rattle.grading.specs.Grading.{over}
 use Rattle.grading.proofs.Everywhere.{every-at}
 use Rattle.classes.proofs.FoundMeaning.{words-are}
-use Rattle.grading.proofs.RowLaws.{noRow}
 use Rattle.grading.proofs.SameClass.{Placed, rows-placed}
 use Rattle.grading.proofs.ValueLaws.{type-good, type-accepted}
 use Rattle.demands.specs.Calls.{Call, GradedAs, cellAt}
-use Rattle.demands.specs.Two.{vectorOf, rowAt, typeOfRow, CellIsPath}
+use Rattle.demands.specs.Two.{noRow, rowAt, vectorOf, MatrixCell, rowOfCell, vectorOfCell, markIn, typeOfRow, valuesIn, CellIsPath}
 use Rattle.demands.proofs.Gave.{Gave, gave}
 
-module _ (call : Call) (c : Circuit) (given : GradedAs call c) (none : Row) (r v : ℕ) (h : r < length (rowsOf c)) where
+module _ (call : Call) (c : Circuit) (given : GradedAs call c) (r v : ℕ) (h : r < length (rowsOf c)) where
   here : Gave call c
   here = gave call c given
 
-  marks : v < 256 → cellAt (call .matrix-after) r v ≡ upTo (length (c .vectors)) (markOf c (rowAt c none r)) v
+  marks : v < 256 → cellAt (call .matrix-after) r v ≡ upTo (length (c .vectors)) (markOf c (rowAt c r)) v
   unfolding cellAt matrixOf over rowWords markAt markOf
   marks k =
-      rw (here .matrix-is, words-are c (rowsOf c) (drop (length (matrixOf c)) (call .matrix)) r (v / 64) none h (omega arith))
-      (row-mark (length (c .vectors)) (markOf c (rowAt c none r)) (λ u. ofBool-le-one (cell c (vectorOf c u) (rowAt c none r))) v k)
+      rw (here .matrix-is, words-are c (rowsOf c) (drop (length (matrixOf c)) (call .matrix)) r (v / 64) noRow h (omega arith))
+      (row-mark (length (c .vectors)) (markOf c (rowAt c r)) (λ u. ofBool-le-one (rows.cell c (vectorOf c u) (rowAt c r))) v k)
 
-  pub mark-is : v < length (c .vectors) → cellAt (call .matrix-after) r v ≡ markOf c (rowAt c none r) v
+  pub mark-is : v < length (c .vectors) → cellAt (call .matrix-after) r v ≡ markOf c (rowAt c r) v
   mark-is k =
       let few = here .good .few-vectors in
-      marks (omega arith) ∙ up-below (length (c .vectors)) (markOf c (rowAt c none r)) v k
+      marks (omega arith) ∙ up-below (length (c .vectors)) (markOf c (rowAt c r)) v k
 
   cell-past : length (c .vectors) ≤ v → v < 256 → cellAt (call .matrix-after) r v ≡ 0
-  cell-past k l = marks l ∙ up-past (length (c .vectors)) (markOf c (rowAt c none r)) v k
+  cell-past k l = marks l ∙ up-past (length (c .vectors)) (markOf c (rowAt c r)) v k
 
 -- a bit that tells a test which decides a fact
 module _ {A : Type 0} (b : Bool) (decides : A ↔ T b) (n : ℕ) (is : n ≡ ofBool b) where
@@ -66,41 +66,41 @@ module _ {A : Type 0} (b : Bool) (decides : A ↔ T b) (n : ℕ) (is : n ≡ ofB
       none true f = absurd (f tt)
       none false f = refl
 
-pub cell-decides : (c : Circuit) (vector : List Value) (row : Row) → CellMarked c vector row ↔ T (cell c vector row)
-unfolding CellMarked cell
+pub cell-decides : (c : Circuit) (vector : List Value) (row : Row) → CellMarked c vector row ↔ T (rows.cell c vector row)
+unfolding CellMarked rows.cell
 cell-decides c vector row = mark-decides (typeOfRow c row) (rowValues c vector row) (row .bridge)
 
 -- the type of a row of a good circuit
-row-accepted : (c : Circuit) → CircuitGood c → (none : Row) (r : ℕ) → r < length (rowsOf c) → Accepted (typeOfRow c (rowAt c none r))
+row-accepted : (c : Circuit) → CircuitGood c → (r : ℕ) → r < length (rowsOf c) → Accepted (typeOfRow c (rowAt c r))
 unfolding rowsOf
-row-accepted c good none r h =
-    let row = rowAt c none r in
-    let none′ = none .instance in
-    let at = every-at (Placed 1 (c .instances) none′) (rowsOf c) (rows-placed (c .types) (c .bridges) none′ 1 (c .instances)) r none h in
-    type-accepted (typeOfRow c row) (type-good c good (row .number - 1) (omega arith) none′ (row .instance) (sym (at .instance-is)))
+row-accepted c good r h =
+    let row = rowAt c r in
+    let none = noRow .instance in
+    let at = every-at (Placed 1 (c .instances) none) (rowsOf c) (rows-placed (c .types) (c .bridges) none 1 (c .instances)) r noRow h in
+    type-accepted (typeOfRow c row) (type-good c good (row .number - 1) (omega arith) none (row .instance) (sym (at .instance-is)))
 
-module _ (call : Call) (c : Circuit) (given : GradedAs call c) (none : Row) (r v : ℕ) (h : r < length (rowsOf c)) (k : v < length (c .vectors)) where
-  pub cell-marked : (cellAt (call .matrix-after) r v ≡ 1) ↔ CellMarked c (vectorOf c v) (rowAt c none r)
+module _ (call : Call) (c : Circuit) (given : GradedAs call c) (cell : MatrixCell c) where
+  is-mark : markIn call cell ≡ markOf c (rowOfCell cell) (cell .vector)
+  is-mark = mark-is call c given (cell .row) (cell .vector) (cell .is-row) (cell .is-vector)
+
+  decided : CellMarked c (vectorOfCell cell) (rowOfCell cell) ↔ T (rows.cell c (vectorOfCell cell) (rowOfCell cell))
+  decided = cell-decides c (vectorOfCell cell) (rowOfCell cell)
+
+  pub cell-marked : (markIn call cell ≡ 1) ↔ CellMarked c (vectorOfCell cell) (rowOfCell cell)
   unfolding markOf
-  cell-marked =
-      let row = rowAt c none r in
-      says (cell c (vectorOf c v) row) (cell-decides c (vectorOf c v) row) (cellAt (call .matrix-after) r v) (mark-is call c given none r v h k)
+  cell-marked = says (rows.cell c (vectorOfCell cell) (rowOfCell cell)) decided (markIn call cell) is-mark
 
-  cell-not-marked : (cellAt (call .matrix-after) r v ≡ 0) ↔ (CellMarked c (vectorOf c v) (rowAt c none r) → ⊥)
+  cell-not-marked : (markIn call cell ≡ 0) ↔ (CellMarked c (vectorOfCell cell) (rowOfCell cell) → ⊥)
   unfolding markOf
-  cell-not-marked =
-      let row = rowAt c none r in
-      denies (cell c (vectorOf c v) row) (cell-decides c (vectorOf c v) row) (cellAt (call .matrix-after) r v) (mark-is call c given none r v h k)
+  cell-not-marked = denies (rows.cell c (vectorOfCell cell) (rowOfCell cell)) decided (markIn call cell) is-mark
 
-  accepted : Accepted (typeOfRow c (rowAt c none r))
-  accepted = row-accepted c (gave call c given .good) none r h
+  accepted : Accepted (typeOfRow c (rowOfCell cell))
+  accepted = row-accepted c (gave call c given .good) (cell .row) (cell .is-row)
 
-  cell-by-ends : (cellAt (call .matrix-after) r v ≡ 1)
-      ↔ MarkedByEnds (typeOfRow c (rowAt c none r)) (rowValues c (vectorOf c v) (rowAt c none r)) (rowAt c none r .bridge)
+  cell-by-ends : (markIn call cell ≡ 1) ↔ MarkedByEnds (typeOfRow c (rowOfCell cell)) (valuesIn cell) (rowOfCell cell .bridge)
   unfolding CellMarked
   cell-by-ends =
-      let row = rowAt c none r in
-      let ends = closed-path-is-ends (typeOfRow c row) accepted (rowValues c (vectorOf c v) row) (row .bridge) in
+      let ends = closed-path-is-ends (typeOfRow c (rowOfCell cell)) accepted (valuesIn cell) (rowOfCell cell .bridge) in
       (λ e. ends .0 (cell-marked .0 e), λ m. cell-marked .1 (ends .1 m))
 
 pub cell-is-path : CellIsPath
@@ -108,7 +108,6 @@ cell-is-path call c given = record {
   marked = cell-marked call c given;
   not-marked = cell-not-marked call c given;
   by-ends = cell-by-ends call c given;
-  not-without-the-bridge = λ none r v h k.
-      rails-apart .rails (typeOfRow c (rowAt c none r)) (accepted call c given none r v h k) (rowValues c (vectorOf c v) (rowAt c none r));
-  past-the-last-vector = λ r v h. cell-past call c given noRow r v h;
+  not-without-the-bridge = λ cell. rails-apart .rails (typeOfRow c (rowOfCell cell)) (accepted call c given cell) (valuesIn cell);
+  past-the-last-vector = cell-past call c given;
 }

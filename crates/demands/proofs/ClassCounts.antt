@@ -1,4 +1,5 @@
--- Proves ClassesCountOnce, of demand 2: each class counts once. The numbers rise, because a row's number is at most one more than the largest before it.
+-- Proves ClassesCountOnce, of demand 2: each class counts once. The numbers rise, because a row's number is at most one more than the
+-- largest before it.
 use Prim.Native.Nat.{ℕ, suc, _<_, _≤_}
 use mathlib.Core.Path.{_≡_, refl, sym, ap, _∙_}
 use mathlib.Core.Bool.{Bool}
@@ -21,9 +22,8 @@ use Rattle.grading.specs.Statements.{RowOf, ClassNumbers}
 use Rattle.grading.proofs.Everywhere.{every-at}
 use Rattle.grading.proofs.ClassLists.{largest-append, at-most-largest}
 use Rattle.grading.proofs.ClassNumbering.{Matched, Fresh, searched, class-numbers}
-use Rattle.grading.proofs.RowLaws.{noRow}
 use Rattle.demands.specs.Calls.{Call, GradedAs}
-use Rattle.demands.specs.Two.{rowAt, OneClass, Found, ClassesTell, ClassesCountOnce}
+use Rattle.demands.specs.Two.{noRow, rowAt, OneClass, Found, ClassesTell, ClassesCountOnce}
 use Rattle.demands.proofs.Gave.{gave, classes-counted, found-counted, class-is}
 use Rattle.demands.proofs.Cells.{mark-is}
 use Rattle.demands.proofs.FoundClasses.{Shown, found-is-shown}
@@ -110,20 +110,17 @@ module _ (call : Call) (c : Circuit) (g : GradedAs call c) where
   found-shown : (n : ℕ) → Found call c n ↔ Shown c n
   found-shown n = (
     λ f. record {
-      place = f .row;
-      within = f .is-row;
-      of-class = sym (class-is call c g (f .row) (f .is-row)) ∙ f .of-class;
-      vector = f .vector;
-      is-vector = f .is-vector;
-      mark = sym (mark-is call c g noRow (f .row) (f .vector) (f .is-row) (f .is-vector)) ∙ f .mark;
+      place = f .cell .row;
+      within = f .cell .is-row;
+      of-class = sym (class-is call c g (f .cell .row) (f .cell .is-row)) ∙ f .of-class;
+      vector = f .cell .vector;
+      is-vector = f .cell .is-vector;
+      mark = sym (mark-is call c g (f .cell .row) (f .cell .vector) (f .cell .is-row) (f .cell .is-vector)) ∙ f .mark;
     },
     λ s. record {
-      row = s .place;
-      is-row = s .within;
+      cell = record { row = s .place; vector = s .vector; is-row = s .within; is-vector = s .is-vector };
       of-class = class-is call c g (s .place) (s .within) ∙ s .of-class;
-      vector = s .vector;
-      is-vector = s .is-vector;
-      mark = mark-is call c g noRow (s .place) (s .vector) (s .within) (s .is-vector) ∙ s .mark;
+      mark = mark-is call c g (s .place) (s .vector) (s .within) (s .is-vector) ∙ s .mark;
     },
   )
 
@@ -144,12 +141,14 @@ module _ (call : Call) (c : Circuit) (g : GradedAs call c) where
   unfolding foundCount foundBy
   found-sum = refl
 
-  same : (none : Row) (r s : ℕ) → r < length (rowsOf c) → s < length (rowsOf c)
-      → (getD (classesOf (rowsOf c)) r 0 ≡ getD (classesOf (rowsOf c)) s 0) ↔ OneClass (rowAt c none r) (rowAt c none s)
-  same none r s h k =
-      let is-row : (t : ℕ) → t < length (rowsOf c) → RowOf c (rowAt c none t) = λ t l. every-at (RowOf c) (rowsOf c) (λ row m. m) t none l in
-      let numbers = class-numbers c .same r s none h k in
-      let tested = one-class-is-tested c (gave call c g .good) (rowAt c none r) (rowAt c none s) (is-row r h) (is-row s k) in
+  is-row : (r : ℕ) → r < length (rowsOf c) → RowOf c (rowAt c r)
+  is-row r h = every-at (RowOf c) (rowsOf c) (λ row m. m) r noRow h
+
+  same : (r s : ℕ) → r < length (rowsOf c) → s < length (rowsOf c)
+      → (getD (classesOf (rowsOf c)) r 0 ≡ getD (classesOf (rowsOf c)) s 0) ↔ OneClass (rowAt c r) (rowAt c s)
+  same r s h k =
+      let numbers = class-numbers c .same r s noRow h k in
+      let tested = one-class-is-tested c (gave call c g .good) (rowAt c r) (rowAt c s) (is-row r h) (is-row s k) in
       (λ e. tested .1 (numbers .0 e), λ o. numbers .1 (tested .0 o))
 
   tell : ClassesTell call c
@@ -159,10 +158,11 @@ module _ (call : Call) (c : Circuit) (g : GradedAs call c) where
       let class = class-is call c g in
       let count = classes-counted call c g in
       record {
-        same = λ none r s h k. rw (class r h, class s k) (same none r s h k);
+        same = λ r s h k. rw (class r h, class s k) (same r s h k);
         low = λ r h. rw (class r h) (numbers .low r h);
         high = λ r h. rw (class r h, count) (numbers .high r h);
-        each = λ n p q. let there = numbers .each n p (omega (arith, count)) in (there .0, there .1, class (there .0) (there .1) ∙ there .2);
+        each = λ n p q.
+            let there = numbers .each n p (omega (arith, count)) in (there .0, there .1, class (there .0) (there .1) ∙ there .2);
         at-its-first-row = λ r n h p q.
             let there = rising c .rises r n (omega (arith, numbers .one-each)) p (omega (arith, class r h)) in
             (there .0, there .1, class (there .0) (omega (arith, there .1)) ∙ there .2);

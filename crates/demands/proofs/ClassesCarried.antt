@@ -1,5 +1,5 @@
--- Classes carried from one circuit to another. Where each row of the first has a row of the second in its class, and its marks there, the first has
--- no more classes and no more found ones: its class numbers go one to one into those of the second. Assumes nothing.
+-- Classes carried from one circuit to another. Where each row of the first has a row of the second in its class, and its marks there, the
+-- first has no more classes and no more found ones: its class numbers go one to one into those of the second. Assumes nothing.
 use Prim.Native.Nat.{ℕ, suc, _-_, _<_, _≤_}
 use mathlib.Core.Path.{_≡_, refl, sym, ap, _∙_}
 use mathlib.Core.List.{[]}
@@ -16,16 +16,18 @@ use Rattle.grading.specs.Statements.{RowOf, SameClassIsEquivalence, classNumber
 use Rattle.grading.proofs.Everywhere.{every-at, place-of}
 use Rattle.grading.proofs.SameClass.{same-class-is-equivalence, classes-have-equal-marks}
 use Rattle.grading.proofs.ClassNumbering.{class-numbers}
-use Rattle.grading.proofs.RowLaws.{noRow}
+use Rattle.demands.specs.Two.{noRow}
 use Rattle.demands.proofs.FoundClasses.{Shown, found-is-shown}
 
 -- ---- two circuits
 
-same-marks : (c : Circuit) (one other : Row) → RowOf c one → RowOf c other → T (sameClass one other) → (v : ℕ) → markOf c one v ≡ markOf c other v
+same-marks : (c : Circuit) (one other : Row) → RowOf c one → RowOf c other → T (sameClass one other)
+    → (v : ℕ) → markOf c one v ≡ markOf c other v
 unfolding markOf
 same-marks c one other p q t v = ap ofBool (classes-have-equal-marks c one other p q t (getD (c .vectors) v []))
 
--- `all` has the rows of both. Each row of c has a row of d in its class. A mark of c is one of `all`, and a mark of `all` in a row of d is one of d
+-- `all` has the rows of both. Each row of c has a row of d in its class. A mark of c is one of `all`, and a mark of `all` in a row of d is
+-- one of d
 pub record Carries (c all d : Circuit) : Type 0 where
   pub rows-in : (row : Row) → RowOf c row → RowOf all row
   pub rows-out : (row : Row) → RowOf d row → RowOf all row
@@ -124,8 +126,12 @@ module _ (c all d : Circuit) (carries : Carries c all d) where
       goes : (i : ℕ) → i < classCount c → _≡_ {A = ℕ} 1 1 → (j : ℕ) × (j < classCount d) × (_≡_ {A = ℕ} 1 1) × To i j
       goes i h e =
           let first = class-numbers c .each (suc i) (omega arith) h in
-          let landed : Landing (first .0) = land (first .0) (first .1) in
-          (landed .class, landed .is-class, refl, record { row = first .0; is-row = first .1; of-class = first .2; landing = landed; there = refl })
+          let landed : Landing (first .0) = land (first .0) (first .1) in (
+            landed .class,
+            landed .is-class,
+            refl,
+            record { row = first .0; is-row = first .1; of-class = first .2; landing = landed; there = refl },
+          )
 
   -- a mark goes along
   mark-carried : (r v : ℕ) (landed : Landing r) → r < length (rowsOf c) → v < length (c .vectors) → markOf c (rowOf c r) v ≡ 1
@@ -159,6 +165,7 @@ module _ (c all d : Circuit) (carries : Carries c all d) where
           } in (
             landed .class,
             landed .is-class,
-            bit-set (classFound d (suc (landed .class)) (rowsOf d) (classesOf (rowsOf d))) (found-is-shown d (suc (landed .class)) .1 there),
+            bit-set (classFound d (suc (landed .class)) (rowsOf d) (classesOf (rowsOf d)))
+                (found-is-shown d (suc (landed .class)) .1 there),
             record { row = shown .place; is-row = shown .within; of-class = shown .of-class; landing = landed; there = refl },
           )

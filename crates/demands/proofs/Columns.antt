@@ -1,13 +1,14 @@
 -- Demand 2, columns: the cells of a column are told by types, bridges, instances and the column's own vector.
+use Prim.Native.Nat.{ℕ}
 use mathlib.Core.Path.{_≡_, sym, ap, ap₂, _∙_}
 use mathlib.Core.List.{List}
 use lib.ListN.{getD}
 use Rattle.words.specs.Bits.{ofBool}
 use Rattle.switch.specs.Conduction.{Value}
 use Rattle.circuit.specs.Circuit.{Circuit}
-use Rattle.grading.specs.Rows.{Row, rowsOf, rowValues, cell, markOf}
-use Rattle.grading.proofs.RowLaws.{noRow}
-use Rattle.demands.specs.Two.{vectorOf, rowAt, AlikeButVectors, ColumnIsOfItsVector}
+use Rattle.grading.specs.Rows as rows
+use Rattle.grading.specs.Rows.{Row, rowsOf, rowValues, markOf}
+use Rattle.demands.specs.Two.{noRow, rowOfCell, vectorOfCell, AlikeButVectors, ColumnIsOfItsVector}
 use Rattle.demands.proofs.Cells.{mark-is}
 
 module _ (c d : Circuit) (alike : AlikeButVectors c d) where
@@ -15,14 +16,16 @@ module _ (c d : Circuit) (alike : AlikeButVectors c d) where
   unfolding rowsOf
   same-rows = rw (alike .types, alike .bridges, alike .instances)
 
-  pub same-cell : (vector : List Value) (row : Row) → cell c vector row ≡ cell d vector row
-  unfolding cell rowValues
+  pub same-cell : (vector : List Value) (row : Row) → rows.cell c vector row ≡ rows.cell d vector row
+  unfolding rows.cell rowValues
   same-cell vector row = rw (alike .types, alike .instances)
 
 pub column-is-of-its-vector : ColumnIsOfItsVector
 unfolding markOf
-column-is-of-its-vector one other c d given given′ alike v w h k same r l =
-    let rows = same-rows c d alike in
-    mark-is one c given noRow r v l h
-    ∙ ap ofBool (same-cell c d alike (vectorOf c v) (rowAt c noRow r) ∙ ap₂ (cell d) same (ap (λ (rs : List Row). getD rs r noRow) rows))
-    ∙ sym (mark-is other d given′ noRow r w (rw rows at l) k)
+column-is-of-its-vector one other c d given given′ alike cell its same-row same-vector =
+    mark-is one c given (cell .row) (cell .vector) (cell .is-row) (cell .is-vector)
+    ∙ ap ofBool (same-cell c d alike (vectorOfCell cell) (rowOfCell cell) ∙ ap₂ (rows.cell d) same-vector row-is)
+    ∙ sym (mark-is other d given′ (its .row) (its .vector) (its .is-row) (its .is-vector))
+  where
+    row-is : rowOfCell cell ≡ rowOfCell its
+    row-is = ap₂ (λ (rs : List Row) (r : ℕ). getD rs r noRow) (same-rows c d alike) same-row

@@ -19,7 +19,7 @@ use Rattle.grading.specs.Classes.{classesOf, hasMarkBy, hasMark, classFoundBy, 
 use Rattle.grading.proofs.ClassNumbering.{class-numbers}
 use Rattle.grading.proofs.FoundLaws.{found-by}
 use Rattle.grading.proofs.SameClass.{or-cases}
-use Rattle.grading.proofs.RowLaws.{noRow}
+use Rattle.demands.specs.Two.{noRow}
 
 -- ---- a row's marks
 

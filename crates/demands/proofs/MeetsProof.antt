@@ -1,5 +1,6 @@
--- The right grader meets all demands; every grader that refuses by the table meets demand 1, whatever it works out of a circuit, one that works out
--- the right words meets the cells of demand 2, and what of demand 3 those meet that mark all, never, or under the first 64 vectors.
+-- The right grader meets all demands; every grader that refuses by the table meets demand 1, whatever it works out of a circuit, one that
+-- works out the right words meets the cells of demand 2, and what of demand 3 those meet that mark all, never, or under the first 64
+-- vectors.
 use Prim.Native.Nat.{ℕ, _≤_}
 use mathlib.Core.Path.{_≡_, refl, sym, ap, _∙_}
 use mathlib.Core.Bool.{Bool, true, false, cond}
@@ -34,7 +35,8 @@ use Rattle.demands.proofs.RightProof.{rightly-is-right}
 
 right-as : (file matrix classes : List ℕ) (c : Circuit) → Accepts file c → T (isGraded (rightly file matrix classes .answer))
     → GradedAs (called rightly file matrix classes) c
-right-as file matrix classes c accepts is-graded = record { kept = rightly-is-right file matrix classes; accepts = accepts; graded = is-graded }
+right-as file matrix classes c accepts is-graded =
+    record { kept = rightly-is-right file matrix classes; accepts = accepts; graded = is-graded }
 
 mark-le-one : (c : Circuit) (row : Row) (v : ℕ) → markOf c row v ≤ 1
 unfolding markOf
@@ -58,7 +60,8 @@ rightly-meets-all = record {
 
 module _ (work : Circuit → Work) (matrix classes : List ℕ) where
   -- its verdict is the right grader's
-  same-verdict : (g : Grading) → answered (outcomeOf work g matrix classes .answer) ≡ answered (outcomeOf rightWork g matrix classes .answer)
+  same-verdict : (g : Grading)
+      → answered (outcomeOf work g matrix classes .answer) ≡ answered (outcomeOf rightWork g matrix classes .answer)
   unfolding outcomeOf answered
   same-verdict (graded c) = refl
   same-verdict (refused n p) = refl
@@ -87,15 +90,16 @@ meet-demand-one = record { by-any-work = by-any-work; marks-all = by-any-work _;
 -- the clause on cells speaks of the matrix alone
 cells-carried : (one other : Call) (c : Circuit) → other .matrix-after ≡ one .matrix-after → CellsTell one c → CellsTell other c
 cells-carried one other c e tells = record {
-  marked = λ none r v h k. rw e (tells .marked none r v h k);
-  not-marked = λ none r v h k. rw e (tells .not-marked none r v h k);
-  by-ends = λ none r v h k. rw e (tells .by-ends none r v h k);
+  marked = λ cell. rw e (tells .marked cell);
+  not-marked = λ cell. rw e (tells .not-marked cell);
+  by-ends = λ cell. rw e (tells .by-ends cell);
   not-without-the-bridge = tells .not-without-the-bridge;
   past-the-last-vector = λ r v h k l. rw e (tells .past-the-last-vector r v h k l);
 }
 
 module _ (work : Circuit → Work) (same : (c : Circuit) → work c .words ≡ rightWork c .words) where
-  same-matrix : (g : Grading) (matrix classes : List ℕ) → outcomeOf work g matrix classes .matrix ≡ outcomeOf rightWork g matrix classes .matrix
+  same-matrix : (g : Grading) (matrix classes : List ℕ)
+      → outcomeOf work g matrix classes .matrix ≡ outcomeOf rightWork g matrix classes .matrix
   unfolding outcomeOf
   same-matrix (graded c) matrix classes = ap (λ (words : List ℕ). over words matrix) (same c)
   same-matrix (refused n p) matrix classes = refl

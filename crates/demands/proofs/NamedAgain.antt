@@ -1,5 +1,5 @@
--- Proves NamingAgainAddsNothing and OtherEndAddsNothing, of demand 2: a bridge named once more adds no class and no found class. Each row of either circuit
--- has a row of the other in its class, so the law of ClassesCarried holds both ways.
+-- Proves NamingAgainAddsNothing and OtherEndAddsNothing, of demand 2: a bridge named once more adds no class and no found class. Each row
+-- of either circuit has a row of the other in its class, so the law of ClassesCarried holds both ways.
 use Prim.Native.Nat.{ℕ}
 use mathlib.Core.Path.{_≡_, refl, sym, ap, _∙_}
 use mathlib.Core.Bool.{Bool, true, false, cond}
@@ -13,7 +13,8 @@ use lib.ListN.{length}
 use Rattle.switch.specs.Modules.{ModuleType}
 use Rattle.switch.specs.Bridges.{Bridge, nodes}
 use Rattle.switch.proofs.Deciding.{and-both}
-use Rattle.circuit.specs.Circuit.{Circuit, Instance, Listed, Choice, exhaustive, no-faults, list, typeOfInstance, userList, chosen, faultsOf}
+use Rattle.circuit.specs.Circuit.{Circuit, Instance, Listed, Choice, exhaustive, no-faults, list}
+use Rattle.circuit.specs.Circuit.{typeOfInstance, userList, chosen, faultsOf}
 use Rattle.grading.specs.Rows.{Row, rowsFrom, rowsOf, rowValues, cell, markOf}
 use Rattle.grading.specs.Classes.{sameBridge, sameClass}
 use Rattle.grading.specs.Statements.{RowOf}
@@ -36,7 +37,10 @@ listed l b (x ∷ xs) m = go (eqb (x .list) l) refl m (listed l b xs)
     go : (t : Bool) → eqb (x .list) l ≡ t → List·Memᴰ b (cond t (x .bridge ∷ userList l xs) (userList l xs))
         → (List·Memᴰ b (userList l xs) → List·Memᴰ (listedAs l b) xs) → List·Memᴰ (listedAs l b) (x ∷ xs)
     go true e m later =
-        ⊎-elim (λ (p : b ≡ x .bridge). List·Memᴰ·head (rw (p, ← (eqb-true (x .list) l e)))) (λ k. List·Memᴰ·tail (later k)) (List·Memᴰ·cases-cons m)
+        ⊎-elim
+        (λ (p : b ≡ x .bridge). List·Memᴰ·head (rw (p, ← (eqb-true (x .list) l e))))
+        (λ k. List·Memᴰ·tail (later k))
+        (List·Memᴰ·cases-cons m)
     go false e m later = List·Memᴰ·tail (later m)
 
 in-list : (l : ℕ) (b : Bridge) (bs : List Listed) → List·Memᴰ (listedAs l b) bs → List·Memᴰ b (userList l bs)
@@ -56,28 +60,28 @@ in-list l b (x ∷ xs) m = ⊎-elim here (λ k. later (eqb (x .list) l) (in-list
 
 module _ (c d : Circuit) (again : NamedAgain c d) where
   abbrev extra : Listed
-  extra = listedAs (again .number) (again .again)
+  extra = listedAs (again .more .number) (again .again)
 
   abbrev fewer : List Listed
-  fewer = again .before ++ again .after
+  fewer = again .more .before ++ again .more .after
 
   abbrev more : List Listed
-  more = again .before ++ (extra ∷ again .after)
+  more = again .more .before ++ (extra ∷ again .more .after)
 
   rows-fewer : rowsOf c ≡ rowsFrom (d .types) fewer 1 (d .instances)
   unfolding rowsOf
-  rows-fewer = rw (again .types, again .instances, again .bridges)
+  rows-fewer = rw (again .more .types, again .more .instances, again .more .bridges)
 
   rows-more : rowsOf d ≡ rowsFrom (d .types) more 1 (d .instances)
   unfolding rowsOf
-  rows-more = rw (again .named-again)
+  rows-more = rw (again .more .named-again)
 
   listed-more : (l : ℕ) (b : Bridge) → List·Memᴰ (listedAs l b) fewer → List·Memᴰ (listedAs l b) more
   listed-more l b m =
       ⊎-elim
-      (λ k. Memᴰ·append-left (extra ∷ again .after) k)
-      (λ k. Memᴰ·append-right (again .before) (List·Memᴰ·tail k))
-      (List·Memᴰ·append-cases (again .before) m)
+      (λ k. Memᴰ·append-left (extra ∷ again .more .after) k)
+      (λ k. Memᴰ·append-right (again .more .before) (List·Memᴰ·tail k))
+      (List·Memᴰ·append-cases (again .more .before) m)
 
   module _ (i : Instance) (is-one : List·Memᴰ i (d .instances)) where
     -- a bridge of i's list that is equal to b
@@ -89,21 +93,25 @@ module _ (c d : Circuit) (again : NamedAgain c d) where
 
     listed-fewer : (l : ℕ) (b : Bridge) → i .choice ≡ list l → List·Memᴰ (listedAs l b) more → EqualIn (userList l fewer) b
     listed-fewer l b chose m =
-        ⊎-elim (λ k. kept (Memᴰ·append-left (again .after) k)) (λ k. ⊎-elim named kept′ (List·Memᴰ·cases-cons k)) (List·Memᴰ·append-cases (again .before) m)
+        ⊎-elim
+        (λ k. kept (Memᴰ·append-left (again .more .after) k))
+        (λ k. ⊎-elim named kept′ (List·Memᴰ·cases-cons k))
+        (List·Memᴰ·append-cases (again .more .before) m)
       where
         kept : List·Memᴰ (listedAs l b) fewer → EqualIn (userList l fewer) b
         kept k = (b, in-list l b fewer k, itself b)
 
-        kept′ : List·Memᴰ (listedAs l b) (again .after) → EqualIn (userList l fewer) b
-        kept′ k = kept (Memᴰ·append-right (again .before) k)
+        kept′ : List·Memᴰ (listedAs l b) (again .more .after) → EqualIn (userList l fewer) b
+        kept′ k = kept (Memᴰ·append-right (again .more .before) k)
 
         named : listedAs l b ≡ extra → EqualIn (userList l fewer) b
         named e =
-            let list-is : l ≡ again .number = ap (λ (y : Listed). y .list) e in
+            let list-is : l ≡ again .more .number = ap (λ (y : Listed). y .list) e in
             let bridge-is : b ≡ again .again = ap (λ (y : Listed). y .bridge) e in
-            let equal : EqualBridges i (again .named) (again .again) = again .equal i (rw (again .instances) is-one) (chose ∙ ap list list-is) in (
+            let equal : EqualBridges i (again .named) (again .again) =
+            again .equal i (rw (again .more .instances) is-one) (chose ∙ ap list list-is) in (
               again .named,
-              in-list l (again .named) fewer (rw list-is (again .is-named)),
+              in-list l (again .named) fewer (rw list-is (again .more .is-named)),
               rw bridge-is (equal-tested i (again .again) (again .named) (equal-turned i (again .named) (again .again) equal)),
             )
 
@@ -143,15 +151,16 @@ module _ (c d : Circuit) (again : NamedAgain c d) where
       let there = fault-fewer (row .instance) (from .of-instance) (row .bridge) (from .fault) in (
         rowWith (row .number) (row .instance) (there .0),
         rw rows-fewer (from .others fewer (there .0) (there .1)),
-        and-both (eqb (row .number) (row .number)) (sameBridge (row .instance) (row .bridge) (there .0)) (eqb-refl (row .number)) (there .2),
+        and-both (eqb (row .number) (row .number)) (sameBridge (row .instance) (row .bridge) (there .0))
+            (eqb-refl (row .number)) (there .2),
       )
 
   marks-agree : (row : Row) (v : ℕ) → markOf c row v ≡ markOf d row v
   unfolding markOf cell rowValues
-  marks-agree row v = rw (again .types, again .instances, again .vectors)
+  marks-agree row v = rw (again .more .types, again .more .instances, again .more .vectors)
 
   as-many : length (c .vectors) ≡ length (d .vectors)
-  as-many = ap length (again .vectors)
+  as-many = ap length (again .more .vectors)
 
   up : Carries c d d
   up = carries-within c d row-more (omega (arith, as-many)) (λ row v m h e. sym (marks-agree row v) ∙ e)
@@ -187,17 +196,8 @@ naming-again-adds-nothing one other c d g k again = record {
 pub other-end-adds-nothing : OtherEndAddsNothing
 unfolding EqualBridges
 other-end-adds-nothing one other c d g k from = naming-again-adds-nothing one other c d g k (record {
-  inputs = from .inputs;
-  types = from .types;
-  instances = from .instances;
-  vectors = from .vectors;
-  number = from .number;
   named = nodes (from .first) (from .second);
   again = nodes (from .second) (from .first);
-  before = from .before;
-  after = from .after;
-  bridges = from .bridges;
-  is-named = from .is-named;
+  more = from .more;
   equal = λ i m chose. inr (refl, refl);
-  named-again = from .named-again;
 })

@@ -1,4 +1,5 @@
--- The converse of demand 3 fails on one inverter and a NAND behind it (specs/NoConverse): X does not mark 0-2, and each of the two fillings does.
+-- The converse of demand 3 fails on one inverter and a NAND behind it (specs/NoConverse): X does not mark 0-2, and each of the two fillings
+-- does.
 use Prim.Native.Nat.{ℕ}
 use mathlib.Core.Path.{_≡_, refl, sym, _∙_}
 use mathlib.Core.List.{List, [], _∷_}
@@ -10,9 +11,8 @@ use Rattle.switch.specs.Modules.{ModuleType}
 use Rattle.circuit.specs.Circuit.{Circuit, Instance, primary, outputOf, exhaustive, no-faults}
 use Rattle.circuit.specs.Reading.{accepted, readingOf}
 use Rattle.grading.specs.Rows.{rowsOf, CellMarked, cell}
-use Rattle.grading.proofs.RowLaws.{noRow}
 use Rattle.demands.specs.Calls.{Call, GradedAs, isGraded, cellAt}
-use Rattle.demands.specs.Two.{rowAt}
+use Rattle.demands.specs.Two.{MatrixCell, rowAt, markIn}
 use Rattle.demands.specs.Files.{inverterThenNand}
 use Rattle.demands.specs.Graders.{called, rightly}
 use Rattle.demands.specs.NoConverse.{Filling, NoConverse}
@@ -50,8 +50,8 @@ record Computed : Type 0 where
   graded : T (isGraded (withX .answer))
   rows : length (rowsOf underX) ≡ 14
   not-marked : cellAt (withX .matrix-after) 1 0 ≡ 0
-  marked-by-0 : T (cell underX (at0 ∷ []) (rowAt underX noRow 1))
-  marked-by-1 : T (cell underX (at1 ∷ []) (rowAt underX noRow 1))
+  marked-by-0 : T (cell underX (at0 ∷ []) (rowAt underX 1))
+  marked-by-1 : T (cell underX (at1 ∷ []) (rowAt underX 1))
 
 computed : Computed
 unfolding grader-computing cellAt isGraded
@@ -59,17 +59,20 @@ computed = record { accepts = refl; graded = tt; rows = refl; not-marked = refl;
 
 -- ---- a filling is 0 or 1
 
-every-filling : (filling : List Value) → Filling 1 (atX ∷ []) filling → CellMarked underX filling (rowAt underX noRow 1)
+every-filling : (filling : List Value) → Filling 1 (atX ∷ []) filling → CellMarked underX filling (rowAt underX 1)
 every-filling [] f = absurd (omega (arith, f .long))
 every-filling (a ∷ b ∷ values) f = absurd (omega (arith, f .long))
-every-filling (at0 ∷ []) f = cell-decides underX (at0 ∷ []) (rowAt underX noRow 1) .1 (computed .marked-by-0)
-every-filling (at1 ∷ []) f = cell-decides underX (at1 ∷ []) (rowAt underX noRow 1) .1 (computed .marked-by-1)
+every-filling (at0 ∷ []) f = cell-decides underX (at0 ∷ []) (rowAt underX 1) .1 (computed .marked-by-0)
+every-filling (at1 ∷ []) f = cell-decides underX (at1 ∷ []) (rowAt underX 1) .1 (computed .marked-by-1)
 every-filling (atX ∷ []) f = absurd (f .no-x 0 (omega arith) refl)
 
+zeroTwo : MatrixCell underX
+zeroTwo = record { row = 1; vector = 0; is-row = omega (arith, computed .rows); is-vector = omega arith }
+
 pub no-converse : NoConverse
+unfolding zeroTwo
 no-converse converse =
     let whole : GradedAs withX underX = record { kept = rightly-is-right _ _ _; accepts = computed .accepts; graded = computed .graded } in
-    let marked : cellAt (withX .matrix-after) 1 0 ≡ 1 =
-    converse withX underX whole noRow 1 0 (omega (arith, computed .rows)) (omega arith) every-filling in
+    let marked : markIn withX zeroTwo ≡ 1 = converse withX underX whole zeroTwo every-filling in
     let zero-is-one : _≡_ {A = ℕ} 0 1 = sym (computed .not-marked) ∙ marked in
     omega arith

@@ -15,14 +15,13 @@ use Rattle.switch.proofs.Refinement.{refinement-keeps, mark-stays}
 use Rattle.circuit.specs.Circuit.{Circuit, Reference, primary, outputOf, Instance, numbered, typeOfInstance}
 use Rattle.circuit.specs.Laws.{CircuitGood}
 use Rattle.grading.specs.Values.{valueAt, labelValues, outputsAfter, outputsOf}
-use Rattle.grading.specs.Rows.{Row, rowsOf, rowValues, CellMarked, cell, markOf}
+use Rattle.grading.specs.Rows.{Row, rowValues, CellMarked, cell, markOf}
 use Rattle.grading.specs.Classes.{foundCount}
 use Rattle.grading.specs.Grading as grading
 use Rattle.grading.specs.Promise.{countsOf}
 use Rattle.grading.proofs.ValueLaws.{label-value, type-good, type-accepted}
-use Rattle.grading.proofs.RowLaws.{noRow}
-use Rattle.demands.specs.Calls.{Call, GradedAs, cellAt}
-use Rattle.demands.specs.Two.{vectorOf, rowAt, typeOfRow, AlikeButVectors}
+use Rattle.demands.specs.Calls.{Call, GradedAs}
+use Rattle.demands.specs.Two.{noRow, vectorOf, MatrixCell, rowOfCell, vectorOfCell, markIn, typeOfRow, AlikeButVectors}
 use Rattle.demands.specs.Three.{given, Refined, ThreeHolds, MarksHoldUnderEveryFilling}
 use Rattle.demands.proofs.Gave.{gave}
 use Rattle.demands.proofs.Cells.{mark-is, cell-decides, cell-marked}
@@ -70,7 +69,8 @@ module _ (vector finer : List Value) (refines : Finer vector finer) where
   labels-refine : (outputs outputs′ : List Value) → AllFiner outputs outputs′ → (i : Instance)
       → Refines (labelValues vector outputs i) (labelValues finer outputs′ i)
   labels-refine outputs outputs′ a i l =
-      rw (label-value vector outputs i l, label-value finer outputs′ i l) (value-refines outputs outputs′ a (getD (i .references) l (primary 0)))
+      rw (label-value vector outputs i l, label-value finer outputs′ i l)
+      (value-refines outputs outputs′ a (getD (i .references) l (primary 0)))
 
   outputs-refine : (types : List ModuleType) (is : List Instance)
       → ((j : ℕ) (none : Instance) → j < length is → Accepted (typeOfInstance types (getD is j none)))
@@ -79,7 +79,8 @@ module _ (vector finer : List Value) (refines : Finer vector finer) where
   unfolding outputsAfter
   outputs-refine types [] accepted outputs outputs′ a = a
   outputs-refine types (i ∷ is) accepted outputs outputs′ a =
-      let kept = refinement-keeps (typeOfInstance types i) (accepted 0 i (omega arith)) (labelValues vector outputs i) (labelValues finer outputs′ i)
+      let kept =
+      refinement-keeps (typeOfInstance types i) (accepted 0 i (omega arith)) (labelValues vector outputs i) (labelValues finer outputs′ i)
       (labels-refine outputs outputs′ a i) in
       outputs-refine types is (λ j none h. accepted (suc j) none (omega arith)) _ _ (finer-snoc outputs outputs′ _ _ a (kept .output))
 
@@ -106,7 +107,9 @@ module _ (c d : Circuit) (good : CircuitGood c) (alike : AlikeButVectors c d) (r
   unfolding markOf given
   mark-stands row v h =
       ofBool-le (cell c (vectorOf c v) row) (cell d (vectorOf d v) row)
-      (λ t. rw (sym (same-cell c d alike (vectorOf d v) row)) (cell-stays (vectorOf c v) (vectorOf d v) (λ i. refined .agree v i h) c good row t))
+      (λ t.
+      rw (sym (same-cell c d alike (vectorOf d v) row))
+      (cell-stays (vectorOf c v) (vectorOf d v) (λ i. refined .agree v i h) c good row t))
 
   found-stands : foundCount c ≤ foundCount d
   unfolding markOf
@@ -119,19 +122,19 @@ module _ (c d : Circuit) (good : CircuitGood c) (alike : AlikeButVectors c d) (r
 
 module _ (one finer : Call) (c d : Circuit) (graded : GradedAs one c) (graded′ : GradedAs finer d) (alike : AlikeButVectors c d)
     (refined : Refined (c .vectors) (d .vectors)) where
-  pub marks-stand : (r v : ℕ) → r < length (rowsOf c) → v < length (c .vectors)
-      → cellAt (one .matrix-after) r v ≡ 1 → cellAt (finer .matrix-after) r v ≡ 1
+  pub marks-stand : (at : MatrixCell c) → markIn one at ≡ 1 → markIn finer at ≡ 1
   unfolding markOf
-  marks-stand r v h k e =
+  marks-stand at e =
       let rows = same-rows c d alike in
-      let row = rowAt c noRow r in
+      let r = at .row in
+      let v = at .vector in
       omega (
         arith,
-        mark-is one c graded noRow r v h k,
-        mark-is finer d graded′ noRow r v (rw rows at h) (omega (arith, refined .no-fewer)),
+        mark-is one c graded r v (at .is-row) (at .is-vector),
+        mark-is finer d graded′ r v (omega (arith, ap length rows, at .is-row)) (omega (arith, at .is-vector, refined .no-fewer)),
         ap (λ (rs : List Row). ofBool (cell d (vectorOf d v) (getD rs r noRow))) rows,
-        mark-stands c d (gave one c graded .good) alike refined row v k,
-        ofBool-le-one (cell d (vectorOf d v) row),
+        mark-stands c d (gave one c graded .good) alike refined (rowOfCell at) v (at .is-vector),
+        ofBool-le-one (cell d (vectorOf d v) (rowOfCell at)),
       )
 
 pub three-holds : ThreeHolds
@@ -145,5 +148,5 @@ three-holds one finer c d graded graded′ alike refined =
 
 -- of the filling nothing is used but that it keeps each 0 and 1
 pub marks-hold-under-every-filling : MarksHoldUnderEveryFilling
-marks-hold-under-every-filling call c graded none r v h k mark filling long refines =
-    path-stays (vectorOf c v) filling refines c (gave call c graded .good) (rowAt c none r) (cell-marked call c graded none r v h k .0 mark)
+marks-hold-under-every-filling call c graded at mark filling long refines =
+    path-stays (vectorOfCell at) filling refines c (gave call c graded .good) (rowOfCell at) (cell-marked call c graded at .0 mark)

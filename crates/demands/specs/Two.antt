@@ -1,5 +1,6 @@
--- Demand 2. A cell is marked exactly when, with the bridge closed, a path of switched-on transistors and the bridge runs from supply to ground. A bridged input counts as
--- supply at 1, as ground at 0; an X switches nothing on. In accepted files a column depends on circuit, fault list and its own vector only. Each class of equal bridges counts once.
+-- Demand 2. A cell is marked exactly when, with the bridge closed, a path of switched-on transistors and the bridge runs from supply
+-- to ground. A bridged input counts as supply at 1, as ground at 0; an X switches nothing on. In accepted files a column depends on
+-- circuit, fault list and its own vector only. Each class of equal bridges counts once.
 use Prim.Native.Nat.{ℕ, suc, _≤_, _<_}
 use mathlib.Core.Path.{_≡_}
 use mathlib.Core.Logic.{_⊎_, _↔_}
@@ -9,25 +10,50 @@ use Rattle.words.specs.Bits.{sumTo}
 use Rattle.switch.specs.Conduction.{Value, atX, Link, Joined, ground, supply}
 use Rattle.switch.specs.Modules.{ModuleType, linksOf, OutputIs}
 use Rattle.switch.specs.Bridges.{Bridge, nodes, input, MarkedByEnds}
-use Rattle.circuit.specs.Circuit.{Circuit, Listed, Instance, Reference, list, typeOfInstance}
+use Rattle.circuit.specs.Circuit.{Circuit, Listed, Instance, Reference, list, no-faults, typeOfInstance}
 use Rattle.grading.specs.Values.{labelValues, outputsOf}
 use Rattle.grading.specs.Rows.{Row, rowsOf, rowValues, CellMarked}
 use Rattle.grading.specs.Promise.{countsOf}
 use Rattle.demands.specs.Calls.{Call, Accepts, GradedAs, cellAt, classAt}
 
--- the vector and the row at a place, counted from 0. Past the last row there is none, and `none` stands for it
+-- the row at a place, counted from 0. Past the last row there is none, and `noRow` stands for it
+abbrev pub noRow : Row
+noRow = record { number = 0; instance = record { type = 0; choice = no-faults; references = [] }; bridge = nodes 0 0 }
+
+abbrev pub rowAt : Circuit → ℕ → Row
+rowAt c r = getD (rowsOf c) r noRow
+
+-- the vector at a place, counted from 0
 abbrev pub vectorOf : Circuit → ℕ → List Value
 vectorOf c v = getD (c .vectors) v []
 
-abbrev pub rowAt : Circuit → Row → ℕ → Row
-rowAt c none r = getD (rowsOf c) r none
+-- a cell of a circuit's matrix: the places of its row and of its vector, where there are such
+pub record MatrixCell (c : Circuit) : Type 0 where
+  pub row : ℕ
+  pub vector : ℕ
+  pub is-row : row < length (rowsOf c)
+  pub is-vector : vector < length (c .vectors)
 
--- the module type of a row's instance, the values of its labels under a vector, and the links of the edges that are on then
+abbrev pub rowOfCell : {c : Circuit} → MatrixCell c → Row
+rowOfCell {c} cell = rowAt c (cell .row)
+
+abbrev pub vectorOfCell : {c : Circuit} → MatrixCell c → List Value
+vectorOfCell {c} cell = vectorOf c (cell .vector)
+
+-- what a call left in a cell: 1 is a mark, 0 is none
+abbrev pub markIn : {c : Circuit} → Call → MatrixCell c → ℕ
+markIn call cell = cellAt (call .matrix-after) (cell .row) (cell .vector)
+
+-- the module type of a row's instance
 abbrev pub typeOfRow : Circuit → Row → ModuleType
 typeOfRow c row = typeOfInstance (c .types) (row .instance)
 
-abbrev pub linksOfRow : Circuit → List Value → Row → List Link
-linksOfRow c vector row = linksOf (typeOfRow c row) (rowValues c vector row)
+-- the values of the labels of a cell's instance under its vector, and the links of the edges that are on then
+abbrev pub valuesIn : {c : Circuit} → MatrixCell c → ℕ → Value
+valuesIn {c} cell = rowValues c (vectorOfCell cell) (rowOfCell cell)
+
+abbrev pub linksIn : {c : Circuit} → MatrixCell c → List Link
+linksIn {c} cell = linksOf (typeOfRow c (rowOfCell cell)) (valuesIn cell)
 
 -- ---- values
 
@@ -35,7 +61,8 @@ linksOfRow c vector row = linksOf (typeOfRow c row) (rowValues c vector row)
 pub record Settled (c : Circuit) (vector outputs : List Value) : Type 0 where
   pub one-each : length outputs ≡ length (c .instances)
   pub by-paths : (none : Instance) (i : ℕ) → i < length (c .instances)
-      → OutputIs (typeOfInstance (c .types) (getD (c .instances) i none)) (labelValues vector outputs (getD (c .instances) i none)) (getD outputs i atX)
+      → OutputIs (typeOfInstance (c .types) (getD (c .instances) i none)) (labelValues vector outputs (getD (c .instances) i none))
+      (getD outputs i atX)
 
 -- the outputs that rows are read from are settled, and no others are
 pub record ValuesTell (c : Circuit) (vector : List Value) : Type 0 where
@@ -49,15 +76,11 @@ ValuesArePaths = (file : List ℕ) (c : Circuit) → Accepts file c → (vector 
 
 -- CellMarked c vector row: with the row's bridge closed, a path runs from supply to ground in the row's instance under this vector
 pub record CellsTell (call : Call) (c : Circuit) : Type 0 where
-  pub marked : (none : Row) (r v : ℕ) → r < length (rowsOf c) → v < length (c .vectors)
-      → (cellAt (call .matrix-after) r v ≡ 1) ↔ CellMarked c (vectorOf c v) (rowAt c none r)
-  pub not-marked : (none : Row) (r v : ℕ) → r < length (rowsOf c) → v < length (c .vectors)
-      → (cellAt (call .matrix-after) r v ≡ 0) ↔ (CellMarked c (vectorOf c v) (rowAt c none r) → ⊥)
-  pub by-ends : (none : Row) (r v : ℕ) → r < length (rowsOf c) → v < length (c .vectors)
-      → (cellAt (call .matrix-after) r v ≡ 1)
-      ↔ MarkedByEnds (typeOfRow c (rowAt c none r)) (rowValues c (vectorOf c v) (rowAt c none r)) (rowAt c none r .bridge)
-  pub not-without-the-bridge : (none : Row) (r v : ℕ) → r < length (rowsOf c) → v < length (c .vectors)
-      → Joined (linksOfRow c (vectorOf c v) (rowAt c none r)) supply ground → ⊥
+  pub marked : (cell : MatrixCell c) → (markIn call cell ≡ 1) ↔ CellMarked c (vectorOfCell cell) (rowOfCell cell)
+  pub not-marked : (cell : MatrixCell c) → (markIn call cell ≡ 0) ↔ (CellMarked c (vectorOfCell cell) (rowOfCell cell) → ⊥)
+  pub by-ends : (cell : MatrixCell c)
+      → (markIn call cell ≡ 1) ↔ MarkedByEnds (typeOfRow c (rowOfCell cell)) (valuesIn cell) (rowOfCell cell .bridge)
+  pub not-without-the-bridge : (cell : MatrixCell c) → Joined (linksIn cell) supply ground → ⊥
   pub past-the-last-vector : (r v : ℕ) → r < length (rowsOf c) → length (c .vectors) ≤ v → v < 256 → cellAt (call .matrix-after) r v ≡ 0
 
 abbrev pub CellIsPath : Type 0
@@ -65,21 +88,17 @@ CellIsPath = (call : Call) (c : Circuit) → GradedAs call c → CellsTell call 
 
 -- ---- floating nodes
 
--- a node of the row's instance that is joined to neither rail under this vector
-pub record Floats (c : Circuit) (vector : List Value) (row : Row) (m : ℕ) : Type 0 where
-  pub not-to-supply : Joined (linksOfRow c vector row) m supply → ⊥
-  pub not-to-ground : Joined (linksOfRow c vector row) m ground → ⊥
+-- a node of a cell's instance that is joined to neither rail under its vector
+pub record Floats {c : Circuit} (cell : MatrixCell c) (m : ℕ) : Type 0 where
+  pub not-to-supply : Joined (linksIn cell) m supply → ⊥
+  pub not-to-ground : Joined (linksIn cell) m ground → ⊥
 
 -- a bridge with an end that floats, or whose label is X, is not marked
 pub record FloatingNever (call : Call) (c : Circuit) : Type 0 where
-  pub first : (none : Row) (r v a b : ℕ) → r < length (rowsOf c) → v < length (c .vectors)
-      → rowAt c none r .bridge ≡ nodes a b → Floats c (vectorOf c v) (rowAt c none r) a → cellAt (call .matrix-after) r v ≡ 0
-  pub second : (none : Row) (r v a b : ℕ) → r < length (rowsOf c) → v < length (c .vectors)
-      → rowAt c none r .bridge ≡ nodes a b → Floats c (vectorOf c v) (rowAt c none r) b → cellAt (call .matrix-after) r v ≡ 0
-  pub node : (none : Row) (r v m l : ℕ) → r < length (rowsOf c) → v < length (c .vectors)
-      → rowAt c none r .bridge ≡ input m l → Floats c (vectorOf c v) (rowAt c none r) m → cellAt (call .matrix-after) r v ≡ 0
-  pub label : (none : Row) (r v m l : ℕ) → r < length (rowsOf c) → v < length (c .vectors)
-      → rowAt c none r .bridge ≡ input m l → rowValues c (vectorOf c v) (rowAt c none r) l ≡ atX → cellAt (call .matrix-after) r v ≡ 0
+  pub first : (cell : MatrixCell c) (a b : ℕ) → rowOfCell cell .bridge ≡ nodes a b → Floats cell a → markIn call cell ≡ 0
+  pub second : (cell : MatrixCell c) (a b : ℕ) → rowOfCell cell .bridge ≡ nodes a b → Floats cell b → markIn call cell ≡ 0
+  pub node : (cell : MatrixCell c) (m l : ℕ) → rowOfCell cell .bridge ≡ input m l → Floats cell m → markIn call cell ≡ 0
+  pub label : (cell : MatrixCell c) (m l : ℕ) → rowOfCell cell .bridge ≡ input m l → valuesIn cell l ≡ atX → markIn call cell ≡ 0
 
 abbrev pub FloatingNeverMarks : Type 0
 FloatingNeverMarks = (call : Call) (c : Circuit) → GradedAs call c → FloatingNever call c
@@ -97,12 +116,13 @@ pub record AlikeButVectors (c d : Circuit) : Type 0 where
 abbrev pub ColumnIsOfItsVector : Type 0
 ColumnIsOfItsVector =
     (one other : Call) (c d : Circuit) → GradedAs one c → GradedAs other d → AlikeButVectors c d
-    → (v w : ℕ) → v < length (c .vectors) → w < length (d .vectors) → vectorOf c v ≡ vectorOf d w
-    → (r : ℕ) → r < length (rowsOf c) → cellAt (one .matrix-after) r v ≡ cellAt (other .matrix-after) r w
+    → (cell : MatrixCell c) (its : MatrixCell d) → cell .row ≡ its .row → vectorOfCell cell ≡ vectorOfCell its
+    → markIn one cell ≡ markIn other its
 
 -- ---- classes
 
--- 01: two rows are in one class when they are of the same instance and kind, with the same nodes in either order for kind 0, or the same node and labels with equal references for kind 1
+-- 01: two rows are in one class when they are of the same instance and kind, with the same nodes in either order for kind 0, or the same
+-- node and labels with equal references for kind 1
 unfoldable pub EqualBridges : Instance → Bridge → Bridge → Type 0
 EqualBridges i (nodes a b) (nodes c d) = ((a ≡ c) × (b ≡ d)) ⊎ ((a ≡ d) × (b ≡ c))
 EqualBridges i (nodes a b) (input m l) = ⊥
@@ -114,18 +134,16 @@ OneClass r s = (r .number ≡ s .number) × EqualBridges (r .instance) (r .bridg
 
 -- some row of class n has a mark under some vector
 pub record Found (call : Call) (c : Circuit) (n : ℕ) : Type 0 where
-  pub row : ℕ
-  pub is-row : row < length (rowsOf c)
-  pub of-class : classAt (call .classes-after) row ≡ n
-  pub vector : ℕ
-  pub is-vector : vector < length (c .vectors)
-  pub mark : cellAt (call .matrix-after) row vector ≡ 1
+  pub cell : MatrixCell c
+  pub of-class : classAt (call .classes-after) (cell .row) ≡ n
+  pub mark : markIn call cell ≡ 1
 
--- two rows have one class number exactly when 01 calls them one class. The numbers are 1 to the count of classes; each is a row's, and comes first after those below it.
--- The found count is the sum of f, which is 1 for each class that is found and 0 for each other: each class counts once
+-- two rows have one class number exactly when 01 calls them one class. The numbers are 1 to the count of classes; each is a row's, and
+-- comes first after those below it. The found count is the sum of f, which is 1 for each class that is found and 0 for each other: each
+-- class counts once
 pub record ClassesTell (call : Call) (c : Circuit) : Type 0 where
-  pub same : (none : Row) (r s : ℕ) → r < length (rowsOf c) → s < length (rowsOf c)
-      → (classAt (call .classes-after) r ≡ classAt (call .classes-after) s) ↔ OneClass (rowAt c none r) (rowAt c none s)
+  pub same : (r s : ℕ) → r < length (rowsOf c) → s < length (rowsOf c)
+      → (classAt (call .classes-after) r ≡ classAt (call .classes-after) s) ↔ OneClass (rowAt c r) (rowAt c s)
   pub low : (r : ℕ) → r < length (rowsOf c) → 1 ≤ classAt (call .classes-after) r
   pub high : (r : ℕ) → r < length (rowsOf c) → classAt (call .classes-after) r ≤ countsOf (call .answer) .classes
   pub each : (n : ℕ) → 1 ≤ n → n ≤ countsOf (call .answer) .classes
@@ -142,22 +160,25 @@ ClassesCountOnce = (call : Call) (c : Circuit) → GradedAs call c → ClassesTe
 
 -- ---- a bridge named once more
 
--- the second circuit has one bridge field more, anywhere among the others. Its list has a bridge that for each instance that chose the list is
--- equal to it, for instance named from the other end, or the same node with a label of equal reference
-pub record NamedAgain (c d : Circuit) : Type 0 where
+-- the second circuit has one bridge field more, anywhere among the others: a list that has the bridge `named` has `again` too
+pub record OneBridgeMore (c d : Circuit) (named again : Bridge) : Type 0 where
   pub inputs : c .inputs ≡ d .inputs
   pub types : c .types ≡ d .types
   pub instances : c .instances ≡ d .instances
   pub vectors : c .vectors ≡ d .vectors
   pub number : ℕ
-  pub named : Bridge
-  pub again : Bridge
   pub before : List Listed
   pub after : List Listed
   pub bridges : c .bridges ≡ before ++ after
   pub is-named : List·Memᴰ (record { list = number; bridge = named }) (before ++ after)
-  pub equal : (i : Instance) → List·Memᴰ i (c .instances) → i .choice ≡ list number → EqualBridges i named again
   pub named-again : d .bridges ≡ before ++ (record { list = number; bridge = again } ∷ after)
+
+-- and for each instance that chose the list both are equal, for instance the same node with labels of equal reference
+pub record NamedAgain (c d : Circuit) : Type 0 where
+  pub named : Bridge
+  pub again : Bridge
+  pub more : OneBridgeMore c d named again
+  pub equal : (i : Instance) → List·Memᴰ i (c .instances) → i .choice ≡ list (more .number) → EqualBridges i named again
 
 pub record CountsAgree (one other : Call) : Type 0 where
   pub classes : countsOf (one .answer) .classes ≡ countsOf (other .answer) .classes
@@ -168,18 +189,10 @@ NamingAgainAddsNothing = (one other : Call) (c d : Circuit) → GradedAs one c �
 
 -- so a bridge between two nodes, named once more from its other end
 pub record NamedFromTheOtherEnd (c d : Circuit) : Type 0 where
-  pub inputs : c .inputs ≡ d .inputs
-  pub types : c .types ≡ d .types
-  pub instances : c .instances ≡ d .instances
-  pub vectors : c .vectors ≡ d .vectors
-  pub number : ℕ
   pub first : ℕ
   pub second : ℕ
-  pub before : List Listed
-  pub after : List Listed
-  pub bridges : c .bridges ≡ before ++ after
-  pub is-named : List·Memᴰ (record { list = number; bridge = nodes first second }) (before ++ after)
-  pub named-again : d .bridges ≡ before ++ (record { list = number; bridge = nodes second first } ∷ after)
+  pub more : OneBridgeMore c d (nodes first second) (nodes second first)
 
 abbrev pub OtherEndAddsNothing : Type 0
-OtherEndAddsNothing = (one other : Call) (c d : Circuit) → GradedAs one c → GradedAs other d → NamedFromTheOtherEnd c d → CountsAgree one other
+OtherEndAddsNothing =
+    (one other : Call) (c d : Circuit) → GradedAs one c → GradedAs other d → NamedFromTheOtherEnd c d → CountsAgree one other

@@ -1,5 +1,5 @@
--- `rightly` meets the promise of `grade`: each test of the table has an answer that tells its number and its place, and the work on a circuit is the definitions'.
--- So every input is answered (demand 1). Assumes nothing.
+-- `rightly` meets the promise of `grade`: each test of the table has an answer that tells its number and its place, and the work on a
+-- circuit is the definitions'. So the promise can be met (demand 1). Assumes nothing.
 use Prim.Native.Nat.{ℕ}
 use mathlib.Core.Path.{_≡_, refl, subst}
 use mathlib.Core.Bool.{Bool, true, false, cond}
@@ -7,8 +7,10 @@ use mathlib.Core.List.{List, [], _∷_, _++_}
 use lib.ListN.{length}
 use Rattle.circuit.specs.Fields.{Field, Cut, clean, broken, field, cutFrom}
 use Rattle.circuit.specs.Circuit.{Circuit}
-use Rattle.circuit.specs.Known.{Known, start, knownAfter, Tag, inputs-tag, type-tag, edge-tag, bridge-tag, instance-tag, vector-tag, no-tag, tagOf}
-use Rattle.circuit.specs.Table.{Test, Verdict, passes, refusedAt, firstOf, inputsTests, typeTests, edgeTests, edgeTestsOf, bridgeTests, instanceTests, vectorTests, bodyTests, fieldTests, endTests}
+use Rattle.circuit.specs.Known.{Known, start, knownAfter}
+use Rattle.circuit.specs.Known.{Tag, inputs-tag, type-tag, edge-tag, bridge-tag, instance-tag, vector-tag, no-tag, tagOf}
+use Rattle.circuit.specs.Table.{Test, Verdict, passes, refusedAt, firstOf, bodyTests, fieldTests, endTests}
+use Rattle.circuit.specs.Table.{inputsTests, typeTests, edgeTests, edgeTestsOf, bridgeTests, instanceTests, vectorTests}
 use Rattle.circuit.specs.Refusals.{refusalNumber, refusalPlace}
 use Rattle.grading.specs.Rows.{rowWords, matrixOf}
 use Rattle.grading.specs.Classes.{classCount, foundCount}
@@ -16,8 +18,9 @@ use Rattle.grading.specs.Grading.{noCounts, Grading, graded, gradingOf, countsI
 use Rattle.grading.specs.Grading.{refused}
 use Rattle.grading.specs.Grading as grading
 use Rattle.grading.specs.Promise.{numberOf, placeOf, countsOf, Meets}
-use Rattle.demands.specs.One.{bufferTests, testsFrom, tableOf, EveryInputIsAnswered}
-use Rattle.demands.specs.Graders.{Outcome, called, refusalOf, refusing, outcomeOf, gradesBy, workBy, rightWork, rightly, RightlyIsRight}
+use Rattle.demands.specs.One.{bufferTests, testsFrom, tableOf, PromiseCanBeMet}
+use Rattle.demands.specs.Graders.{Outcome, called, refusalOf, refusing, outcomeOf, gradesBy}
+use Rattle.demands.specs.Graders.{workBy, rightWork, rightly, RightlyIsRight}
 use Rattle.demands.proofs.GradingVerdicts.{verdictIn, table-tells}
 
 -- ---- each test of the table has an answer
@@ -49,13 +52,16 @@ told-first (t ∷ ts) a = go (t .refuses) (told-first ts (a .1))
     go false later = later
 
 told-body : (tag : Tag) (c : Circuit) (at : ℕ) (body : List ℕ) → AllTold (bodyTests tag c at body)
-unfolding AllTold refusing refusalOf numberOf placeOf countsOf refusalNumber refusalPlace bodyTests inputsTests typeTests edgeTests edgeTestsOf bridgeTests instanceTests vectorTests
+unfolding AllTold refusing refusalOf numberOf placeOf countsOf refusalNumber refusalPlace
+    bodyTests inputsTests typeTests edgeTests edgeTestsOf bridgeTests instanceTests vectorTests
 told-body inputs-tag c at body = ((refl, refl, refl), ((refl, refl, refl), tt))
 told-body type-tag c at body = ((refl, refl, refl), ((refl, refl, refl), ((refl, refl, refl), tt)))
 told-body edge-tag c at body = ((refl, refl, refl), ((refl, refl, refl), ((refl, refl, refl), ((refl, refl, refl), tt))))
 told-body bridge-tag c at body = ((refl, refl, refl), ((refl, refl, refl), ((refl, refl, refl), tt)))
-told-body instance-tag c at body =
-    ((refl, refl, refl), ((refl, refl, refl), ((refl, refl, refl), ((refl, refl, refl), ((refl, refl, refl), ((refl, refl, refl), ((refl, refl, refl), tt)))))))
+told-body instance-tag c at body = (
+  (refl, refl, refl),
+  ((refl, refl, refl), ((refl, refl, refl), ((refl, refl, refl), ((refl, refl, refl), ((refl, refl, refl), ((refl, refl, refl), tt)))))),
+)
 told-body vector-tag c at body = ((refl, refl, refl), ((refl, refl, refl), ((refl, refl, refl), tt)))
 told-body no-tag c at body = tt
 
@@ -75,10 +81,12 @@ module _ (size words entries : ℕ) where
 
   told-rest : (known : Known) (cut : Cut) → AllTold (testsFrom size words entries known cut)
   unfolding AllTold refusing refusalOf numberOf placeOf countsOf refusalNumber refusalPlace testsFrom
-  told-rest known clean = told-append (endTests known size) (bufferTests (known .circuit) words entries) (told-end known size) (told-buffers (known .circuit))
+  told-rest known clean =
+      told-append (endTests known size) (bufferTests (known .circuit) words entries) (told-end known size) (told-buffers (known .circuit))
   told-rest known (broken at) = ((refl, refl, refl), tt)
   told-rest known (field f rest) =
-      told-append (fieldTests known f) (testsFrom size words entries (knownAfter known f) rest) (told-field known f) (told-rest (knownAfter known f) rest)
+      told-append (fieldTests known f) (testsFrom size words entries (knownAfter known f) rest) (told-field known f)
+      (told-rest (knownAfter known f) rest)
 
 told-table : (file : List ℕ) (words entries : ℕ) → AllTold (tableOf file words entries)
 unfolding AllTold refusing refusalOf numberOf placeOf countsOf refusalNumber refusalPlace tableOf
@@ -103,8 +111,8 @@ unfolding rightly gradesBy
 rightly-is-right file matrix classes =
     outcome-meets (gradingOf file (length matrix) (length classes)) (told-grading file (length matrix) (length classes)) matrix classes
 
-pub every-input-is-answered : EveryInputIsAnswered
-every-input-is-answered file matrix classes = record {
+pub promise-can-be-met : PromiseCanBeMet
+promise-can-be-met file matrix classes = record {
   call = called rightly file matrix classes;
   of-file = refl;
   of-matrix = refl;

@@ -1,5 +1,5 @@
--- Demand 1. Every byte string is graded or refused, nothing undefined, nothing expected of the caller. A refusal comes exactly when the table says so, with its number and
--- place, and the caller's buffers keep their contents.
+-- Demand 1. Every byte string is graded or refused, nothing undefined, nothing expected of the caller. A refusal comes exactly when the
+-- table says so, with its number and place, and the caller's buffers keep their contents.
 use Prim.Native.Nat.{ℕ, _*_, _≤_}
 use mathlib.Core.Path.{_≡_}
 use mathlib.Core.Bool.{Bool, true, not}
@@ -54,7 +54,8 @@ tableFor call = tableOf (call .file) (length (call .matrix)) (length (call .clas
 
 -- ---- the demand
 
--- a refusal carries no counts, so that its counts are 0 is said by the answer's own form; that form also gives `never-both`. What is written is demand 2's
+-- a refusal carries no counts, so that its counts are 0 is said by the answer's own form; that form also gives `never-both`. What is
+-- written is demand 2's
 pub record One (call : Call) : Type 0 where
   pub graded-or-refused : (T (isGraded (call .answer)) × T (allOf passed (tableFor call)))
       ⊎ ((number : ℕ) × (place : ℕ) × Refuses (call .answer) number place × FirstApplying (tableFor call) number place)
@@ -62,7 +63,8 @@ pub record One (call : Call) : Type 0 where
   pub refused-by-the-table : (number place : ℕ) → Refuses (call .answer) number place ↔ FirstApplying (tableFor call) number place
   pub graded-when-none-applies : T (isGraded (call .answer)) ↔ T (allOf passed (tableFor call))
   pub graded-is-accepted : T (isGraded (call .answer))
-      → (c : Circuit) × Accepts (call .file) c × (4 * length (rowsOf c) ≤ length (call .matrix)) × (length (rowsOf c) ≤ length (call .classes))
+      → (c : Circuit) × Accepts (call .file) c × (4 * length (rowsOf c) ≤ length (call .matrix))
+      × (length (rowsOf c) ≤ length (call .classes))
   pub accepted-is-graded : (c : Circuit) → Accepts (call .file) c → 4 * length (rowsOf c) ≤ length (call .matrix)
       → length (rowsOf c) ≤ length (call .classes) → T (isGraded (call .answer))
   pub refusal-counts-nothing : (number place : ℕ) → Refuses (call .answer) number place → countsOf (call .answer) ≡ noCounts
@@ -72,16 +74,17 @@ pub record One (call : Call) : Type 0 where
 abbrev pub OneHolds : Type 0
 OneHolds = (call : Call) → Kept call → One call
 
--- for every file and every pair of buffers there is an outcome that keeps the promise, and only one. That `grade` always gives one is its contract, which has no `requires`
-pub record Answered (file matrix classes : List ℕ) : Type 0 where
+-- for every file and every pair of buffers there is an outcome that keeps the promise, and only one. That `grade` always gives it is its
+-- contract, which has no `requires`
+pub record CanBeMet (file matrix classes : List ℕ) : Type 0 where
   pub call : Call
   pub of-file : call .file ≡ file
   pub of-matrix : call .matrix ≡ matrix
   pub of-classes : call .classes ≡ classes
   pub kept : Kept call
 
-abbrev pub EveryInputIsAnswered : Type 0
-EveryInputIsAnswered = (file matrix classes : List ℕ) → Answered file matrix classes
+abbrev pub PromiseCanBeMet : Type 0
+PromiseCanBeMet = (file matrix classes : List ℕ) → CanBeMet file matrix classes
 
 pub record SameOutcome (one other : Call) : Type 0 where
   pub answer : one .answer ≡ other .answer

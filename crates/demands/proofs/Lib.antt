@@ -1,8 +1,9 @@
--- The proofs of the statements in specs/, and what they share: Gave, what a call that graded its file gave; Computing, what a proof by computation unfolds.
+-- The proofs of the statements in specs/, and what they share: Gave, what a call that graded its file gave; Computing, what a proof by
+-- computation unfolds.
 --   demand 1      Verdicts, GradingVerdicts, OneProof, Outcomes, RightProof
 --   demand 2      SettledValues, Cells, Floating, Columns, RowFaults, OneClass, FoundClasses, ClassCounts, ClassesCarried, NamedAgain
 --   demand 3      Refining, RefinedMarks, NoConverseProof
---   one outcome   StepsOnce, UniqueProof
+--   one outcome   CellsAgree, ClassesAgree, Determines, of the demands; StepsOnce, UniqueProof, of the promises
 --   by computing  KnownProof, WrongProof, BreaksProof; MeetsProof, what the demands do not break
 pub mod Gave
 pub mod Verdicts
@@ -28,5 +29,8 @@ pub mod NoConverseProof
 pub mod WrongProof
 pub mod BreaksProof
 pub mod MeetsProof
+pub mod CellsAgree
+pub mod ClassesAgree
+pub mod Determines
 pub mod StepsOnce
 pub mod UniqueProof

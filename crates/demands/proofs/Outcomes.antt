@@ -6,7 +6,9 @@ use lib.ListN.{length}
 use Rattle.circuit.specs.Table.{refusedAt}
 use Rattle.circuit.specs.Refusals.{numberedVerdict, refusalNumber, verdictOf}
 use Rattle.circuit.specs.declared.refusal.Refusal.{Refusal}
-use Rattle.circuit.specs.declared.refusal.Refusal.the-variants.{Nothing, TooLong, Broken, UnknownTag, Misplaced, WrongLength, TooMany, OutOfRange, BadEnds, NotComplementary, BadReference, BridgeUnsuited, EmptyList, TooManyFaults, Unfinished}
+use Rattle.circuit.specs.declared.refusal.Refusal.the-variants.{Nothing, TooLong, Broken, UnknownTag, Misplaced, WrongLength}
+use Rattle.circuit.specs.declared.refusal.Refusal.the-variants.{TooMany, OutOfRange, BadEnds, NotComplementary, BadReference}
+use Rattle.circuit.specs.declared.refusal.Refusal.the-variants.{BridgeUnsuited, EmptyList, TooManyFaults, Unfinished}
 use Rattle.circuit.proofs.AnswerLaws.{verdict-tells}
 use Rattle.circuit.proofs.Tested.{never-passes}
 use Rattle.grading.specs.Grading.{Grading, gradingOf, countsIn, matrixAfter, classesAfterGrading}
@@ -44,7 +46,7 @@ same-number e = cc
 same-place : {n p m q : ℕ} → refusedAt n p ≡ refusedAt m q → p ≡ q
 same-place e = cc
 
-same-answer : (a b : Answer) → answered a ≡ answered b → countsOf a ≡ countsOf b → a ≡ b
+pub same-answer : (a b : Answer) → answered a ≡ answered b → countsOf a ≡ countsOf b → a ≡ b
 unfolding answered countsOf verdictOf
 same-answer (Graded counts) (Graded others) v e = ap Graded (same-counts counts others e)
 same-answer (Graded counts) (Refused s) v e = absurd (never-passes (sym v))

@@ -3,6 +3,7 @@
 --   Report                  the whole report of a grading, as bytes
 --   Claims, Known           the table of known results, and what its lines claim
 --   NoConverse              demand 3 has no converse
+--   Determined              the demands leave one outcome only, which is the promise's
 --   Unique                  promises of public functions that leave one outcome only
 --   Graders, Wrong, Breaks  a right grader and wrong ones; none of these meets the promise, and which demand each of them breaks
 pub mod Calls
@@ -14,6 +15,7 @@ pub mod Report
 pub mod Claims
 pub mod KnownResults
 pub mod NoConverse
+pub mod Determined
 pub mod Graders
 pub mod Wrong
 pub mod Breaks

@@ -70,18 +70,20 @@ module _ (one other : Call) (c : Circuit) (cells : CellsTell one c) (cells′ : 
   pub same-word : RowsAreWords one c → RowsAreWords other c → (i : ℕ) → i < 4 * length (rowsOf c)
       → getD (one .matrix-after) i 0 ≡ getD (other .matrix-after) i 0
   same-word words words′ i h =
-      bits-eq 64 (getD (one .matrix-after) i 0) (getD (other .matrix-after) i 0) (words i h) (words′ i h)
-      (λ v k.
-      sym (told (one .matrix-after) v k)
-      ∙ same-cell (i / 4) (64 * (i % 4) + v) (omega arith) (omega arith)
-      ∙ told (other .matrix-after) v k)
+      bits-eq 64 (getD (one .matrix-after) i 0) (getD (other .matrix-after) i 0) (words i h) (words′ i h) same-bit
     where
       told : (matrix : List ℕ) (v : ℕ) → v < 64 → cellAt matrix (i / 4) (64 * (i % 4) + v) ≡ bit (getD matrix i 0) v
       told matrix v k =
           let place : 4 * (i / 4) + i % 4 ≡ i = omega arith in
           cell-of-word matrix (i / 4) (i % 4) v k ∙ ap (λ (j : ℕ). bit (getD matrix j 0) v) place
 
--- what keeps the promise has such words
+      same-bit : (v : ℕ) → v < 64 → bit (getD (one .matrix-after) i 0) v ≡ bit (getD (other .matrix-after) i 0) v
+      same-bit v k =
+          sym (told (one .matrix-after) v k)
+          ∙ same-cell (i / 4) (64 * (i % 4) + v) (omega arith) (omega arith)
+          ∙ told (other .matrix-after) v k
+
+-- a call that keeps the promise has such words
 pub kept-words : (call : Call) (c : Circuit) → GradedAs call c → RowsAreWords call c
 unfolding matrixOf over rowWords markOf
 kept-words call c given i h =

@@ -1,5 +1,6 @@
 -- Two calls that graded one circuit and meet the clause on classes have the same class numbers, the same number of classes and, where their
--- cells agree, of found ones. By the rows in order: a number below another call's stands before it there, so here, with the same rows.
+-- cells agree, of found ones. The numbers by the rows in order: if this row's were smaller in one call, the other would have it at an
+-- earlier row, where both agree; so these two rows are one class, and have one number in the other call too.
 use Prim.Native.Nat.{ℕ, zero, suc, _<_, _≤_}
 use mathlib.Core.Path.{_≡_, sym, ap, _∙_}
 use native.Mathlib.Decide.{ℕ-discrete, decLt}

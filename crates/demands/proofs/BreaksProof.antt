@@ -268,14 +268,14 @@ refined-itself : (vectors : List (List Value)) → Refined vectors vectors
 refined-itself vectors = record { no-fewer = omega arith; agree = λ v i h. inr refl }
 
 by-path : (grader : Grader) (file : List ℕ) (r v : ℕ) → CellWrong grader file r v
-    → T (cell (circuitOf file) (vectorOf (circuitOf file) v) (rowAt (circuitOf file) noRow r)) → MeetsThreeByPaths grader → ⊥
+    → T (cell (circuitOf file) (vectorOf (circuitOf file) v) (rowAt (circuitOf file) r)) → MeetsThreeByPaths grader → ⊥
 by-path grader file r v (grades, is-row, is-vector, differs) path meets =
     let c = circuitOf file in
     let stands = meets file file room entries c c (grades .0) (grades .0) (grades .1) (alike-itself c) (refined-itself (c .vectors)) in
-    let decides = cell-decides c (vectorOf c v) (rowAt c noRow r) in
-    opposite _ (cell c (vectorOf c v) (rowAt c noRow r)) differs (
+    let decides = cell-decides c (vectorOf c v) (rowAt c r) in
+    opposite _ (cell c (vectorOf c v) (rowAt c r)) differs (
       λ e. path,
-      λ t. stands .marks noRow r v (leb→le _ _ is-row) (leb→le _ _ is-vector) (decides .1 t),
+      λ t. stands .marks (record { row = r; vector = v; is-row = leb→le _ _ is-row; is-vector = leb→le _ _ is-vector }) (decides .1 t),
     )
 
 -- over its own marks: a mark that the refined file takes back
@@ -294,7 +294,7 @@ by-mark grader file finer r v w meets =
     let three =
     meets file room entries finer room entries (circuitOf file) (circuitOf finer) (w .grades .0) (w .grades .1) (w .grades′ .0) (w .grades′ .1)
     (w .alike) (w .refined) in
-    omega (arith, w .none, three .marks r v (leb→le _ _ (w .is-row)) (leb→le _ _ (w .is-vector)) (w .mark))
+    omega (arith, w .none, three .marks (record { row = r; vector = v; is-row = leb→le _ _ (w .is-row); is-vector = leb→le _ _ (w .is-vector) }) (w .mark))
 
 -- an inverter's 0-2, and node 1 with the label: under X, and under its filling 1, which marks neither
 abbrev inverterAt : String → List ℕ
@@ -346,17 +346,18 @@ all-under-x : MeetsFillings marksAll → ⊥
 unfolding wrong-computing toldBy isGraded cellAt
 all-under-x meets =
     let c = circuitOf (inverterAt "X") in
-    let path = meets (inverterAt "X") room entries c refl tt noRow 0 0 (omega arith) (omega arith) refl (at1 ∷ [])
+    let path = meets (inverterAt "X") room entries c refl tt
+    (record { row = 0; vector = 0; is-row = omega arith; is-vector = omega arith }) refl (at1 ∷ [])
     (record { long = refl; keeps = filled; no-x = no-x }) in
-    cell-decides c (at1 ∷ []) (rowAt c noRow 0) .0 path
+    cell-decides c (at1 ∷ []) (rowAt c 0) .0 path
   where
     no-x : (i : ℕ) → i < 1 → getD (at1 ∷ []) i atX ≡ atX → ⊥
     no-x zero h e = is-one e
     no-x (suc i) h e = absurd (omega arith)
 
 record MarkedByPath : Type 0 where
-  inverter-0-1 : T (cell (circuitOf inverter) (vectorOf (circuitOf inverter) 0) (rowAt (circuitOf inverter) noRow 0))
-  many-65 : T (cell (circuitOf many) (vectorOf (circuitOf many) 64) (rowAt (circuitOf many) noRow 0))
+  inverter-0-1 : T (cell (circuitOf inverter) (vectorOf (circuitOf inverter) 0) (rowAt (circuitOf inverter) 0))
+  many-65 : T (cell (circuitOf many) (vectorOf (circuitOf many) 64) (rowAt (circuitOf many) 0))
 
 paths : MarkedByPath
 unfolding wrong-computing toldBy

@@ -22,9 +22,8 @@ use Rattle.grading.specs.Classes.{sameClass, largest, classesOf, hasMarkBy, cla
 use Rattle.grading.specs.Grading.{Grading, graded, refused, gradingOf, gradingOfCircuit, afterReading, over}
 use Rattle.grading.specs.Promise.{countsOf}
 use Rattle.grading.proofs.MatrixLaws.{word-in}
-use Rattle.grading.proofs.RowLaws.{noRow}
 use Rattle.demands.specs.Calls.{Accepts, isGraded, cellAt}
-use Rattle.demands.specs.Two.{vectorOf, rowAt, AlikeButVectors}
+use Rattle.demands.specs.Two.{noRow, vectorOf, rowAt, AlikeButVectors}
 use Rattle.demands.specs.Three.{Refined}
 use Rattle.demands.specs.Graders.{refusing, Work, outcomeOf, gradesBy, workBy}
 use Rattle.demands.specs.Wrong.{marking}
@@ -71,17 +70,17 @@ module _ (marks : Circuit → Row → ℕ → ℕ) (bits : (c : Circuit) (row : 
     unfolding rowOf
     packed-long row = refl
 
-    pub cell-is : (none : Row) (r v : ℕ) → r < length (rowsOf c) → v < length (c .vectors)
-        → cellAt (marking marks file matrix classes .matrix) r v ≡ marks c (rowAt c none r) v
+    pub cell-is : (r v : ℕ) → r < length (rowsOf c) → v < length (c .vectors)
+        → cellAt (marking marks file matrix classes .matrix) r v ≡ marks c (rowAt c r) v
     unfolding cellAt outcomeOf workBy over markAt
-    cell-is none r v h k =
+    cell-is r v h k =
         let few = accepted-is-good file c accepts .few-vectors in
         rw (
           outcome-is (workBy rowOf marks sameClass) matrix classes file c accepts t,
-          word-in packed packed-long none (rowsOf c) (drop (length (joinLists (map packed (rowsOf c)))) matrix) r (v / 64) h (omega arith),
+          word-in packed packed-long noRow (rowsOf c) (drop (length (joinLists (map packed (rowsOf c)))) matrix) r (v / 64) h (omega arith),
         )
-        (row-mark (length (c .vectors)) (marks c (rowAt c none r)) (bits c (rowAt c none r)) v (omega arith)
-        ∙ up-below (length (c .vectors)) (marks c (rowAt c none r)) v k)
+        (row-mark (length (c .vectors)) (marks c (rowAt c r)) (bits c (rowAt c r)) v (omega arith)
+        ∙ up-below (length (c .vectors)) (marks c (rowAt c r)) v k)
 
     pub found-is : countsOf (marking marks file matrix classes .answer) .found ≡ foundWith c
     unfolding outcomeOf workBy countsOf
@@ -134,12 +133,12 @@ module _ (marks : Circuit → Row → ℕ → ℕ) (bits : (c : Circuit) (row : 
 
   -- and the cell of a row of it
   cell-alike : (file matrix classes : List ℕ) (c d : Circuit) → Accepts file d → T (isGraded (marking marks file matrix classes .answer))
-      → AlikeButVectors c d → (none : Row) (r v : ℕ) → r < length (rowsOf c) → v < length (d .vectors)
-      → cellAt (marking marks file matrix classes .matrix) r v ≡ marks d (rowAt c none r) v
-  cell-alike file matrix classes c d accepts t alike none r v h k =
+      → AlikeButVectors c d → (r v : ℕ) → r < length (rowsOf c) → v < length (d .vectors)
+      → cellAt (marking marks file matrix classes .matrix) r v ≡ marks d (rowAt c r) v
+  cell-alike file matrix classes c d accepts t alike r v h k =
       let rows = same-rows c d alike in
-      cell-is marks bits file matrix classes d accepts t none r v (rw rows at h) k
-      ∙ ap (λ (rs : List Row). marks d (getD rs r none) v) (sym rows)
+      cell-is marks bits file matrix classes d accepts t r v (rw rows at h) k
+      ∙ ap (λ (rs : List Row). marks d (getD rs r noRow) v) (sym rows)
 
   pub marks-above : ((file : List ℕ) (c d : Circuit) → Accepts file c → AlikeButVectors c d → Refined (c .vectors) (d .vectors)
       → (row : Row) (v : ℕ) → v < length (c .vectors) → markOf c row v ≤ marks d row v) → MeetsThreeByPaths (marking marks)
@@ -147,13 +146,14 @@ module _ (marks : Circuit → Row → ℕ → ℕ) (bits : (c : Circuit) (row : 
   marks-above above first file matrix classes c d accepts accepts′ t alike refined =
       let more = above first c d accepts alike refined in
       record {
-        marks = λ none r v h k path.
-            let row = rowAt c none r in
+        marks = λ at path.
+            let row = rowAt c (at .row) in
+            let v = at .vector in
             omega (
               arith,
-              cell-alike file matrix classes c d accepts′ t alike none r v h (omega (arith, refined .no-fewer)),
+              cell-alike file matrix classes c d accepts′ t alike (at .row) v (at .is-row) (omega (arith, at .is-vector, refined .no-fewer)),
               bit-set (cell c (vectorOf c v) row) (cell-decides c (vectorOf c v) row .0 path),
-              more row v k,
+              more row v (at .is-vector),
               bits d row v,
             );
         found = rw (found-alike file matrix classes c d accepts′ t alike)
@@ -162,10 +162,12 @@ module _ (marks : Circuit → Row → ℕ → ℕ) (bits : (c : Circuit) (row : 
 
   pub marks-below : ((c : Circuit) (row : Row) (v : ℕ) → marks c row v ≤ markOf c row v) → MeetsFillings (marking marks)
   unfolding markOf
-  marks-below below file matrix classes c accepts t none r v h k mark filling fills =
-      let row = rowAt c none r in
+  marks-below below file matrix classes c accepts t at mark filling fills =
+      let row = rowAt c (at .row) in
+      let v = at .vector in
+      let marked = cell-is marks bits file matrix classes c accepts t (at .row) v (at .is-row) (at .is-vector) in
       let here : ofBool (cell c (vectorOf c v) row) ≡ 1 =
-      omega (arith, mark, cell-is marks bits file matrix classes c accepts t none r v h k, below c row v, ofBool-le-one (cell c (vectorOf c v) row)) in
+      omega (arith, mark, marked, below c row v, ofBool-le-one (cell c (vectorOf c v) row)) in
       path-stays (vectorOf c v) filling (fills .keeps) c (accepted-is-good file c accepts) row
       (cell-decides c (vectorOf c v) row .1 (set-bit (cell c (vectorOf c v) row) here))
 
@@ -174,13 +176,15 @@ by-marks-that-stand marks those file matrix classes file′ matrix′ classes′
     let bits = those .bits in
     let stand = those .stand file c d accepts alike refined in
     record {
-      marks = λ r v h k e.
-          let row = rowAt c noRow r in
+      marks = λ at e.
+          let row = rowAt c (at .row) in
+          let v = at .vector in
           omega (
             arith,
-            cell-is marks bits file matrix classes c accepts t noRow r v h k,
-            cell-alike marks bits file′ matrix′ classes′ c d accepts′ t′ alike noRow r v h (omega (arith, refined .no-fewer)),
-            stand row v k,
+            e,
+            cell-is marks bits file matrix classes c accepts t (at .row) v (at .is-row) (at .is-vector),
+            cell-alike marks bits file′ matrix′ classes′ c d accepts′ t′ alike (at .row) v (at .is-row) (omega (arith, at .is-vector, refined .no-fewer)),
+            stand row v (at .is-vector),
             bits d row v,
           );
       found = rw (found-is marks bits file matrix classes c accepts t, found-alike marks bits file′ matrix′ classes′ c d accepts′ t′ alike)

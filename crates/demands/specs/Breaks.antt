@@ -10,12 +10,12 @@ use lib.Dec.{T}
 use lib.ListN.{length}
 use Rattle.switch.specs.Conduction.{Value}
 use Rattle.circuit.specs.Circuit.{Circuit}
-use Rattle.grading.specs.Rows.{Row, rowsOf, CellMarked}
+use Rattle.grading.specs.Rows.{Row, CellMarked}
 use Rattle.grading.specs.Classes.{foundCount}
 use Rattle.grading.specs.Promise.{countsOf}
-use Rattle.demands.specs.Calls.{Call, Accepts, isGraded, cellAt}
+use Rattle.demands.specs.Calls.{Call, Accepts, isGraded}
 use Rattle.demands.specs.One.{One, RestKept}
-use Rattle.demands.specs.Two.{vectorOf, rowAt, CellsTell, ClassesTell, AlikeButVectors}
+use Rattle.demands.specs.Two.{MatrixCell, rowOfCell, vectorOfCell, markIn, CellsTell, ClassesTell, AlikeButVectors}
 use Rattle.demands.specs.Three.{Refined, Three}
 use Rattle.demands.specs.NoConverse.{Filling}
 use Rattle.demands.specs.Graders.{Grader, called, Work, gradesBy, rightly}
@@ -55,8 +55,7 @@ MeetsThree grader =
 -- demand 3 read over the definition of demand 2: where a path marks a cell of the first file, the grader marks that of the refined one, and
 -- it finds no fewer classes than the definition does in the first
 pub record ThreeByPaths (finer : Call) (c : Circuit) : Type 0 where
-  pub marks : (none : Row) (r v : ℕ) → r < length (rowsOf c) → v < length (c .vectors)
-      → CellMarked c (vectorOf c v) (rowAt c none r) → cellAt (finer .matrix-after) r v ≡ 1
+  pub marks : (cell : MatrixCell c) → CellMarked c (vectorOfCell cell) (rowOfCell cell) → markIn finer cell ≡ 1
   pub found : foundCount c ≤ countsOf (finer .answer) .found
 
 abbrev pub MeetsThreeByPaths : Grader → Type 0
@@ -70,9 +69,8 @@ MeetsThreeByPaths grader =
 abbrev pub MeetsFillings : Grader → Type 0
 MeetsFillings grader =
     (file matrix classes : List ℕ) (c : Circuit) → Accepts file c → T (isGraded (grader file matrix classes .answer))
-    → (none : Row) (r v : ℕ) → r < length (rowsOf c) → v < length (c .vectors)
-    → cellAt (grader file matrix classes .matrix) r v ≡ 1
-    → (filling : List Value) → Filling (c .inputs) (vectorOf c v) filling → CellMarked c filling (rowAt c none r)
+    → (cell : MatrixCell c) → markIn (called grader file matrix classes) cell ≡ 1
+    → (filling : List Value) → Filling (c .inputs) (vectorOfCell cell) filling → CellMarked c filling (rowOfCell cell)
 
 -- the right grader meets all of them
 pub record RightlyMeetsAll : Type 0 where

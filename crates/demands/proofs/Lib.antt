@@ -4,6 +4,9 @@
 --   demand 2      SettledValues, Cells, Floating, Columns, RowFaults, OneClass, FoundClasses, ClassCounts, ClassesCarried, NamedAgain
 --   demand 3      Refining, RefinedMarks, NoConverseProof
 --   one outcome   CellsAgree, ClassesAgree, Determines, of the demands; StepsOnce, UniqueProof, of the promises
+--   demand 3      Refining, NoConverseProof
+--   of two files  WholeFields, AlikeFilesProof, AlikeFilesExamples
+--   one outcome   StepsOnce, UniqueProof
 --   by computing  KnownProof, WrongProof, BreaksProof; MeetsProof, what the demands do not break
 pub mod Gave
 pub mod Verdicts
@@ -22,6 +25,9 @@ pub mod ClassesCarried
 pub mod NamedAgain
 pub mod Refining
 pub mod RefinedMarks
+pub mod WholeFields
+pub mod AlikeFilesProof
+pub mod AlikeFilesExamples
 pub mod Computing
 pub mod RightProof
 pub mod KnownProof

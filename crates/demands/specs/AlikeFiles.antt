@@ -1,0 +1,135 @@
+-- Demand 3 and the column clause of demand 2, said of two files byte by byte: the same fields up to the vectors, then each file's own.
+-- What is asked of the files speaks of no circuit and of no reading, so that a reader can hold two files against it.
+use Prim.Native.Nat.{ℕ, _≤_, _<_}
+use mathlib.Core.Path.{_≡_}
+use mathlib.Core.Bool.{Bool, not}
+use mathlib.Core.Logic.{_⊎_}
+use mathlib.Core.List.{List, [], _∷_, _++_, map}
+use lib.Dec.{T, eqb}
+use lib.ListN.{length, getD}
+use Rattle.text.specs.Ascii.{bytesOf}
+use Rattle.switch.specs.Modules.{allOf}
+use Rattle.circuit.specs.Circuit.{Circuit, joinLists}
+use Rattle.circuit.specs.Known.{vectorIn}
+use Rattle.grading.specs.Promise.{countsOf}
+use Rattle.demands.specs.Calls.{Call, Kept, Accepts, isGraded, cellAt}
+use Rattle.demands.specs.Two.{AlikeButVectors}
+use Rattle.demands.specs.Three.{Refined}
+use Rattle.demands.specs.Files.{fieldBytes, nandUnder}
+
+-- ---- files alike but for their vectors
+
+-- a whole field, by its tag and its body
+pub record TagAndBody : Type 0 where
+  pub tag : ℕ
+  pub body : List ℕ
+
+abbrev pub fieldsOf : List TagAndBody → List ℕ
+fieldsOf fields = joinLists (map (λ (f : TagAndBody). fieldBytes (f .tag) (f .body)) fields)
+
+abbrev pub notVector : TagAndBody → Bool
+notVector f = not (eqb (f .tag) 6)
+
+-- one field for each vector, by their bodies
+abbrev pub vectorFieldsOf : List (List ℕ) → List ℕ
+vectorFieldsOf bodies = joinLists (map (fieldBytes 6) bodies)
+
+-- The head is the bytes before the first vector. It is whole fields: bytes inside an instance's field can look like a vector's, and files
+-- that differ there have other instances (`NotAnyHead`). And none of them is a vector's, so that bodies and columns are numbered alike
+pub record AlikeFiles (one other : List ℕ) (bodies otherBodies : List (List ℕ)) : Type 0 where
+  pub head : List TagAndBody
+  pub no-vector : T (allOf notVector head)
+  pub one-is : one ≡ fieldsOf head ++ vectorFieldsOf bodies
+  pub other-is : other ≡ fieldsOf head ++ vectorFieldsOf otherBodies
+
+-- the second body has the same byte wherever the first has 0 or 1, in ASCII 48 or 49: so where each X, 88, is filled, or some, or none
+abbrev pub KeepsLetters : List ℕ → List ℕ → Type 0
+KeepsLetters body finer = (i : ℕ) → (getD body i 0 ≡ 48) ⊎ (getD body i 0 ≡ 49) → getD finer i 0 ≡ getD body i 0
+
+-- field by field; perhaps there are more at the end
+pub record FinerBodies (bodies finer : List (List ℕ)) : Type 0 where
+  pub no-fewer : length bodies ≤ length finer
+  pub keeps : (v : ℕ) → v < length bodies → KeepsLetters (getD bodies v []) (getD finer v [])
+
+-- ---- how they are read
+
+-- circuits alike but for their vectors, and each vector is what the letters of its field say
+pub record ReadAlike (c d : Circuit) (bodies otherBodies : List (List ℕ)) : Type 0 where
+  pub alike : AlikeButVectors c d
+  pub vectors : c .vectors ≡ map vectorIn bodies
+  pub other-vectors : d .vectors ≡ map vectorIn otherBodies
+
+abbrev pub AlikeFilesReadAlike : Type 0
+AlikeFilesReadAlike =
+    (one other : List ℕ) (bodies otherBodies : List (List ℕ)) → AlikeFiles one other bodies otherBodies
+    → (c d : Circuit) → Accepts one c → Accepts other d → ReadAlike c d bodies otherBodies
+
+abbrev pub FinerFilesReadRefined : Type 0
+FinerFilesReadRefined =
+    (one finer : List ℕ) (bodies finerBodies : List (List ℕ)) → AlikeFiles one finer bodies finerBodies → FinerBodies bodies finerBodies
+    → (c d : Circuit) → Accepts one c → Accepts finer d → Refined (c .vectors) (d .vectors)
+
+-- ---- the demands of two calls that graded such files
+
+pub record GradedItsFile (call : Call) : Type 0 where
+  pub kept : Kept call
+  pub graded : T (isGraded (call .answer))
+
+-- the files of two calls that graded them
+pub record GradedAlike (one other : Call) (bodies otherBodies : List (List ℕ)) : Type 0 where
+  pub first : GradedItsFile one
+  pub second : GradedItsFile other
+  pub files : AlikeFiles (one .file) (other .file) bodies otherBodies
+
+-- demand 2: columns of equal vector fields are equal, wherever in the two files they stand
+abbrev pub ColumnIsOfItsField : Type 0
+ColumnIsOfItsField =
+    (one other : Call) (bodies otherBodies : List (List ℕ)) → GradedAlike one other bodies otherBodies
+    → (v w : ℕ) → v < length bodies → w < length otherBodies → getD bodies v [] ≡ getD otherBodies w []
+    → (r : ℕ) → r < countsOf (one .answer) .faults → cellAt (one .matrix-after) r v ≡ cellAt (other .matrix-after) r w
+
+-- demand 3: each mark stands in the same row and column, and the found count is no smaller
+pub record ThreeOfFiles (one finer : Call) (bodies : List (List ℕ)) : Type 0 where
+  pub marks : (r v : ℕ) → r < countsOf (one .answer) .faults → v < length bodies
+      → cellAt (one .matrix-after) r v ≡ 1 → cellAt (finer .matrix-after) r v ≡ 1
+  pub found : countsOf (one .answer) .found ≤ countsOf (finer .answer) .found
+
+abbrev pub ThreeHoldsOfFiles : Type 0
+ThreeHoldsOfFiles =
+    (one finer : Call) (bodies finerBodies : List (List ℕ)) → GradedAlike one finer bodies finerBodies → FinerBodies bodies finerBodies
+    → ThreeOfFiles one finer bodies
+
+-- so a mark that was made with X stands in every graded file that has its vector's field filled, at whichever place and beside any others
+abbrev pub MarksHoldInEveryFilledFile : Type 0
+MarksHoldInEveryFilledFile =
+    (one other : Call) (bodies otherBodies : List (List ℕ)) → GradedAlike one other bodies otherBodies
+    → (v w : ℕ) → v < length bodies → w < length otherBodies → KeepsLetters (getD bodies v []) (getD otherBodies w [])
+    → (r : ℕ) → r < countsOf (one .answer) .faults → cellAt (one .matrix-after) r v ≡ 1 → cellAt (other .matrix-after) r w ≡ 1
+
+-- ---- an example
+
+-- a NAND under 0X, and under 01 and 11: the files are alike, the second is finer, two calls graded them, and 0X marks row 1, bridge 0-2
+pub record NandRefined : Type 0 where
+  pub one : Call
+  pub finer : Call
+  pub one-file : one .file ≡ nandUnder ("0X" ∷ [])
+  pub finer-file : finer .file ≡ nandUnder ("01" ∷ "11" ∷ [])
+  pub graded : GradedAlike one finer (bytesOf "0X" ∷ []) (bytesOf "01" ∷ bytesOf "11" ∷ [])
+  pub more : FinerBodies (bytesOf "0X" ∷ []) (bytesOf "01" ∷ bytesOf "11" ∷ [])
+  pub mark : cellAt (one .matrix-after) 1 0 ≡ 1
+
+-- ---- why the head is whole fields
+
+-- the same with any bytes for a head
+pub record AlikeAfterBytes (one other : List ℕ) (bodies otherBodies : List (List ℕ)) : Type 0 where
+  pub head : List ℕ
+  pub one-is : one ≡ head ++ vectorFieldsOf bodies
+  pub other-is : other ≡ head ++ vectorFieldsOf otherBodies
+
+abbrev pub AnyHeadReadsAlike : Type 0
+AnyHeadReadsAlike =
+    (one other : List ℕ) (bodies otherBodies : List (List ℕ)) → AlikeAfterBytes one other bodies otherBodies
+    → (c d : Circuit) → Accepts one c → Accepts other d → AlikeButVectors c d
+
+abbrev pub NotAnyHead : Type 0
+NotAnyHead = AnyHeadReadsAlike → ⊥

@@ -29,17 +29,15 @@ under01 = called rightly (nandUnder ("01" ∷ "11" ∷ [])) room entries
 abbrev tagged : ℕ → List ℕ → TagAndBody
 tagged tag body = record { tag = tag; body = body }
 
+abbrev nandHead : List TagAndBody
+nandHead =
+    tagged 1 (0 ∷ 2 ∷ []) ∷ tagged 2 (3 ∷ 2 ∷ 2 ∷ [])
+    ∷ tagged 3 (1 ∷ 2 ∷ 0 ∷ 1 ∷ []) ∷ tagged 3 (2 ∷ 3 ∷ 0 ∷ []) ∷ tagged 3 (3 ∷ 0 ∷ 1 ∷ [])
+    ∷ tagged 5 (1 ∷ 255 ∷ 0 ∷ 1 ∷ 0 ∷ 2 ∷ []) ∷ []
+
 nand-files : AlikeFiles (under0X .file) (under01 .file) (bytesOf "0X" ∷ []) (bytesOf "01" ∷ bytesOf "11" ∷ [])
 unfolding grader-computing
-nand-files = record {
-  head =
-      tagged 1 (0 ∷ 2 ∷ []) ∷ tagged 2 (3 ∷ 2 ∷ 2 ∷ [])
-      ∷ tagged 3 (1 ∷ 2 ∷ 0 ∷ 1 ∷ []) ∷ tagged 3 (2 ∷ 3 ∷ 0 ∷ []) ∷ tagged 3 (3 ∷ 0 ∷ 1 ∷ [])
-      ∷ tagged 5 (1 ∷ 255 ∷ 0 ∷ 1 ∷ 0 ∷ 2 ∷ []) ∷ [];
-  no-vector = tt;
-  one-is = refl;
-  other-is = refl;
-}
+nand-files = record { head = nandHead; one-split = record { no-vector = tt; is = refl }; other-split = record { no-vector = tt; is = refl } }
 
 record Computed : Type 0 where
   graded : T (isGraded (under0X .answer))

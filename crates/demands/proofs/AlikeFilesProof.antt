@@ -12,7 +12,7 @@ use Rattle.switch.specs.Conduction.{Value, atX}
 use Rattle.switch.specs.Modules.{allOf}
 use Rattle.switch.proofs.Paths.{both}
 use Rattle.circuit.specs.Circuit.{Circuit, joinLists}
-use Rattle.circuit.specs.Known.{start, inputs-tag, type-tag, edge-tag, bridge-tag, instance-tag, vector-tag, no-tag, tagOf, letterOf, vectorIn, taken}
+use Rattle.circuit.specs.Known.{start, Tag, inputs-tag, type-tag, edge-tag, bridge-tag, instance-tag, vector-tag, no-tag, tagOf, letterOf, vectorIn, taken}
 use Rattle.circuit.specs.Reading.{readingOf}
 use Rattle.grading.specs.Rows.{rowsOf, CellMarked}
 use Rattle.grading.specs.Grading as grading
@@ -22,7 +22,7 @@ use Rattle.demands.specs.Calls.{Call, Accepts, GradedAs, cellAt}
 use Rattle.demands.specs.Two.{vectorOf, rowAt}
 use Rattle.demands.specs.Three.{given, Refined}
 use Rattle.demands.specs.Files.{fieldBytes}
-use Rattle.demands.specs.AlikeFiles.{TagAndBody, fieldsOf, notVector, vectorFieldsOf, KeepsLetters, FinerBodies, ReadAlike, AlikeFilesReadAlike, FinerFilesReadRefined, GradedItsFile, GradedAlike, ColumnIsOfItsField, ThreeOfFiles, ThreeHoldsOfFiles, MarksHoldInEveryFilledFile}
+use Rattle.demands.specs.AlikeFiles.{TagAndBody, fieldsOf, notVector, vectorFieldsOf, Split, KeepsLetters, FinerBodies, ReadAlike, AlikeFilesReadAlike, FinerFilesReadRefined, GradedItsFile, GradedAlike, ColumnIsOfItsField, ThreeOfFiles, ThreeHoldsOfFiles, MarksHoldInEveryFilledFile}
 use Rattle.demands.proofs.Gave.{gave}
 use Rattle.demands.proofs.OneProof.{one-holds}
 use Rattle.demands.proofs.Cells.{cell-decides, cell-marked}
@@ -32,7 +32,7 @@ use Rattle.demands.proofs.WholeFields.{takenAll, taken-append, accepted
 
 -- ---- vector fields as fields like the others
 
-abbrev vectorField : List ℕ → TagAndBody
+abbrev pub vectorField : List ℕ → TagAndBody
 vectorField body = record { tag = 6; body = body }
 
 vector-fields : (bodies : List (List ℕ)) → vectorFieldsOf bodies ≡ fieldsOf (map vectorField bodies)
@@ -40,7 +40,7 @@ unfolding joinLists
 vector-fields [] = refl
 vector-fields (body ∷ bodies) = ap (λ (bytes : List ℕ). fieldBytes 6 body ++ bytes) (vector-fields bodies)
 
-whole-file : (head : List TagAndBody) (bodies : List (List ℕ))
+pub whole-file : (head : List TagAndBody) (bodies : List (List ℕ))
     → fieldsOf head ++ vectorFieldsOf bodies ≡ fieldsOf (head ++ map vectorField bodies)
 unfolding joinLists
 whole-file [] bodies = vector-fields bodies
@@ -60,15 +60,17 @@ vectors-add c [] = ap (withVectors c) (sym (append-nil (c .vectors)))
 vectors-add c (body ∷ bodies) =
     vectors-add (taken vector-tag c body) bodies ∙ ap (withVectors c) (append-assoc (c .vectors) (vectorIn body ∷ []) (map vectorIn bodies))
 
+-- the tag of a number by its six tests
+abbrev pub tagBy : (one two three four five six : Bool) → Tag
+tagBy one two three four five six =
+    cond one inputs-tag (cond two type-tag (cond three edge-tag (cond four bridge-tag (cond five instance-tag (cond six vector-tag no-tag)))))
+
 -- a field that is no vector's adds no vector
 no-vector-added : (tag : ℕ) (c : Circuit) (body : List ℕ) → T (not (eqb tag 6)) → taken (tagOf tag) c body .vectors ≡ c .vectors
 unfolding tagOf taken
 no-vector-added tag c body other = go (eqb tag 1) (eqb tag 2) (eqb tag 3) (eqb tag 4) (eqb tag 5) (eqb tag 6) other
   where
-    go : (one two three four five six : Bool) → T (not six)
-        → taken (cond one inputs-tag (cond two type-tag (cond three edge-tag (cond four bridge-tag (cond five instance-tag
-        (cond six vector-tag no-tag)))))) c body .vectors
-        ≡ c .vectors
+    go : (one two three four five six : Bool) → T (not six) → taken (tagBy one two three four five six) c body .vectors ≡ c .vectors
     go true two three four five six t = refl
     go false true three four five six t = refl
     go false false true four five six t = refl
@@ -87,19 +89,19 @@ head-adds-no-vector c (f ∷ head) t =
 abbrev headCircuit : List TagAndBody → Circuit
 headCircuit head = takenAll (start .circuit) head
 
-file-told : (file : List ℕ) (head : List TagAndBody) (bodies : List (List ℕ)) → file ≡ fieldsOf head ++ vectorFieldsOf bodies
-    → T (allOf notVector head) → (c : Circuit) → Accepts file c → withVectors (headCircuit head) (map vectorIn bodies) ≡ c
-file-told file head bodies is no-vector c accepts =
+split-tells : (file : List ℕ) (head : List TagAndBody) (bodies : List (List ℕ)) → Split file head bodies
+    → (c : Circuit) → Accepts file c → withVectors (headCircuit head) (map vectorIn bodies) ≡ c
+split-tells file head bodies split c accepts =
     ap (λ (before : List (List Value)). withVectors (headCircuit head) (before ++ map vectorIn bodies))
-    (sym (head-adds-no-vector (start .circuit) head no-vector))
+    (sym (head-adds-no-vector (start .circuit) head (split .no-vector)))
     ∙ sym (vectors-add (headCircuit head) bodies)
     ∙ sym (taken-append (start .circuit) head (map vectorField bodies))
-    ∙ accepted-adds-up (head ++ map vectorField bodies) c (ap readingOf (sym (whole-file head bodies) ∙ sym is) ∙ accepts)
+    ∙ accepted-adds-up (head ++ map vectorField bodies) c (ap readingOf (sym (whole-file head bodies) ∙ sym (split .is)) ∙ accepts)
 
 pub alike-files-read-alike : AlikeFilesReadAlike
 alike-files-read-alike one other bodies otherBodies files c d accepts accepts′ =
-    let e = file-told one (files .head) bodies (files .one-is) (files .no-vector) c accepts in
-    let e′ = file-told other (files .head) otherBodies (files .other-is) (files .no-vector) d accepts′ in
+    let e = split-tells one (files .head) bodies (files .one-split) c accepts in
+    let e′ = split-tells other (files .head) otherBodies (files .other-split) d accepts′ in
     record {
       alike = record {
         inputs = sym (ap (λ (x : Circuit). x .inputs) e) ∙ ap (λ (x : Circuit). x .inputs) e′;

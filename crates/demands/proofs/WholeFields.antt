@@ -19,11 +19,11 @@ use Rattle.demands.specs.AlikeFiles.{TagAndBody, fieldsOf}
 
 -- ---- the cut
 
-abbrev fieldAt : ℕ → TagAndBody → Field
+abbrev pub fieldAt : ℕ → TagAndBody → Field
 fieldAt at f = record { at = at; tag = f .tag; body = f .body }
 
 -- whole fields, from an offset
-unfoldable cutOf : ℕ → List TagAndBody → Cut
+unfoldable pub cutOf : ℕ → List TagAndBody → Cut
 cutOf at [] = clean
 cutOf at (f ∷ fs) = field (fieldAt at f) (cutOf (at + 3 + length (f .body)) fs)
 
@@ -64,7 +64,7 @@ module _ (before : List ℕ) (f : TagAndBody) (rest : List ℕ) where
       cut-field there (length before) inside
       ∙ ap₂ field it-stands (ap₂ cutFrom (sym (append-assoc before (bytesOfField (f .tag) (f .body)) rest)) its-end)
 
-cut-whole : (before : List ℕ) (fs : List TagAndBody) → cutFrom (before ++ fieldsOf fs) (length before) ≡ cutOf (length before) fs
+pub cut-whole : (before : List ℕ) (fs : List TagAndBody) → cutFrom (before ++ fieldsOf fs) (length before) ≡ cutOf (length before) fs
 unfolding joinLists cutOf
 cut-whole before [] = cut-clean (before ++ []) (length before) (omega (arith, length-append before []))
 cut-whole before (f ∷ fs) =
@@ -88,7 +88,7 @@ taken-append c [] gs = refl
 taken-append c (f ∷ fs) gs = taken-append (taken (tagOf (f .tag)) c (f .body)) fs gs
 
 -- what is accepted after a verdict was accepted without it
-after-verdict : (v : Verdict) (r : Reading) (c : Circuit) → unless v r ≡ accepted c → r ≡ accepted c
+pub after-verdict : (v : Verdict) (r : Reading) (c : Circuit) → unless v r ≡ accepted c → r ≡ accepted c
 unfolding unless
 after-verdict passes r c e = e
 after-verdict (refusedAt number place) r c e = cc
@@ -101,13 +101,17 @@ read-whole size known at (f ∷ fs) c e =
     read-whole size (knownAfter known (fieldAt at f)) (at + 3 + length (f .body)) fs c
     (after-verdict (firstOf (fieldTests known (fieldAt at f))) _ c e)
 
+-- an accepted file is not too long
+pub read-from-start : (file : List ℕ) (c : Circuit) → readingOf file ≡ accepted c → readFrom (length file) start (cutFrom file 0) ≡ accepted c
+unfolding readingOf
+read-from-start file c e = go (ltb mostBytes (length file)) _ e
+  where
+    go : (long : Bool) (whole : Reading) → cond long (refusal 1 0) whole ≡ accepted c → whole ≡ accepted c
+    go true whole q = cc
+    go false whole q = q
+
 -- an accepted file of whole fields tells what they add to nothing
 pub accepted-adds-up : (fs : List TagAndBody) (c : Circuit) → readingOf (fieldsOf fs) ≡ accepted c → takenAll (start .circuit) fs ≡ c
-unfolding readingOf
 accepted-adds-up fs c e =
     read-whole (length (fieldsOf fs)) start 0 fs c
-    (ap (readFrom (length (fieldsOf fs)) start) (sym (cut-whole [] fs)) ∙ not-long (ltb mostBytes (length (fieldsOf fs))) _ e)
-  where
-    not-long : (long : Bool) (whole : Reading) → cond long (refusal 1 0) whole ≡ accepted c → whole ≡ accepted c
-    not-long true whole q = cc
-    not-long false whole q = q
+    (ap (readFrom (length (fieldsOf fs)) start) (sym (cut-whole [] fs)) ∙ read-from-start (fieldsOf fs) c e)

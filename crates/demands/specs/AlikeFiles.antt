@@ -34,13 +34,17 @@ notVector f = not (eqb (f .tag) 6)
 abbrev pub vectorFieldsOf : List (List ℕ) → List ℕ
 vectorFieldsOf bodies = joinLists (map (fieldBytes 6) bodies)
 
--- The head is the bytes before the first vector. It is whole fields: bytes inside an instance's field can look like a vector's, and files
--- that differ there have other instances (`NotAnyHead`). And none of them is a vector's, so that bodies and columns are numbered alike
+-- A file split before its first vector. What stands before is whole fields: bytes inside an instance's field can look like a vector's, and files
+-- that differ there have other instances (`NotAnyHead`). None of them is a vector's, so that bodies and columns are numbered alike
+pub record Split (file : List ℕ) (head : List TagAndBody) (bodies : List (List ℕ)) : Type 0 where
+  pub no-vector : T (allOf notVector head)
+  pub is : file ≡ fieldsOf head ++ vectorFieldsOf bodies
+
+-- the same fields before the first vector
 pub record AlikeFiles (one other : List ℕ) (bodies otherBodies : List (List ℕ)) : Type 0 where
   pub head : List TagAndBody
-  pub no-vector : T (allOf notVector head)
-  pub one-is : one ≡ fieldsOf head ++ vectorFieldsOf bodies
-  pub other-is : other ≡ fieldsOf head ++ vectorFieldsOf otherBodies
+  pub one-split : Split one head bodies
+  pub other-split : Split other head otherBodies
 
 -- the second body has the same byte wherever the first has 0 or 1, in ASCII 48 or 49: so where each X, 88, is filled, or some, or none
 abbrev pub KeepsLetters : List ℕ → List ℕ → Type 0
@@ -50,6 +54,18 @@ KeepsLetters body finer = (i : ℕ) → (getD body i 0 ≡ 48) ⊎ (getD body i 
 pub record FinerBodies (bodies finer : List (List ℕ)) : Type 0 where
   pub no-fewer : length bodies ≤ length finer
   pub keeps : (v : ℕ) → v < length bodies → KeepsLetters (getD bodies v []) (getD finer v [])
+
+-- ---- every accepted file can be held against this, in one way
+
+abbrev pub AcceptedIsSplit : Type 0
+AcceptedIsSplit =
+    (file : List ℕ) (c : Circuit) → ((i : ℕ) → getD file i 0 < 256) → Accepts file c
+    → (head : List TagAndBody) × (bodies : List (List ℕ)) × Split file head bodies
+
+abbrev pub SplitOnce : Type 0
+SplitOnce =
+    (file : List ℕ) (head head′ : List TagAndBody) (bodies bodies′ : List (List ℕ)) → Split file head bodies → Split file head′ bodies′
+    → (head ≡ head′) × (bodies ≡ bodies′)
 
 -- ---- how they are read
 

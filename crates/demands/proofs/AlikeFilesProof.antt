@@ -50,11 +50,11 @@ whole-file (f ∷ head) bodies =
 
 -- ---- what they add
 
-abbrev withVectors : Circuit → List (List Value) → Circuit
+abbrev pub withVectors : Circuit → List (List Value) → Circuit
 withVectors c vectors = record { inputs = c .inputs; types = c .types; bridges = c .bridges; instances = c .instances; vectors = vectors }
 
 -- fields of vectors add their vectors, and nothing else
-vectors-add : (c : Circuit) (bodies : List (List ℕ)) → takenAll c (map vectorField bodies) ≡ withVectors c (c .vectors ++ map vectorIn bodies)
+pub vectors-add : (c : Circuit) (bodies : List (List ℕ)) → takenAll c (map vectorField bodies) ≡ withVectors c (c .vectors ++ map vectorIn bodies)
 unfolding takenAll taken tagOf
 vectors-add c [] = ap (withVectors c) (sym (append-nil (c .vectors)))
 vectors-add c (body ∷ bodies) =
@@ -89,7 +89,7 @@ head-adds-no-vector c (f ∷ head) t =
 abbrev headCircuit : List TagAndBody → Circuit
 headCircuit head = takenAll (start .circuit) head
 
-split-tells : (file : List ℕ) (head : List TagAndBody) (bodies : List (List ℕ)) → Split file head bodies
+pub split-tells : (file : List ℕ) (head : List TagAndBody) (bodies : List (List ℕ)) → Split file head bodies
     → (c : Circuit) → Accepts file c → withVectors (headCircuit head) (map vectorIn bodies) ≡ c
 split-tells file head bodies split c accepts =
     ap (λ (before : List (List Value)). withVectors (headCircuit head) (before ++ map vectorIn bodies))
@@ -157,7 +157,7 @@ finer-files-read-refined one finer bodies finerBodies files more c d accepts acc
 -- ---- two calls that graded such files
 
 -- a call that graded its file graded it as the circuit that it is read as
-graded-as : (call : Call) → GradedItsFile call → (c : Circuit) × GradedAs call c
+pub graded-as : (call : Call) → GradedItsFile call → (c : Circuit) × GradedAs call c
 graded-as call g =
     let taken-as = one-holds call (g .kept) .graded-is-accepted (g .graded) in
     (taken-as .0, record { kept = g .kept; accepts = taken-as .1; graded = g .graded })

@@ -5,7 +5,7 @@
 --   demand 3      Refining, RefinedMarks, NoConverseProof
 --   one outcome   CellsAgree, ClassesAgree, Determines, of the demands; StepsOnce, UniqueProof, of the promises
 --   demand 3      Refining, NoConverseProof
---   of two files  WholeFields, AlikeFilesProof, FileSplits, AlikeFilesExamples
+--   of two files  WholeFields, AlikeFilesProof, FileSplits, OtherVectors, Fillings, AlikeFilesExamples
 --   one outcome   StepsOnce, UniqueProof
 --   by computing  KnownProof, WrongProof, BreaksProof; MeetsProof, what the demands do not break
 pub mod Gave
@@ -28,6 +28,8 @@ pub mod RefinedMarks
 pub mod WholeFields
 pub mod AlikeFilesProof
 pub mod FileSplits
+pub mod OtherVectors
+pub mod Fillings
 pub mod AlikeFilesExamples
 pub mod Computing
 pub mod RightProof

@@ -93,7 +93,7 @@ unfolding unless
 after-verdict passes r c e = e
 after-verdict (refusedAt number place) r c e = cc
 
-read-whole : (size : ℕ) (known : Known) (at : ℕ) (fs : List TagAndBody) (c : Circuit)
+pub read-whole : (size : ℕ) (known : Known) (at : ℕ) (fs : List TagAndBody) (c : Circuit)
     → readFrom size known (cutOf at fs) ≡ accepted c → takenAll (known .circuit) fs ≡ c
 unfolding readFrom cutOf takenAll knownAfter
 read-whole size known at [] c e = let z = after-verdict (firstOf (endTests known size)) (accepted (known .circuit)) c e in cc

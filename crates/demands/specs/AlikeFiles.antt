@@ -9,8 +9,10 @@ use lib.Dec.{T, eqb}
 use lib.ListN.{length, getD}
 use Rattle.text.specs.Ascii.{bytesOf}
 use Rattle.switch.specs.Modules.{allOf}
+use Rattle.circuit.specs.Limits.{mostBytes, mostVectors}
 use Rattle.circuit.specs.Circuit.{Circuit, joinLists}
 use Rattle.circuit.specs.Known.{vectorIn}
+use Rattle.circuit.specs.Table.{isLetter}
 use Rattle.grading.specs.Promise.{countsOf}
 use Rattle.demands.specs.Calls.{Call, Kept, Accepts, isGraded, cellAt}
 use Rattle.demands.specs.Two.{AlikeButVectors}
@@ -34,8 +36,8 @@ notVector f = not (eqb (f .tag) 6)
 abbrev pub vectorFieldsOf : List (List ℕ) → List ℕ
 vectorFieldsOf bodies = joinLists (map (fieldBytes 6) bodies)
 
--- A file split before its first vector. What stands before is whole fields: bytes inside an instance's field can look like a vector's, and files
--- that differ there have other instances (`NotAnyHead`). None of them is a vector's, so that bodies and columns are numbered alike
+-- A file split before its first vector. What stands before is whole fields: bytes inside an instance's field can look like a vector's, and
+-- files that differ there have other instances (`NotAnyHead`). None of them is a vector's, so that bodies and columns are numbered alike
 pub record Split (file : List ℕ) (head : List TagAndBody) (bodies : List (List ℕ)) : Type 0 where
   pub no-vector : T (allOf notVector head)
   pub is : file ≡ fieldsOf head ++ vectorFieldsOf bodies
@@ -54,6 +56,19 @@ KeepsLetters body finer = (i : ℕ) → (getD body i 0 ≡ 48) ⊎ (getD body i 
 pub record FinerBodies (bodies finer : List (List ℕ)) : Type 0 where
   pub no-fewer : length bodies ≤ length finer
   pub keeps : (v : ℕ) → v < length bodies → KeepsLetters (getD bodies v []) (getD finer v [])
+
+-- the byte as it was, or 0 or 1 in place of X
+abbrev pub FilledByte : ℕ → ℕ → Type 0
+FilledByte byte filled = (filled ≡ byte) ⊎ ((byte ≡ 88) × ((filled ≡ 48) ⊎ (filled ≡ 49)))
+
+pub record FilledBody (body filled : List ℕ) : Type 0 where
+  pub as-long : length filled ≡ length body
+  pub each : (i : ℕ) → i < length body → FilledByte (getD body i 0) (getD filled i 0)
+
+-- as many vectors, each filled
+pub record FilledBodies (bodies filled : List (List ℕ)) : Type 0 where
+  pub as-many : length filled ≡ length bodies
+  pub each : (v : ℕ) → v < length bodies → FilledBody (getD bodies v []) (getD filled v [])
 
 -- ---- every accepted file can be held against this, in one way
 
@@ -84,6 +99,26 @@ abbrev pub FinerFilesReadRefined : Type 0
 FinerFilesReadRefined =
     (one finer : List ℕ) (bodies finerBodies : List (List ℕ)) → AlikeFiles one finer bodies finerBodies → FinerBodies bodies finerBodies
     → (c d : Circuit) → Accepts one c → Accepts finer d → Refined (c .vectors) (d .vectors)
+
+-- ---- such files are accepted too
+
+-- vectors of P primary inputs: one at least and 256 at most, each P bytes of 0, 1 or X
+pub record GoodBodies (P : ℕ) (bodies : List (List ℕ)) : Type 0 where
+  pub some : 1 ≤ length bodies
+  pub few : length bodies ≤ mostVectors
+  pub long : (v : ℕ) → v < length bodies → length (getD bodies v []) ≡ P
+  pub letters : (v : ℕ) → v < length bodies → T (allOf isLetter (getD bodies v []))
+
+abbrev pub OtherVectorsAreAccepted : Type 0
+OtherVectorsAreAccepted =
+    (one other : List ℕ) (bodies otherBodies : List (List ℕ)) → AlikeFiles one other bodies otherBodies
+    → (c : Circuit) → Accepts one c → GoodBodies (c .inputs) otherBodies → length other ≤ mostBytes
+    → (d : Circuit) × Accepts other d
+
+abbrev pub FillingsAreAccepted : Type 0
+FillingsAreAccepted =
+    (one other : List ℕ) (bodies filled : List (List ℕ)) → AlikeFiles one other bodies filled → FilledBodies bodies filled
+    → (c : Circuit) → Accepts one c → (d : Circuit) × Accepts other d
 
 -- ---- the demands of two calls that graded such files
 
@@ -121,6 +156,18 @@ MarksHoldInEveryFilledFile =
     (one other : Call) (bodies otherBodies : List (List ℕ)) → GradedAlike one other bodies otherBodies
     → (v w : ℕ) → v < length bodies → w < length otherBodies → KeepsLetters (getD bodies v []) (getD otherBodies w [])
     → (r : ℕ) → r < countsOf (one .answer) .faults → cellAt (one .matrix-after) r v ≡ 1 → cellAt (other .matrix-after) r w ≡ 1
+
+-- and of a second file nothing need be known but that it is the first with X's filled: in buffers that are no smaller it is graded too
+pub record GradedToo (one other : Call) (bodies : List (List ℕ)) : Type 0 where
+  pub graded : T (isGraded (other .answer))
+  pub three : ThreeOfFiles one other bodies
+
+abbrev pub FillingsAreGraded : Type 0
+FillingsAreGraded =
+    (one other : Call) (bodies filled : List (List ℕ)) → GradedItsFile one → Kept other
+    → AlikeFiles (one .file) (other .file) bodies filled → FilledBodies bodies filled
+    → length (one .matrix) ≤ length (other .matrix) → length (one .classes) ≤ length (other .classes)
+    → GradedToo one other bodies
 
 -- ---- an example
 

@@ -1,5 +1,5 @@
 -- Two files of a NAND that are alike but for their vectors, the second finer; and two accepted files that differ in an instance behind
--- the same bytes, since bytes inside the instance's field look like a vector's (specs/AlikeFiles).
+-- the same bytes, since bytes inside the instance's field look like a vector's (specs/AlikeFiles, specs/SplitFiles).
 use Prim.Native.Nat.{ℕ, zero, suc, _<_}
 use mathlib.Core.Path.{_≡_, refl, ap}
 use mathlib.Core.Logic.{inl, inr}
@@ -14,7 +14,8 @@ use Rattle.circuit.specs.Records.{emptyCircuit}
 use Rattle.demands.specs.Calls.{Call, isGraded, cellAt}
 use Rattle.demands.specs.Files.{inputsField, nand3Fields, instanceField, vectorField, nandUnder}
 use Rattle.demands.specs.Graders.{called, rightly}
-use Rattle.demands.specs.AlikeFiles.{TagAndBody, AlikeFiles, KeepsLetters, FinerBodies, NandRefined, AlikeAfterBytes, NotAnyHead}
+use Rattle.demands.specs.AlikeFiles.{TagAndBody, AlikeFiles, KeepsLetters, FinerBodies, NandRefined}
+use Rattle.demands.specs.SplitFiles.{AlikeAfterBytes, NotAnyHead}
 use Rattle.demands.proofs.Computing.{grader-computing, room, entries}
 use Rattle.demands.proofs.RightProof.{rightly-is-right}
 

@@ -14,7 +14,8 @@ use Rattle.switch.proofs.Paths.{both}
 use Rattle.circuit.specs.Circuit.{Circuit, joinLists}
 use Rattle.circuit.specs.Known.{start, Tag, inputs-tag, type-tag, edge-tag, bridge-tag, instance-tag, vector-tag, no-tag, tagOf, letterOf, vectorIn, taken}
 use Rattle.circuit.specs.Reading.{readingOf}
-use Rattle.grading.specs.Rows.{rowsOf, CellMarked}
+use Rattle.grading.specs.Rows.{Row, rowsOf, CellMarked}
+use Rattle.grading.specs.Classes.{largest, classesOf, classCount}
 use Rattle.grading.specs.Grading as grading
 use Rattle.grading.specs.Promise.{countsOf}
 use Rattle.grading.proofs.RowLaws.{noRow}
@@ -22,8 +23,8 @@ use Rattle.demands.specs.Calls.{Call, Accepts, GradedAs, cellAt}
 use Rattle.demands.specs.Two.{vectorOf, rowAt}
 use Rattle.demands.specs.Three.{given, Refined}
 use Rattle.demands.specs.Files.{fieldBytes}
-use Rattle.demands.specs.AlikeFiles.{TagAndBody, fieldsOf, notVector, vectorFieldsOf, Split, KeepsLetters, FinerBodies, ReadAlike, AlikeFilesReadAlike, FinerFilesReadRefined, GradedItsFile, GradedAlike, ColumnIsOfItsField, ThreeOfFiles, ThreeHoldsOfFiles, MarksHoldInEveryFilledFile}
-use Rattle.demands.proofs.Gave.{gave}
+use Rattle.demands.specs.AlikeFiles.{TagAndBody, fieldsOf, notVector, vectorFieldsOf, Split, KeepsLetters, FinerBodies, ReadAlike, AlikeFilesReadAlike, FinerFilesReadRefined, GradedItsFile, GradedAlike, SameRows, RowsAreOfTheHead, ColumnIsOfItsField, ThreeOfFiles, ThreeHoldsOfFiles, MarksHoldInEveryFilledFile}
+use Rattle.demands.proofs.Gave.{gave, classes-counted, class-is}
 use Rattle.demands.proofs.OneProof.{one-holds}
 use Rattle.demands.proofs.Cells.{cell-decides, cell-marked}
 use Rattle.demands.proofs.Columns.{same-rows, same-cell, column-is-of-its-vector}
@@ -223,6 +224,22 @@ module _ (one other : Call) (bodies otherBodies : List (List ℕ)) (graded : Gra
       let marked = marks-hold-under-every-filling one c as-c noRow r v (is-row r l) (is-vector v h) mark (vectorOf d w) long refines in
       cell-marked other d as-d noRow r w (rw (same-rows c d (read .alike)) at (is-row r l)) (is-other-vector w k) .1
       (marked-alike (vectorOf d w) r marked)
+
+  rows : SameRows one other
+  unfolding classCount
+  rows =
+      let same = same-rows c d (read .alike) in
+      record {
+        faults = rows-counted one c as-c ∙ ap length same ∙ sym (rows-counted other d as-d);
+        classes = classes-counted one c as-c ∙ ap (λ (rs : List Row). largest (classesOf rs)) same ∙ sym (classes-counted other d as-d);
+        class = λ r h.
+            class-is one c as-c r (is-row r h)
+            ∙ ap (λ (rs : List Row). getD (classesOf rs) r 0) same
+            ∙ sym (class-is other d as-d r (rw same at (is-row r h)));
+      }
+
+pub rows-are-of-the-head : RowsAreOfTheHead
+rows-are-of-the-head = rows
 
 pub column-is-of-its-field : ColumnIsOfItsField
 column-is-of-its-field = column

@@ -21,7 +21,8 @@ use Rattle.circuit.proofs.Verdicts.{first-passes}
 use Rattle.circuit.proofs.Tested.{holds, and-T}
 use Rattle.fields.proofs.Cuts.{behind, standing, cut-broken, cut-field}
 use Rattle.demands.specs.Files.{fieldBytes as bytesOfField}
-use Rattle.demands.specs.AlikeFiles.{TagAndBody, fieldsOf, notVector, AcceptedIsSplit, SplitOnce}
+use Rattle.demands.specs.AlikeFiles.{TagAndBody, fieldsOf, notVector}
+use Rattle.demands.specs.SplitFiles.{AcceptedIsSplit, SplitOnce}
 use Rattle.demands.proofs.WholeFields.{fieldAt, cutOf, cut-whole, after-verdict, read-from-start}
 use Rattle.demands.proofs.AlikeFilesProof.{vectorField, whole-file, tagBy}
 

@@ -21,7 +21,8 @@ use Rattle.circuit.proofs.CircuitLaws.{accepted-is-good}
 use Rattle.circuit.proofs.Tested.{holds, and-T}
 use Rattle.circuit.proofs.Verdicts.{first-passes}
 use Rattle.demands.specs.Calls.{Accepts}
-use Rattle.demands.specs.AlikeFiles.{TagAndBody, fieldsOf, vectorFieldsOf, Split, KeepsLetters, FinerBodies, FilledByte, FilledBody, FilledBodies, GradedAlike, FillingsAreAccepted, FillingsAreGraded}
+use Rattle.demands.specs.AlikeFiles.{TagAndBody, fieldsOf, vectorFieldsOf, Split, KeepsLetters, FinerBodies, FilledByte, FilledBody, FilledBodies, GradedAlike, FillingsAreGraded}
+use Rattle.demands.specs.SplitFiles.{FillingsAreAccepted}
 use Rattle.demands.proofs.Gave.{gave}
 use Rattle.demands.proofs.OneProof.{one-holds}
 use Rattle.demands.proofs.Columns.{same-rows}

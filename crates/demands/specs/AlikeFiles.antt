@@ -1,5 +1,5 @@
 -- Demand 3 and the column clause of demand 2, said of two files byte by byte: the same fields up to the vectors, then each file's own.
--- What is asked of the files speaks of no circuit and of no reading, so that a reader can hold two files against it.
+-- What is asked of the files speaks of no circuit and of no reading, so that a reader can hold two files against it (more in SplitFiles).
 use Prim.Native.Nat.{ℕ, _≤_, _<_}
 use mathlib.Core.Path.{_≡_}
 use mathlib.Core.Bool.{Bool, not}
@@ -9,12 +9,10 @@ use lib.Dec.{T, eqb}
 use lib.ListN.{length, getD}
 use Rattle.text.specs.Ascii.{bytesOf}
 use Rattle.switch.specs.Modules.{allOf}
-use Rattle.circuit.specs.Limits.{mostBytes, mostVectors}
 use Rattle.circuit.specs.Circuit.{Circuit, joinLists}
 use Rattle.circuit.specs.Known.{vectorIn}
-use Rattle.circuit.specs.Table.{isLetter}
 use Rattle.grading.specs.Promise.{countsOf}
-use Rattle.demands.specs.Calls.{Call, Kept, Accepts, isGraded, cellAt}
+use Rattle.demands.specs.Calls.{Call, Kept, Accepts, isGraded, cellAt, classAt}
 use Rattle.demands.specs.Two.{AlikeButVectors}
 use Rattle.demands.specs.Three.{Refined}
 use Rattle.demands.specs.Files.{fieldBytes, nandUnder}
@@ -70,18 +68,6 @@ pub record FilledBodies (bodies filled : List (List ℕ)) : Type 0 where
   pub as-many : length filled ≡ length bodies
   pub each : (v : ℕ) → v < length bodies → FilledBody (getD bodies v []) (getD filled v [])
 
--- ---- every accepted file can be held against this, in one way
-
-abbrev pub AcceptedIsSplit : Type 0
-AcceptedIsSplit =
-    (file : List ℕ) (c : Circuit) → ((i : ℕ) → getD file i 0 < 256) → Accepts file c
-    → (head : List TagAndBody) × (bodies : List (List ℕ)) × Split file head bodies
-
-abbrev pub SplitOnce : Type 0
-SplitOnce =
-    (file : List ℕ) (head head′ : List TagAndBody) (bodies bodies′ : List (List ℕ)) → Split file head bodies → Split file head′ bodies′
-    → (head ≡ head′) × (bodies ≡ bodies′)
-
 -- ---- how they are read
 
 -- circuits alike but for their vectors, and each vector is what the letters of its field say
@@ -100,26 +86,6 @@ FinerFilesReadRefined =
     (one finer : List ℕ) (bodies finerBodies : List (List ℕ)) → AlikeFiles one finer bodies finerBodies → FinerBodies bodies finerBodies
     → (c d : Circuit) → Accepts one c → Accepts finer d → Refined (c .vectors) (d .vectors)
 
--- ---- such files are accepted too
-
--- vectors of P primary inputs: one at least and 256 at most, each P bytes of 0, 1 or X
-pub record GoodBodies (P : ℕ) (bodies : List (List ℕ)) : Type 0 where
-  pub some : 1 ≤ length bodies
-  pub few : length bodies ≤ mostVectors
-  pub long : (v : ℕ) → v < length bodies → length (getD bodies v []) ≡ P
-  pub letters : (v : ℕ) → v < length bodies → T (allOf isLetter (getD bodies v []))
-
-abbrev pub OtherVectorsAreAccepted : Type 0
-OtherVectorsAreAccepted =
-    (one other : List ℕ) (bodies otherBodies : List (List ℕ)) → AlikeFiles one other bodies otherBodies
-    → (c : Circuit) → Accepts one c → GoodBodies (c .inputs) otherBodies → length other ≤ mostBytes
-    → (d : Circuit) × Accepts other d
-
-abbrev pub FillingsAreAccepted : Type 0
-FillingsAreAccepted =
-    (one other : List ℕ) (bodies filled : List (List ℕ)) → AlikeFiles one other bodies filled → FilledBodies bodies filled
-    → (c : Circuit) → Accepts one c → (d : Circuit) × Accepts other d
-
 -- ---- the demands of two calls that graded such files
 
 pub record GradedItsFile (call : Call) : Type 0 where
@@ -131,6 +97,16 @@ pub record GradedAlike (one other : Call) (bodies otherBodies : List (List ℕ))
   pub first : GradedItsFile one
   pub second : GradedItsFile other
   pub files : AlikeFiles (one .file) (other .file) bodies otherBodies
+
+-- the rows are the same, and so are their classes, whatever the vectors
+pub record SameRows (one other : Call) : Type 0 where
+  pub faults : countsOf (one .answer) .faults ≡ countsOf (other .answer) .faults
+  pub classes : countsOf (one .answer) .classes ≡ countsOf (other .answer) .classes
+  pub class : (r : ℕ) → r < countsOf (one .answer) .faults → classAt (one .classes-after) r ≡ classAt (other .classes-after) r
+
+abbrev pub RowsAreOfTheHead : Type 0
+RowsAreOfTheHead =
+    (one other : Call) (bodies otherBodies : List (List ℕ)) → GradedAlike one other bodies otherBodies → SameRows one other
 
 -- demand 2: columns of equal vector fields are equal, wherever in the two files they stand
 abbrev pub ColumnIsOfItsField : Type 0
@@ -180,19 +156,3 @@ pub record NandRefined : Type 0 where
   pub graded : GradedAlike one finer (bytesOf "0X" ∷ []) (bytesOf "01" ∷ bytesOf "11" ∷ [])
   pub more : FinerBodies (bytesOf "0X" ∷ []) (bytesOf "01" ∷ bytesOf "11" ∷ [])
   pub mark : cellAt (one .matrix-after) 1 0 ≡ 1
-
--- ---- why the head is whole fields
-
--- the same with any bytes for a head
-pub record AlikeAfterBytes (one other : List ℕ) (bodies otherBodies : List (List ℕ)) : Type 0 where
-  pub head : List ℕ
-  pub one-is : one ≡ head ++ vectorFieldsOf bodies
-  pub other-is : other ≡ head ++ vectorFieldsOf otherBodies
-
-abbrev pub AnyHeadReadsAlike : Type 0
-AnyHeadReadsAlike =
-    (one other : List ℕ) (bodies otherBodies : List (List ℕ)) → AlikeAfterBytes one other bodies otherBodies
-    → (c d : Circuit) → Accepts one c → Accepts other d → AlikeButVectors c d
-
-abbrev pub NotAnyHead : Type 0
-NotAnyHead = AnyHeadReadsAlike → ⊥

@@ -2,7 +2,7 @@
 --   Files                   small circuit files, put together field by field
 --   Report                  the whole report of a grading, as bytes
 --   Claims, Known           the table of known results, and what its lines claim
---   AlikeFiles              demand 3 and the column clause of two files, byte by byte
+--   AlikeFiles, SplitFiles  demand 3 and the column clause of two files, byte by byte; why files are split as they are there
 --   NoConverse              demand 3 has no converse
 --   Determined              the demands leave one outcome only, which is the promise's
 --   Unique                  promises of public functions that leave one outcome only
@@ -16,6 +16,7 @@ pub mod Report
 pub mod Claims
 pub mod KnownResults
 pub mod AlikeFiles
+pub mod SplitFiles
 pub mod NoConverse
 pub mod Determined
 pub mod Graders

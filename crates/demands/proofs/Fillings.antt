@@ -1,4 +1,4 @@
--- An accepted file is accepted with its X's filled, so that it is graded in buffers that are no smaller, and every mark stands.
+-- An accepted file is accepted with its X's filled or its vectors refined, so that it is graded in buffers that are no smaller.
 use Prim.Native.Nat.{ℕ, zero, suc, _+_, _≤_, _<_}
 use mathlib.Core.Path.{_≡_, refl, sym, ap, _∙_}
 use mathlib.Core.Bool.{Bool, true, false, cond}
@@ -20,8 +20,8 @@ use Rattle.circuit.specs.Reading.{Reading, accepted, refusal, readFrom, reading
 use Rattle.circuit.proofs.CircuitLaws.{accepted-is-good}
 use Rattle.circuit.proofs.Tested.{holds, and-T}
 use Rattle.circuit.proofs.Verdicts.{first-passes}
-use Rattle.demands.specs.Calls.{Accepts}
-use Rattle.demands.specs.AlikeFiles.{TagAndBody, fieldsOf, vectorFieldsOf, Split, KeepsLetters, FinerBodies, FilledByte, FilledBody, FilledBodies, GradedAlike, FillingsAreGraded}
+use Rattle.demands.specs.Calls.{Call, Accepts}
+use Rattle.demands.specs.AlikeFiles.{TagAndBody, fieldsOf, vectorFieldsOf, Split, KeepsLetters, FinerBodies, FilledByte, FilledBody, FilledBodies, GradedAlike, GradedToo, CalledAlike, FillingsAreGraded, RefinementsAreGraded}
 use Rattle.demands.specs.SplitFiles.{FillingsAreAccepted}
 use Rattle.demands.proofs.Gave.{gave}
 use Rattle.demands.proofs.OneProof.{one-holds}
@@ -154,15 +154,37 @@ pub fillings-are-accepted : FillingsAreAccepted
 fillings-are-accepted one other bodies filled files f c accepts =
     accepts-fillings one (files .head) bodies (files .one-split) c accepts other filled (files .other-split) f
 
-pub fillings-are-graded : FillingsAreGraded
-fillings-are-graded one other bodies filled g kept files f words entries =
-    let here = graded-as one g in
+-- ---- two calls
+
+-- a call whose file is accepted if the first's is has graded it
+graded-too : (one other : Call) (bodies finer : List (List ℕ)) → CalledAlike one other bodies finer → FinerBodies bodies finer
+    → ((c : Circuit) → Accepts (one .file) c → (d : Circuit) × Accepts (other .file) d) → GradedToo one other bodies
+graded-too one other bodies finer calls more accepts-too =
+    let here = graded-as one (calls .first) in
     let c = here .0 in
-    let accepted-too = fillings-are-accepted (one .file) (other .file) bodies filled files f c (here .1 .accepts) in
-    let d = accepted-too .0 in
-    let read = alike-files-read-alike (one .file) (other .file) bodies filled files c d (here .1 .accepts) (accepted-too .1) in
+    let too = accepts-too c (here .1 .accepts) in
+    let d = too .0 in
+    let read = alike-files-read-alike (one .file) (other .file) bodies finer (calls .files) c d (here .1 .accepts) (too .1) in
     let rows = ap length (same-rows c d (read .alike)) in
     let room = gave one c (here .1) in
-    let graded = one-holds other kept .accepted-is-graded d (accepted-too .1) (omega (arith, room .words)) (omega (arith, room .entries)) in
-    let both-graded : GradedAlike one other bodies filled = record { first = g; second = record { kept = kept; graded = graded }; files = files } in
-    record { graded = graded; three = three-holds-of-files one other bodies filled both-graded (filled-is-finer bodies filled f) }
+    let graded = one-holds other (calls .second) .accepted-is-graded d (too .1)
+    (omega (arith, room .words, calls .words)) (omega (arith, room .entries, calls .entries)) in
+    let both-graded : GradedAlike one other bodies finer =
+    record { first = calls .first; second = record { kept = calls .second; graded = graded }; files = calls .files } in
+    record { graded = graded; three = three-holds-of-files one other bodies finer both-graded more }
+
+pub fillings-are-graded : FillingsAreGraded
+fillings-are-graded one other bodies filled calls f =
+    graded-too one other bodies filled calls (filled-is-finer bodies filled f)
+    (fillings-are-accepted (one .file) (other .file) bodies filled (calls .files) f)
+
+pub refinements-are-graded : RefinementsAreGraded
+refinements-are-graded one other bodies finer calls more good short =
+    graded-too one other bodies finer calls more (λ c accepts.
+    let split = calls .files .one-split in
+    let head = calls .files .head in
+    let vectors = accepted-is-good (one .file) c accepts .some-vector in
+    let some : 0 < length bodies = omega (arith, as-many (one .file) head bodies split c accepts) in
+    let long = as-long (one .file) head bodies split c accepts 0 some in
+    accepts-others (one .file) head bodies split c accepts (other .file) finer (calls .files .other-split)
+    (record { some = good .some; few = good .few; long = λ v h. good .long v h ∙ long; letters = good .letters }) short)

@@ -20,8 +20,8 @@ use Rattle.circuit.proofs.CircuitLaws.{accepted-is-good}
 use Rattle.circuit.proofs.Tested.{length-snoc}
 use Rattle.circuit.proofs.Verdicts.{first-passes}
 use Rattle.demands.specs.Calls.{Accepts}
-use Rattle.demands.specs.AlikeFiles.{TagAndBody, Split}
-use Rattle.demands.specs.SplitFiles.{GoodBodies, OtherVectorsAreAccepted}
+use Rattle.demands.specs.AlikeFiles.{TagAndBody, Split, GoodBodies}
+use Rattle.demands.specs.SplitFiles.{OtherVectorsAreAccepted}
 use Rattle.demands.proofs.WholeFields.{fieldAt, cutOf, cut-whole, after-verdict, read-whole, read-from-start}
 use Rattle.demands.proofs.AlikeFilesProof.{vectorField, whole-file, vectors-add, split-tells}
 use Rattle.demands.proofs.FileSplits.{passed-verdict}

@@ -9,8 +9,10 @@ use lib.Dec.{T, eqb}
 use lib.ListN.{length, getD}
 use Rattle.text.specs.Ascii.{bytesOf}
 use Rattle.switch.specs.Modules.{allOf}
+use Rattle.circuit.specs.Limits.{mostBytes, mostVectors}
 use Rattle.circuit.specs.Circuit.{Circuit, joinLists}
 use Rattle.circuit.specs.Known.{vectorIn}
+use Rattle.circuit.specs.Table.{isLetter}
 use Rattle.grading.specs.Promise.{countsOf}
 use Rattle.demands.specs.Calls.{Call, Kept, Accepts, isGraded, cellAt, classAt}
 use Rattle.demands.specs.Two.{AlikeButVectors}
@@ -67,6 +69,13 @@ pub record FilledBody (body filled : List ℕ) : Type 0 where
 pub record FilledBodies (bodies filled : List (List ℕ)) : Type 0 where
   pub as-many : length filled ≡ length bodies
   pub each : (v : ℕ) → v < length bodies → FilledBody (getD bodies v []) (getD filled v [])
+
+-- vectors of P primary inputs: one at least and 256 at most, each P bytes of 0, 1 or X
+pub record GoodBodies (P : ℕ) (bodies : List (List ℕ)) : Type 0 where
+  pub some : 1 ≤ length bodies
+  pub few : length bodies ≤ mostVectors
+  pub long : (v : ℕ) → v < length bodies → length (getD bodies v []) ≡ P
+  pub letters : (v : ℕ) → v < length bodies → T (allOf isLetter (getD bodies v []))
 
 -- ---- how they are read
 
@@ -133,17 +142,31 @@ MarksHoldInEveryFilledFile =
     → (v w : ℕ) → v < length bodies → w < length otherBodies → KeepsLetters (getD bodies v []) (getD otherBodies w [])
     → (r : ℕ) → r < countsOf (one .answer) .faults → cellAt (one .matrix-after) r v ≡ 1 → cellAt (other .matrix-after) r w ≡ 1
 
--- and of a second file nothing need be known but that it is the first with X's filled: in buffers that are no smaller it is graded too
+-- ---- the same where nothing is known of the second call but its file: in buffers that are no smaller it has graded that too
+
 pub record GradedToo (one other : Call) (bodies : List (List ℕ)) : Type 0 where
   pub graded : T (isGraded (other .answer))
   pub three : ThreeOfFiles one other bodies
 
+-- two calls with such files, the first of which graded its own
+pub record CalledAlike (one other : Call) (bodies otherBodies : List (List ℕ)) : Type 0 where
+  pub first : GradedItsFile one
+  pub second : Kept other
+  pub files : AlikeFiles (one .file) (other .file) bodies otherBodies
+  pub words : length (one .matrix) ≤ length (other .matrix)
+  pub entries : length (one .classes) ≤ length (other .classes)
+
+-- fill X's, in whichever way
 abbrev pub FillingsAreGraded : Type 0
 FillingsAreGraded =
-    (one other : Call) (bodies filled : List (List ℕ)) → GradedItsFile one → Kept other
-    → AlikeFiles (one .file) (other .file) bodies filled → FilledBodies bodies filled
-    → length (one .matrix) ≤ length (other .matrix) → length (one .classes) ≤ length (other .classes)
+    (one other : Call) (bodies filled : List (List ℕ)) → CalledAlike one other bodies filled → FilledBodies bodies filled
     → GradedToo one other bodies
+
+-- fill X's and add vectors at the end, as long as the first file's, within the limits
+abbrev pub RefinementsAreGraded : Type 0
+RefinementsAreGraded =
+    (one other : Call) (bodies finer : List (List ℕ)) → CalledAlike one other bodies finer → FinerBodies bodies finer
+    → GoodBodies (length (getD bodies 0 [])) finer → length (other .file) ≤ mostBytes → GradedToo one other bodies
 
 -- ---- an example
 

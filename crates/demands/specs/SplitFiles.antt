@@ -2,16 +2,13 @@
 -- is accepted too; and with a head that ends inside a field files would pass for alike that are not.
 use Prim.Native.Nat.{ℕ, _≤_, _<_}
 use mathlib.Core.Path.{_≡_}
-use mathlib.Core.List.{List, [], _++_}
-use lib.Dec.{T}
+use mathlib.Core.List.{List, _++_}
 use lib.ListN.{length, getD}
-use Rattle.switch.specs.Modules.{allOf}
-use Rattle.circuit.specs.Limits.{mostBytes, mostVectors}
+use Rattle.circuit.specs.Limits.{mostBytes}
 use Rattle.circuit.specs.Circuit.{Circuit}
-use Rattle.circuit.specs.Table.{isLetter}
 use Rattle.demands.specs.Calls.{Accepts}
 use Rattle.demands.specs.Two.{AlikeButVectors}
-use Rattle.demands.specs.AlikeFiles.{TagAndBody, vectorFieldsOf, Split, AlikeFiles, FilledBodies}
+use Rattle.demands.specs.AlikeFiles.{TagAndBody, vectorFieldsOf, Split, AlikeFiles, FilledBodies, GoodBodies}
 
 -- ---- one split
 
@@ -26,13 +23,6 @@ SplitOnce =
     → (head ≡ head′) × (bodies ≡ bodies′)
 
 -- ---- other vectors
-
--- vectors of P primary inputs: one at least and 256 at most, each P bytes of 0, 1 or X
-pub record GoodBodies (P : ℕ) (bodies : List (List ℕ)) : Type 0 where
-  pub some : 1 ≤ length bodies
-  pub few : length bodies ≤ mostVectors
-  pub long : (v : ℕ) → v < length bodies → length (getD bodies v []) ≡ P
-  pub letters : (v : ℕ) → v < length bodies → T (allOf isLetter (getD bodies v []))
 
 abbrev pub OtherVectorsAreAccepted : Type 0
 OtherVectorsAreAccepted =

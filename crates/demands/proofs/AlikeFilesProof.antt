@@ -1,4 +1,5 @@
--- Files alike but for their vector fields are read as circuits alike but for their vectors; so what holds of such circuits holds of such files.
+-- Files alike but for their vector fields are read as circuits alike but for their vectors;
+-- so what holds of such circuits holds of such files.
 use Prim.Native.Nat.{ℕ, _<_}
 use mathlib.Core.Path.{_≡_, refl, sym, ap, _∙_}
 use mathlib.Core.Bool.{Bool, true, false, cond, not}

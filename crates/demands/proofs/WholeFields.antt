@@ -1,4 +1,5 @@
--- A file put together from whole fields is cut into them again. An accepted one tells the circuit that its fields add up to, one after the other.
+-- A file put together from whole fields is cut into them again.
+-- An accepted one tells the circuit that its fields add up to, one after the other.
 use Prim.Native.Nat.{ℕ, _+_, _≤_}
 use mathlib.Core.Path.{_≡_, refl, sym, ap, ap₂, _∙_}
 use mathlib.Core.Bool.{Bool, true, false, cond}
@@ -101,7 +102,7 @@ read-whole size known at (f ∷ fs) c e =
     read-whole size (knownAfter known (fieldAt at f)) (at + 3 + length (f .body)) fs c
     (after-verdict (firstOf (fieldTests known (fieldAt at f))) _ c e)
 
--- an accepted file is not too long
+-- number 1 lets an accepted file through
 pub read-from-start : (file : List ℕ) (c : Circuit) → readingOf file ≡ accepted c → readFrom (length file) start (cutFrom file 0) ≡ accepted c
 unfolding readingOf
 read-from-start file c e = go (ltb mostBytes (length file)) _ e

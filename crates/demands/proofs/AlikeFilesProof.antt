@@ -19,9 +19,8 @@ use Rattle.grading.specs.Rows.{Row, rowsOf, CellMarked}
 use Rattle.grading.specs.Classes.{largest, classesOf, classCount}
 use Rattle.grading.specs.Grading as grading
 use Rattle.grading.specs.Promise.{countsOf}
-use Rattle.grading.proofs.RowLaws.{noRow}
 use Rattle.demands.specs.Calls.{Call, Accepts, GradedAs, cellAt}
-use Rattle.demands.specs.Two.{vectorOf, rowAt}
+use Rattle.demands.specs.Two.{vectorOf, rowAt, MatrixCell}
 use Rattle.demands.specs.Three.{given, Refined}
 use Rattle.demands.specs.Files.{fieldBytes}
 use Rattle.demands.specs.AlikeFiles.{TagAndBody, fieldsOf, notVector, vectorFieldsOf, Split, KeepsLetters, FinerBodies, ReadAlike, AlikeFilesReadAlike, FinerFilesReadRefined, GradedItsFile, GradedAlike, SameRows, RowsAreOfTheHead, ColumnIsOfItsField, ThreeOfFiles, ThreeHoldsOfFiles, MarksHoldInEveryFilledFile}
@@ -193,10 +192,17 @@ module _ (one other : Call) (bodies otherBodies : List (List ℕ)) (graded : Gra
   is-other-vector : (w : ℕ) → w < length otherBodies → w < length (d .vectors)
   is-other-vector w h = rw (read .other-vectors) (omega (arith, length-map otherBodies vectorIn))
 
+  abbrev cellOf : (r v : ℕ) → r < countsOf (one .answer) .faults → v < length bodies → MatrixCell c
+  cellOf r v h k = record { row = r; vector = v; is-row = is-row r h; is-vector = is-vector v k }
+
+  abbrev otherCell : (r w : ℕ) → r < countsOf (one .answer) .faults → w < length otherBodies → MatrixCell d
+  otherCell r w h k =
+      record { row = r; vector = w; is-row = rw (same-rows c d (read .alike)) at (is-row r h); is-vector = is-other-vector w k }
+
   -- what is marked in the first circuit under a vector is marked in the second
-  marked-alike : (vector : List Value) (r : ℕ) → CellMarked c vector (rowAt c noRow r) → CellMarked d vector (rowAt d noRow r)
+  marked-alike : (vector : List Value) (r : ℕ) → CellMarked c vector (rowAt c r) → CellMarked d vector (rowAt d r)
   marked-alike vector r m =
-      let row = rowAt c noRow r in
+      let row = rowAt c r in
       let t = (rw (same-cell c d (read .alike) vector row) at (cell-decides c vector row .0 m)) in
       rw (← same-rows c d (read .alike)) (cell-decides d vector row .1 t)
 
@@ -206,14 +212,14 @@ module _ (one other : Call) (bodies otherBodies : List (List ℕ)) (graded : Gra
   column v w h k same r l =
       let vector = List·getD-map vectorIn bodies v [] in
       let other-vector = List·getD-map vectorIn otherBodies w [] in
-      column-is-of-its-vector one other c d as-c as-d (read .alike) v w (is-vector v h) (is-other-vector w k)
-      (rw (read .vectors, read .other-vectors) (vector ∙ ap vectorIn same ∙ sym other-vector)) r (is-row r l)
+      column-is-of-its-vector one other c d as-c as-d (read .alike) (cellOf r v l h) (otherCell r w l k) refl
+      (rw (read .vectors, read .other-vectors) (vector ∙ ap vectorIn same ∙ sym other-vector))
 
   three : FinerBodies bodies otherBodies → ThreeOfFiles one other bodies
   three more =
       let refined = finer-files-read-refined (one .file) (other .file) bodies otherBodies (graded .files) more c d (as-c .accepts) (as-d .accepts) in
       let stands = three-holds one other c d as-c as-d (read .alike) refined in
-      record { marks = λ r v h k mark. stands .marks r v (is-row r h) (is-vector v k) mark; found = stands .found }
+      record { marks = λ r v h k. stands .marks (cellOf r v h k); found = stands .found }
 
   filled : (v w : ℕ) → v < length bodies → w < length otherBodies → KeepsLetters (getD bodies v []) (getD otherBodies w [])
       → (r : ℕ) → r < countsOf (one .answer) .faults → cellAt (one .matrix-after) r v ≡ 1 → cellAt (other .matrix-after) r w ≡ 1
@@ -222,9 +228,8 @@ module _ (one other : Call) (bodies otherBodies : List (List ℕ)) (graded : Gra
       let refines : (i : ℕ) → (getD (vectorOf c v) i atX ≡ atX) ⊎ (getD (vectorOf d w) i atX ≡ getD (vectorOf c v) i atX) =
       rw (read .vectors, read .other-vectors) (letters-refine bodies otherBodies v w keeps) in
       let long = gave other d as-d .good .vectors w [] (is-other-vector w k) ∙ sym (read .alike .inputs) in
-      let marked = marks-hold-under-every-filling one c as-c noRow r v (is-row r l) (is-vector v h) mark (vectorOf d w) long refines in
-      cell-marked other d as-d noRow r w (rw (same-rows c d (read .alike)) at (is-row r l)) (is-other-vector w k) .1
-      (marked-alike (vectorOf d w) r marked)
+      let marked = marks-hold-under-every-filling one c as-c (cellOf r v l h) mark (vectorOf d w) long refines in
+      cell-marked other d as-d (otherCell r w l k) .1 (marked-alike (vectorOf d w) r marked)
 
   rows : SameRows one other
   unfolding classCount

@@ -3,10 +3,8 @@
 --   demand 1      Verdicts, GradingVerdicts, OneProof, Outcomes, RightProof
 --   demand 2      SettledValues, Cells, Floating, Columns, RowFaults, OneClass, FoundClasses, ClassCounts, ClassesCarried, NamedAgain
 --   demand 3      Refining, RefinedMarks, NoConverseProof
---   one outcome   CellsAgree, ClassesAgree, Determines, of the demands; StepsOnce, UniqueProof, of the promises
---   demand 3      Refining, NoConverseProof
 --   of two files  WholeFields, AlikeFilesProof, FileSplits, OtherVectors, Fillings, AlikeFilesExamples
---   one outcome   StepsOnce, UniqueProof
+--   one outcome   CellsAgree, ClassesAgree, Determines, of the demands; StepsOnce, UniqueProof, of the promises
 --   by computing  KnownProof, WrongProof, BreaksProof; MeetsProof, what the demands do not break
 pub mod Gave
 pub mod Verdicts

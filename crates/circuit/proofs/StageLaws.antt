@@ -16,7 +16,7 @@ use Rattle.circuit.specs.Known.{Known, start, Tag, inputs-tag, type-tag,
 use Rattle.circuit.specs.Table.{Test, Verdict, passes, refusedAt, firstOf, misplaced, isEdge, unjudged, notComplementary, isEmpty, isUnknown, inputsTests, typeTests, edgeTests, bridgeTests, instanceTests, vectorTests, bodyTests, fieldTests, endTests}
 use Rattle.circuit.specs.Reading.{Reading, accepted, unless, readFrom, readingOf}
 use Rattle.circuit.specs.Records.{emptyCircuit}
-use Rattle.circuit.specs.Stages.{Stage, stopped, ifPasses, section, failingBefore, failingVerdict, judged, typeStage, readTo, endedVerdict, pastVerdict, endingVerdict, afterStage, afterInputs, fromStart, staged}
+use Rattle.circuit.specs.Stages.{Stage, stopped, ifPasses, section, failingBefore, failingVerdict, judged, typeStage, readTo, endedVerdict, pastVerdict, endingVerdict, afterStage, afterInputs, fromStart, staged, fieldPlace, typesBefore}
 use Rattle.circuit.specs.Laws.{StagedIsReading}
 
 -- ---- tags by number
@@ -75,11 +75,11 @@ read-own : (size : ℕ) (known : Known) (f : Field) (rest : Cut) (n : ℕ) → f
 unfolding readFrom fieldTests firstOf knownAfter typeAtAfter
 read-own size known f rest n own a b c = rw (own, a, b, c)
 
-unless-stage : {A : Type 0} (v : Verdict) (r : Reading) (s : Stage A) (next : A → Cut → Reading)
-    → r ≡ afterStage s next → unless v r ≡ afterStage (ifPasses v s) next
+unless-stage : {A : Type 0} (v : Verdict) (r : Reading) (a : A) (cut : Cut) (s : Stage A) (next : A → Cut → Reading)
+    → r ≡ afterStage s next → unless v r ≡ afterStage (ifPasses v a cut s) next
 unfolding unless ifPasses afterStage
-unless-stage passes r s next e = e
-unless-stage (refusedAt n p) r s next e = refl
+unless-stage passes r a cut s next e = e
+unless-stage (refusedAt n p) r a cut s next e = refl
 
 judged-quiet : (previous : ℕ) (tag : Tag) (types : List ModuleType) → (unjudged previous ≡ true → notComplementary types ≡ false) → quiet previous tag types
 judged-quiet previous tag types = go (unjudged previous) (isEdge tag) (notComplementary types)
@@ -153,7 +153,7 @@ module _ (size n : ℕ) {A : Type 0} (types : List ModuleType)
 
   section-reads : (a : A) (previous typeAt : ℕ) (cut : Cut) → Ready n previous types cut
       → readFrom size (knowing previous typeAt (circuit a)) cut ≡ afterStage (section n tests add a cut) next
-  unfolding section afterStage
+  unfolding section afterStage unless
   section-reads a previous typeAt clean r = goes-on a previous typeAt clean (ready-end previous clean refl r)
   section-reads a previous typeAt (broken at) r = goes-on a previous typeAt (broken at) (ready-end previous (broken at) refl r)
   section-reads a previous typeAt (field f rest) r =
@@ -166,12 +166,12 @@ module _ (size n : ℕ) {A : Type 0} (types : List ModuleType)
           → readFrom size (knowing n (cond (eqb n 2) (f .at) typeAt) (circuit (add a (f .body)))) rest
           ≡ afterStage (section n tests add (add a (f .body)) rest) next
           → readFrom size known (field f rest)
-          ≡ afterStage (cond b (ifPasses (firstOf (tests a (f .at) (f .body))) (section n tests add (add a (f .body)) rest)) (stopped a (field f rest))) next
+          ≡ afterStage (cond b (ifPasses (firstOf (tests a (f .at) (f .body))) a (field f rest) (section n tests add (add a (f .body)) rest)) (stopped a (field f rest))) next
       go true e more =
           read-own size known f rest n (eqb-true (f .tag) n e) (s .known-tag) (s .in-place previous (r .low) (r .high))
           (judged-quiet previous (tagOf n) (circuit a .types) (rw (s .same-types a) (r .judged)))
           ∙ rw (s .tested a (f .at) (f .body), s .added a (f .body))
-          (unless-stage (firstOf (tests a (f .at) (f .body))) _ (section n tests add (add a (f .body)) rest) next more)
+          (unless-stage (firstOf (tests a (f .at) (f .body))) _ a (field f rest) (section n tests add (add a (f .body)) rest) next more)
       go false e more = goes-on a previous typeAt (field f rest) (at-stop previous f rest e r)
 
 -- ---- the three stages of one tag
@@ -357,28 +357,28 @@ module _ (size P : ℕ) (types : List ModuleType) (previous typeAt : ℕ) where
   read-type f rest own low high j =
       read-own size (knowing previous typeAt (withTypes P types)) f rest 2 own refl (in-order 3 previous low high) (judged-quiet previous (tagOf 2) types j)
 
-  module _ {A : Type 0} (later : Stage A) (next : A → Cut → Reading) (u : unjudged previous ≡ true) (fl : notComplementary types ≡ true) where
-    failing-at-end : readFrom size (knowing previous typeAt (withTypes P types)) clean ≡ afterStage (ifPasses (failingVerdict typeAt clean) later) next
+  module _ {A : Type 0} (a : A) (from : Cut) (later : Stage A) (next : A → Cut → Reading) (u : unjudged previous ≡ true) (fl : notComplementary types ≡ true) where
+    failing-at-end : readFrom size (knowing previous typeAt (withTypes P types)) clean ≡ afterStage (ifPasses (failingVerdict typeAt clean) a from later) next
     unfolding readFrom endTests firstOf unless failingVerdict ifPasses afterStage
     failing-at-end = rw (u, fl)
 
     failing-at-broken : (at : ℕ)
-        → readFrom size (knowing previous typeAt (withTypes P types)) (broken at) ≡ afterStage (ifPasses (failingVerdict typeAt (broken at)) later) next
-    unfolding readFrom failingVerdict ifPasses afterStage
+        → readFrom size (knowing previous typeAt (withTypes P types)) (broken at) ≡ afterStage (ifPasses (failingVerdict typeAt (broken at)) a from later) next
+    unfolding readFrom failingVerdict unless ifPasses afterStage
     failing-at-broken at = refl
 
     failing-at-field : (f : Field) (rest : Cut) → 2 ≤ previous → previous ≤ 3 → eqb (f .tag) 3 ≡ false
         → readFrom size (knowing previous typeAt (withTypes P types)) (field f rest)
-        ≡ afterStage (ifPasses (failingVerdict typeAt (field f rest)) later) next
+        ≡ afterStage (ifPasses (failingVerdict typeAt (field f rest)) a from later) next
     unfolding readFrom failingVerdict failingBefore unless ifPasses afterStage
     failing-at-field f rest low high other =
         rw (failing-field previous typeAt (withTypes P types) f low high u fl other)
         (go (isUnknown (tagOf (f .tag))) (eqb (f .tag) 1) _)
       where
-        go : (a b : Bool) (more : Reading)
-            → unless (cond a (refusedAt 3 (f .at)) (cond b (refusedAt 4 (f .at)) (refusedAt 9 typeAt))) more
-            ≡ afterStage (ifPasses (cond a (refusedAt 3 (f .at)) (cond b (refusedAt 4 (f .at)) (refusedAt 9 typeAt))) later) next
-        go true b more = refl
+        go : (u l : Bool) (more : Reading)
+            → unless (cond u (refusedAt 3 (f .at)) (cond l (refusedAt 4 (f .at)) (refusedAt 9 typeAt))) more
+            ≡ afterStage (ifPasses (cond u (refusedAt 3 (f .at)) (cond l (refusedAt 4 (f .at)) (refusedAt 9 typeAt))) a from later) next
+        go true l more = refl
         go false true more = refl
         go false false more = refl
 
@@ -387,17 +387,17 @@ module _ (size P : ℕ) where
       (goes-on : (types : List ModuleType) (previous typeAt : ℕ) (cut : Cut) → Ready 4 previous types cut
       → readFrom size (knowing previous typeAt (withTypes P types)) cut ≡ next types cut) where
     -- the latest type is judged: where it is not complementary, so that this is what is read, and else
-    judge : (types : List ModuleType) (previous typeAt : ℕ) (cut : Cut) (later : Stage (List ModuleType)) → Before types previous
+    judge : (types : List ModuleType) (previous : ℕ) (from cut : Cut) (later : Stage (List ModuleType)) → Before types previous
         → (isEmpty types ≡ false → notComplementary types ≡ true
-        → readFrom size (knowing previous typeAt (withTypes P types)) cut ≡ afterStage (ifPasses (failingVerdict typeAt cut) later) next)
-        → ((unjudged previous ≡ true → notComplementary types ≡ false) → readFrom size (knowing previous typeAt (withTypes P types)) cut ≡ afterStage later next)
-        → readFrom size (knowing previous typeAt (withTypes P types)) cut ≡ afterStage (ifPasses (judged types typeAt cut) later) next
+        → readFrom size (knowing previous (fieldPlace from) (withTypes P types)) cut ≡ afterStage (ifPasses (failingVerdict (fieldPlace from) cut) (typesBefore types) from later) next)
+        → ((unjudged previous ≡ true → notComplementary types ≡ false) → readFrom size (knowing previous (fieldPlace from) (withTypes P types)) cut ≡ afterStage later next)
+        → readFrom size (knowing previous (fieldPlace from) (withTypes P types)) cut ≡ afterStage (ifPasses (judged types (fieldPlace from) cut) (typesBefore types) from later) next
     unfolding judged ifPasses unjudged between
-    judge types previous typeAt cut later b failing fine = go (isEmpty types) (notComplementary types) refl refl
+    judge types previous from cut later b failing fine = go (isEmpty types) (notComplementary types) refl refl
       where
         go : (em fl : Bool) → isEmpty types ≡ em → notComplementary types ≡ fl
-            → readFrom size (knowing previous typeAt (withTypes P types)) cut
-            ≡ afterStage (ifPasses (cond em passes (cond fl (failingVerdict typeAt cut) passes)) later) next
+            → readFrom size (knowing previous (fieldPlace from) (withTypes P types)) cut
+            ≡ afterStage (ifPasses (cond em passes (cond fl (failingVerdict (fieldPlace from) cut) passes)) (typesBefore types) from later) next
         go true fl e f = fine (λ u. let z : false ≡ true = (rw (b .none e) at u) in cc)
         go false true e f = failing e f
         go false false e f = fine (λ u. f)
@@ -406,61 +406,61 @@ module _ (size P : ℕ) where
         → (rank (nextTag cut) < 4 → misplaced previous (nextTag cut) ≡ true) → Ready 4 previous types cut
     ready types previous cut b j behind = let h = b .high in record { low = b .low; high = omega arith; judged = j; behind = behind }
 
-    types-read : (types : List ModuleType) (previous typeAt : ℕ) (cut : Cut) → Before types previous
-        → readFrom size (knowing previous typeAt (withTypes P types)) cut ≡ afterStage (typeStage types typeAt cut) next
-    unfolding typeStage afterStage edgeAdded
-    types-read types previous typeAt clean b =
-        judge types previous typeAt clean (stopped types clean) b
-        (λ em fl. failing-at-end size P types previous typeAt (stopped types clean) next (b .some em) fl)
-        (λ j. goes-on types previous typeAt clean (ready types previous clean b j (λ h. absurd (omega arith))))
-    types-read types previous typeAt (broken at) b =
-        judge types previous typeAt (broken at) (stopped types (broken at)) b
-        (λ em fl. failing-at-broken size P types previous typeAt (stopped types (broken at)) next (b .some em) fl at)
-        (λ j. goes-on types previous typeAt (broken at) (ready types previous (broken at) b j (λ h. absurd (omega arith))))
-    types-read types previous typeAt (field f rest) b =
+    types-read : (types : List ModuleType) (previous : ℕ) (from cut : Cut) → Before types previous
+        → readFrom size (knowing previous (fieldPlace from) (withTypes P types)) cut ≡ afterStage (typeStage types from cut) next
+    unfolding typeStage afterStage edgeAdded unless fieldPlace
+    types-read types previous from clean b =
+        judge types previous from clean (stopped types clean) b
+        (λ em fl. failing-at-end size P types previous (fieldPlace from) (typesBefore types) from (stopped types clean) next (b .some em) fl)
+        (λ j. goes-on types previous (fieldPlace from) clean (ready types previous clean b j (λ h. absurd (omega arith))))
+    types-read types previous from (broken at) b =
+        judge types previous from (broken at) (stopped types (broken at)) b
+        (λ em fl. failing-at-broken size P types previous (fieldPlace from) (typesBefore types) from (stopped types (broken at)) next (b .some em) fl at)
+        (λ j. goes-on types previous (fieldPlace from) (broken at) (ready types previous (broken at) b j (λ h. absurd (omega arith))))
+    types-read types previous from (field f rest) b =
         go (eqb (f .tag) 3 && not (isEmpty types)) refl
-        (λ c. types-read (edgeAdded types (edgeIn (f .body))) 3 typeAt rest c)
-        (λ c. types-read (types ++ (typeIn (f .body) ∷ [])) 2 (f .at) rest c)
+        (λ c. types-read (edgeAdded types (edgeIn (f .body))) 3 from rest c)
+        (λ c. types-read (types ++ (typeIn (f .body) ∷ [])) 2 (field f rest) rest c)
       where
         edge : Stage (List ModuleType)
-        edge = ifPasses (firstOf (edgeTests (latest types) (f .at) (f .body))) (typeStage (edgeAdded types (edgeIn (f .body))) typeAt rest)
+        edge = ifPasses (firstOf (edgeTests (latest types) (f .at) (f .body))) (typesBefore types) from (typeStage (edgeAdded types (edgeIn (f .body))) from rest)
 
         type : Stage (List ModuleType)
-        type = ifPasses (firstOf (typeTests (length types) (f .at) (f .body))) (typeStage (types ++ (typeIn (f .body) ∷ [])) (f .at) rest)
+        type = ifPasses (firstOf (typeTests (length types) (f .at) (f .body))) types (field f rest) (typeStage (types ++ (typeIn (f .body) ∷ [])) (field f rest) rest)
 
         go : (own : Bool) → (eqb (f .tag) 3 && not (isEmpty types)) ≡ own
-            → (Before (edgeAdded types (edgeIn (f .body))) 3 → readFrom size (knowing 3 typeAt (withTypes P (edgeAdded types (edgeIn (f .body))))) rest
-            ≡ afterStage (typeStage (edgeAdded types (edgeIn (f .body))) typeAt rest) next)
+            → (Before (edgeAdded types (edgeIn (f .body))) 3 → readFrom size (knowing 3 (fieldPlace from) (withTypes P (edgeAdded types (edgeIn (f .body))))) rest
+            ≡ afterStage (typeStage (edgeAdded types (edgeIn (f .body))) from rest) next)
             → (Before (types ++ (typeIn (f .body) ∷ [])) 2 → readFrom size (knowing 2 (f .at) (withTypes P (types ++ (typeIn (f .body) ∷ [])))) rest
-            ≡ afterStage (typeStage (types ++ (typeIn (f .body) ∷ [])) (f .at) rest) next)
-            → readFrom size (knowing previous typeAt (withTypes P types)) (field f rest)
-            ≡ afterStage (cond own edge (ifPasses (judged types typeAt (field f rest)) (cond (eqb (f .tag) 2) type (stopped types (field f rest))))) next
+            ≡ afterStage (typeStage (types ++ (typeIn (f .body) ∷ [])) (field f rest) rest) next)
+            → readFrom size (knowing previous (fieldPlace from) (withTypes P types)) (field f rest)
+            ≡ afterStage (cond own edge (ifPasses (judged types (fieldPlace from) (field f rest)) (typesBefore types) from (cond (eqb (f .tag) 2) type (stopped types (field f rest))))) next
         go true e more-edge more-type =
             let parts = both-true (eqb (f .tag) 3) (not (isEmpty types)) e in
             let some = not-true (isEmpty types) (parts .1) in
-            read-edge size P types previous typeAt f rest (eqb-true (f .tag) 3 (parts .0)) (b .some some)
-            ∙ unless-stage (firstOf (edgeTests (latest types) (f .at) (f .body))) _ (typeStage (edgeAdded types (edgeIn (f .body))) typeAt rest) next
+            read-edge size P types previous (fieldPlace from) f rest (eqb-true (f .tag) 3 (parts .0)) (b .some some)
+            ∙ unless-stage (firstOf (edgeTests (latest types) (f .at) (f .body))) _ (typesBefore types) from (typeStage (edgeAdded types (edgeIn (f .body))) from rest) next
             (more-edge (after-type (edgeAdded types (edgeIn (f .body))) 3
             (set-some types (length types - 1) (withEdge (latest types) (edgeIn (f .body))) some) (omega arith) (omega arith)))
-        go false e more-edge more-type = judge types previous typeAt (field f rest) (cond (eqb (f .tag) 2) type (stopped types (field f rest))) b failing fine
+        go false e more-edge more-type = judge types previous from (field f rest) (cond (eqb (f .tag) 2) type (stopped types (field f rest))) b failing fine
           where
-            failing : isEmpty types ≡ false → notComplementary types ≡ true → readFrom size (knowing previous typeAt (withTypes P types)) (field f rest)
-                ≡ afterStage (ifPasses (failingVerdict typeAt (field f rest)) (cond (eqb (f .tag) 2) type (stopped types (field f rest)))) next
+            failing : isEmpty types ≡ false → notComplementary types ≡ true → readFrom size (knowing previous (fieldPlace from) (withTypes P types)) (field f rest)
+                ≡ afterStage (ifPasses (failingVerdict (fieldPlace from) (field f rest)) (typesBefore types) from (cond (eqb (f .tag) 2) type (stopped types (field f rest)))) next
             failing em fl =
-                failing-at-field size P types previous typeAt (cond (eqb (f .tag) 2) type (stopped types (field f rest))) next (b .some em) fl f rest
+                failing-at-field size P types previous (fieldPlace from) (typesBefore types) from (cond (eqb (f .tag) 2) type (stopped types (field f rest))) next (b .some em) fl f rest
                 (unjudged-low previous (b .some em)) (b .high) (sym (and-true (eqb (f .tag) 3)) ∙ (rw em at e))
 
             as-type : (two : Bool) → eqb (f .tag) 2 ≡ two → (unjudged previous ≡ true → notComplementary types ≡ false)
-                → readFrom size (knowing previous typeAt (withTypes P types)) (field f rest) ≡ afterStage (cond two type (stopped types (field f rest))) next
+                → readFrom size (knowing previous (fieldPlace from) (withTypes P types)) (field f rest) ≡ afterStage (cond two type (stopped types (field f rest))) next
             as-type true q j =
-                read-type size P types previous typeAt f rest (eqb-true (f .tag) 2 q) (b .low) (b .high) j
-                ∙ unless-stage (firstOf (typeTests (length types) (f .at) (f .body))) _ (typeStage (types ++ (typeIn (f .body) ∷ [])) (f .at) rest) next
+                read-type size P types previous (fieldPlace from) f rest (eqb-true (f .tag) 2 q) (b .low) (b .high) j
+                ∙ unless-stage (firstOf (typeTests (length types) (f .at) (f .body))) _ types (field f rest) (typeStage (types ++ (typeIn (f .body) ∷ [])) (field f rest) rest) next
                 (more-type (after-type (types ++ (typeIn (f .body) ∷ [])) 2 (snoc-some types (typeIn (f .body))) (omega arith) (omega arith)))
             as-type false q j =
-                goes-on types previous typeAt (field f rest) (ready types previous (field f rest) b j (types-past types previous (f .tag) b e q))
+                goes-on types previous (fieldPlace from) (field f rest) (ready types previous (field f rest) b j (types-past types previous (f .tag) b e q))
 
             fine : (unjudged previous ≡ true → notComplementary types ≡ false)
-                → readFrom size (knowing previous typeAt (withTypes P types)) (field f rest)
+                → readFrom size (knowing previous (fieldPlace from) (withTypes P types)) (field f rest)
                 ≡ afterStage (cond (eqb (f .tag) 2) type (stopped types (field f rest))) next
             fine = as-type (eqb (f .tag) 2) refl
 
@@ -468,14 +468,14 @@ module _ (size P : ℕ) where
 
 -- every stage after the inputs field
 after-inputs : (size P : ℕ) (cut : Cut) → readFrom size (knowing 1 0 (withTypes P [])) cut ≡ afterInputs size P cut
-unfolding afterInputs isEmpty unjudged between
+unfolding afterInputs isEmpty unjudged between fieldPlace
 after-inputs size P cut =
     types-read size P _ (λ types p₂ at₂ cut₂ r₂.
     section-reads size 4 types _ _ _ (bridges-stage P types) _ (λ bridges p₃ at₃ cut₃ r₃.
     section-reads size 5 types _ _ _ (instances-stage P types bridges) _ (λ instances p₄ at₄ cut₄ r₄.
     section-reads size 6 types _ _ _ (vectors-stage P types bridges instances) _ (λ vectors p₅ at₅ cut₅ r₅.
     ending-reads size p₅ at₅ (record { inputs = P; types = types; bridges = bridges; instances = instances; vectors = vectors }) cut₅ r₅)
-    [] p₄ at₄ cut₄ r₄) [] p₃ at₃ cut₃ r₃) [] p₂ at₂ cut₂ r₂) [] 1 0 cut
+    [] p₄ at₄ cut₄ r₄) [] p₃ at₃ cut₃ r₃) [] p₂ at₂ cut₂ r₂) [] 1 clean cut
     (record { low = omega arith; high = omega arith; none = λ e. refl; some = λ e. cc })
 
 -- a first field that is not the inputs field is out of place

@@ -48,7 +48,7 @@ row-lines-requires c κs =
       (
         omega (arith, pre .1 .0, c .before .before .before .before .before .out2 .given),
         (
-          graded-given _ _ _ _ _ _ _ _ (told .answer .given .1) (read .ensures) (graded .grade-read .ensures _ (read .ensures)),
+          graded-given _ _ _ _ _ _ _ _ (told .answer .given .1) (read .ensures .tells) (graded .grade-read .ensures _ (read .ensures .tells)),
           (omega (arith, pre .1 .1 .0, c .before .before .before .before .before .before .before .before .before .before .before .before .before .before .matrix .given), omega (arith, pre .1 .1 .1, c .before .before .before .before .before .before .before .before .before .before .before .before .classes .given)),
         ),
       ),

@@ -10,6 +10,11 @@ use Rattle.circuit.specs.declared.Reading.{Reading}
 use Rattle.circuit.specs.declared.Reference.{Reference}
 use Rattle.circuit.specs.declared.refusal.Refusal.{Refusal}
 use Rattle.circuit.proofs.AnswerLaws.{verdict-tells, answers-unique}
+use Rattle.modules.proofs.TypesOnce.{types-once}
+use Rattle.bridges.proofs.BridgesOnce.{bridges-once}
+use Rattle.instances.proofs.InstancesOnce.{instances-once}
+use Rattle.vectors.proofs.VectorsOnce.{vectors-once}
+use Rattle.reader.proofs.StagesOnce.{stages-once}
 use Rattle.grading.specs.Grading.{Grading, Counts as CountsMeant}
 use Rattle.grading.specs.Given.{Read}
 use Rattle.grading.specs.Promise.{countsMeant, Promise, PromiseOfRead}
@@ -106,12 +111,17 @@ unique = record {
   circuit-number-of = λ r. by-equation;
   circuit-place-of = λ r. by-equation;
   modules-no-type = by-equation;
+  modules-read-types = types-once;
   bridges-no-bridge = by-equation;
+  bridges-read-bridges = bridges-once;
   instances-no-instance = by-equation;
+  instances-read-instances = instances-once;
   bridges-lists-of = λ bridges count listed r s p q.
       by-equation r s (p (listed .bridges) (listed .counted) (listed .within) (listed .ranges) (listed .is))
       (q (listed .bridges) (listed .counted) (listed .within) (listed .ranges) (listed .is));
   vectors-no-vector = by-equation;
+  vectors-read-vectors = vectors-once;
+  reader-read-stages = stages-once;
   reader-read = λ file. answers-unique (readingOf file);
   grading-number-of = λ answer. by-equation;
   grading-place-of = λ answer. by-equation;

@@ -11,6 +11,7 @@ use Rattle.words.specs.Rows.{marksOf, firstMarkOf}
 use Rattle.words.specs.Written.{written}
 use Rattle.text.specs.Decimal.{decimal}
 use Rattle.switch.specs.Conduction.{between}
+use Rattle.switch.specs.Modules.{ModuleType as TypeMeant}
 use Rattle.switch.specs.Deciding.{isComplementary}
 use Rattle.switch.specs.Promises.{planesOf, railsOf}
 use Rattle.switch.specs.Records.{typeOf, typeWith}
@@ -21,7 +22,7 @@ use Rattle.switch.specs.declared.Rails.{Rails}
 use Rattle.circuit.specs.Refusals.{refusalNumber, refusalPlace, verdictOf}
 use Rattle.circuit.specs.Verdicts.{isRefused, orIf}
 use Rattle.circuit.specs.Answers.{Answers}
-use Rattle.circuit.specs.Circuit.{Circuit as CircuitMeant}
+use Rattle.circuit.specs.Circuit.{Circuit as CircuitMeant, Listed}
 use Rattle.circuit.specs.Fields.{twoBytes}
 use Rattle.circuit.specs.Laws.{CircuitGood}
 use Rattle.circuit.specs.Reading.{readingOf}
@@ -36,8 +37,17 @@ use Rattle.fields.specs.declared.Field.{Field}
 use Rattle.fields.specs.declared.Next.{Next}
 use Rattle.fields.specs.declared.Step.{Step}
 use Rattle.circuit.specs.declared.refusal.Refusal.{Refusal}
+use Rattle.modules.specs.ReadTypes.{TypesRead}
+use Rattle.modules.specs.declared.types.Types.{Types}
+use Rattle.bridges.specs.ReadBridges.{BridgesRead}
 use Rattle.bridges.specs.ListSums.{ListedBridges, SummedTo}
+use Rattle.bridges.specs.declared.Bridges.{Bridges}
 use Rattle.bridges.specs.declared.lists.Lists.{Lists}
+use Rattle.instances.specs.ReadInstances.{TypesAndLists, HeldTo, InstancesRead}
+use Rattle.instances.specs.declared.Instances.{Instances}
+use Rattle.vectors.specs.ReadVectors.{VectorsRead}
+use Rattle.vectors.specs.declared.Vectors.{Vectors}
+use Rattle.reader.specs.ReadStages.{ReadByStages}
 use Rattle.grading.specs.Given.{CircuitGiven, Read}
 use Rattle.grading.specs.Promise.{numberOf, placeOf, countsOf, countsMeant, Promise, PromiseOfRead}
 use Rattle.grading.specs.declared.Answer.{Answer}
@@ -109,14 +119,25 @@ pub record Unique : Type 0 where
   pub circuit-place-of : (r : Refusal) → One λ (p : ℕ). p ≡ refusalPlace r
   -- modules::types::no_type
   pub modules-no-type : One λ (r : ModuleType). r ≡ unusedType
+  -- modules::types::read_types
+  pub modules-read-types : (file : List ℕ) (from : ℕ) → One λ (r : Types). TypesRead file from r
   -- bridges::no_bridge
   pub bridges-no-bridge : One λ (r : Bridge). r ≡ unusedBridge
+  -- bridges::read_bridges
+  pub bridges-read-bridges : (file : List ℕ) (from : ℕ) → One λ (r : Bridges). BridgesRead file from r
   -- instances::no_instance
   pub instances-no-instance : One λ (r : Instance). r ≡ unusedInstance
+  -- instances::read_instances
+  pub instances-read-instances : (file : List ℕ) (from inputs «type_count» : ℕ) (types : List ModuleType) (lists : Lists) → HeldTo «type_count» types lists
+      → One λ (r : Instances). ((ts : List TypeMeant) (bs : List Listed) → TypesAndLists ts bs «type_count» types lists → InstancesRead file from inputs ts bs r)
   -- bridges::lists::lists_of
   pub bridges-lists-of : (bridges : List Bridge) (count : ℕ) → ListedBridges bridges count → One λ (r : Lists). SummedTo bridges count r
   -- vectors::no_vector
   pub vectors-no-vector : One λ (r : Vector). r ≡ unusedVector
+  -- vectors::read_vectors
+  pub vectors-read-vectors : (file : List ℕ) (from inputs : ℕ) → One λ (r : Vectors). VectorsRead file from inputs r
+  -- reader::read::read_stages
+  pub reader-read-stages : (file : List ℕ) → One λ (r : Reading). ReadByStages file r
   -- reader::read::read
   pub reader-read : (file : List ℕ) → One λ (r : Reading). Answers (readingOf file) r
   -- grading::answers::number_of

@@ -22,6 +22,7 @@ use Rattle.circuit.specs.Table.{Test, Verdict, passes, refusedAt, firstO
 use Rattle.circuit.specs.Reading.{Reading, accepted, refusal, unless}
 use Rattle.circuit.specs.Records.{emptyCircuit}
 use Rattle.circuit.specs.Stages.{Stage, stopped, ifPasses, section, failingBefore, failingVerdict, judged, typeStage, readTo, endedVerdict, pastVerdict, endingVerdict, afterStage, afterInputs, fromStart, staged, fieldPlace, typesBefore}
+use Rattle.circuit.specs.Before.{typesBefore}
 use Rattle.circuit.specs.Laws.{Each, TypeSound, TypeGood, ListedGood, InstanceGood, CircuitGood, RefusalGood, AcceptedIsGood, RefusalIsGood}
 use Rattle.circuit.proofs.StageLaws.{staged-is-reading}
 use Rattle.circuit.proofs.Tested.{VerdictGood, TestsGood, first-good, inputs-refuse, types-refuse, edges-refuse, bridges-refuse, instances-refuse, vectors-refuse, inputs-pass, type-pass, edge-pass, bridge-pass, faults-snoc, instance-pass, vector-pass, holds, length-snoc, each-none, each-snoc, never-passes}

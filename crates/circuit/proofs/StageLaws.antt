@@ -17,12 +17,13 @@ use Rattle.circuit.specs.Table.{Test, Verdict, passes, refusedAt, firstO
 use Rattle.circuit.specs.Reading.{Reading, accepted, unless, readFrom, readingOf}
 use Rattle.circuit.specs.Records.{emptyCircuit}
 use Rattle.circuit.specs.Stages.{Stage, stopped, ifPasses, section, failingBefore, failingVerdict, judged, typeStage, readTo, endedVerdict, pastVerdict, endingVerdict, afterStage, afterInputs, fromStart, staged, fieldPlace, typesBefore}
+use Rattle.circuit.specs.Before.{typesBefore}
 use Rattle.circuit.specs.Laws.{StagedIsReading}
 
 -- ---- tags by number
 
 -- the kind of field that a tag stands for
-data Kind (t : ℕ) : Tag → Type 0 where
+pub data Kind (t : ℕ) : Tag → Type 0 where
   is-inputs : t ≡ 1 → Kind t inputs-tag
   is-type : t ≡ 2 → Kind t type-tag
   is-edge : t ≡ 3 → Kind t edge-tag
@@ -31,7 +32,7 @@ data Kind (t : ℕ) : Tag → Type 0 where
   is-vector : t ≡ 6 → Kind t vector-tag
   is-none : Kind t no-tag
 
-kind : (t : ℕ) → Kind t (tagOf t)
+pub kind : (t : ℕ) → Kind t (tagOf t)
 unfolding tagOf
 kind t =
     pick 1 inputs-tag is-inputs (pick 2 type-tag is-type (pick 3 edge-tag is-edge
@@ -59,11 +60,11 @@ tag-number t = go (tagOf t) (kind t)
 
 -- ---- a field that is tested by its body alone
 
-abbrev knowing : ℕ → ℕ → Circuit → Known
+abbrev pub knowing : ℕ → ℕ → Circuit → Known
 knowing previous typeAt c = record { previous = previous; typeAt = typeAt; circuit = c }
 
 -- 9 is not looked at, or finds nothing
-abbrev quiet : ℕ → Tag → List ModuleType → Type 0
+abbrev pub quiet : ℕ → Tag → List ModuleType → Type 0
 quiet previous tag types = cond (unjudged previous && not (isEdge tag)) (notComplementary types) false ≡ false
 
 -- a field with tag n that 3, 4 and 9 let through
@@ -81,7 +82,7 @@ unfolding unless ifPasses afterStage
 unless-stage passes r a cut s next e = e
 unless-stage (refusedAt n p) r a cut s next e = refl
 
-judged-quiet : (previous : ℕ) (tag : Tag) (types : List ModuleType) → (unjudged previous ≡ true → notComplementary types ≡ false) → quiet previous tag types
+pub judged-quiet : (previous : ℕ) (tag : Tag) (types : List ModuleType) → (unjudged previous ≡ true → notComplementary types ≡ false) → quiet previous tag types
 judged-quiet previous tag types = go (unjudged previous) (isEdge tag) (notComplementary types)
   where
     go : (u e fl : Bool) → (u ≡ true → fl ≡ false) → cond (u && not e) fl false ≡ false
@@ -92,29 +93,29 @@ judged-quiet previous tag types = go (unjudged previous) (isEdge tag) (notComple
 -- ---- what a stage starts from
 
 -- the tag of the field that stands next, if one does
-abbrev nextTag : Cut → Tag
+abbrev pub nextTag : Cut → Tag
 nextTag clean = no-tag
 nextTag (broken at) = no-tag
 nextTag (field f rest) = tagOf (f .tag)
 
-record Ready (n previous : ℕ) (types : List ModuleType) (cut : Cut) : Type 0 where
-  low : 1 ≤ previous
-  high : previous ≤ n
-  judged : unjudged previous ≡ true → notComplementary types ≡ false
-  behind : rank (nextTag cut) < n → misplaced previous (nextTag cut) ≡ true
+pub record Ready (n previous : ℕ) (types : List ModuleType) (cut : Cut) : Type 0 where
+  pub low : 1 ≤ previous
+  pub high : previous ≤ n
+  pub judged : unjudged previous ≡ true → notComplementary types ≡ false
+  pub behind : rank (nextTag cut) < n → misplaced previous (nextTag cut) ≡ true
 
 -- ---- a stage of one tag
 
 -- the tests and the addition of a stage are those of its tag, in the circuit that has what it has gathered
-record StageOf {A : Type 0} (n : ℕ) (types : List ModuleType)
+pub record StageOf {A : Type 0} (n : ℕ) (types : List ModuleType)
     (tests : A → ℕ → List ℕ → List Test) (add : A → List ℕ → A) (circuit : A → Circuit) : Type 0 where
-  low : 4 ≤ n
-  high : n ≤ 6
-  same-types : (a : A) → circuit a .types ≡ types
-  tested : (a : A) (at : ℕ) (body : List ℕ) → bodyTests (tagOf n) (circuit a) at body ≡ tests a at body
-  added : (a : A) (body : List ℕ) → taken (tagOf n) (circuit a) body ≡ circuit (add a body)
-  known-tag : isUnknown (tagOf n) ≡ false
-  in-place : (previous : ℕ) → 1 ≤ previous → previous ≤ n → misplaced previous (tagOf n) ≡ false
+  pub low : 4 ≤ n
+  pub high : n ≤ 6
+  pub same-types : (a : A) → circuit a .types ≡ types
+  pub tested : (a : A) (at : ℕ) (body : List ℕ) → bodyTests (tagOf n) (circuit a) at body ≡ tests a at body
+  pub added : (a : A) (body : List ℕ) → taken (tagOf n) (circuit a) body ≡ circuit (add a body)
+  pub known-tag : isUnknown (tagOf n) ≡ false
+  pub in-place : (previous : ℕ) → 1 ≤ previous → previous ≤ n → misplaced previous (tagOf n) ≡ false
 
 -- after a field of a stage what belongs before that stage is misplaced
 tags-past : (n : ℕ) → 4 ≤ n → n ≤ 6 → (tag : Tag) → rank tag < n → misplaced n tag ≡ true
@@ -127,37 +128,39 @@ tags-past n low high instance-tag h = rw (ne-eqb n 0 (omega arith), lt-ltb 5 n h
 tags-past n low high vector-tag h = absurd (omega arith)
 tags-past n low high no-tag h = absurd (omega arith)
 
-module _ (size n : ℕ) {A : Type 0} (types : List ModuleType)
-    (tests : A → ℕ → List ℕ → List Test) (add : A → List ℕ → A) (circuit : A → Circuit)
-    (s : StageOf n types tests add circuit)
-    (next : A → Cut → Reading)
-    (goes-on : (a : A) (previous typeAt : ℕ) (cut : Cut) → Ready (suc n) previous types cut
-    → readFrom size (knowing previous typeAt (circuit a)) cut ≡ next a cut) where
+module _ {n : ℕ} {A : Type 0} {types : List ModuleType} {tests : A → ℕ → List ℕ → List Test} {add : A → List ℕ → A} {circuit : A → Circuit}
+    (s : StageOf n types tests add circuit) where
   past-types : unjudged n ≡ true → notComplementary types ≡ false
   unfolding unjudged between
   past-types u = let z : false ≡ true = sym (and-false (leb 2 n)) ∙ (rw (lt-leb n 3 (s .low)) at u) in cc
 
-  after-own : (rest : Cut) → Ready n n types rest
+  pub after-own : (rest : Cut) → Ready n n types rest
   after-own rest = let l = s .low in record { low = omega arith; high = omega arith; judged = past-types; behind = tags-past n l (s .high) (nextTag rest) }
 
-  at-stop : (previous : ℕ) (f : Field) (rest : Cut) → eqb (f .tag) n ≡ false
+  pub at-stop : (previous : ℕ) (f : Field) (rest : Cut) → eqb (f .tag) n ≡ false
       → Ready n previous types (field f rest) → Ready (suc n) previous types (field f rest)
   at-stop previous f rest other r = let h = r .high in record { low = r .low; high = omega arith; judged = r .judged; behind = go }
     where
       go : rank (tagOf (f .tag)) < suc n → misplaced previous (tagOf (f .tag)) ≡ true
       go h = let k = s .high in let e = tag-number (f .tag) (omega arith) in let ne = eqb-false (f .tag) n other in r .behind (omega arith)
 
-  ready-end : (previous : ℕ) (cut : Cut) → rank (nextTag cut) ≡ 7 → Ready n previous types cut → Ready (suc n) previous types cut
+  pub ready-end : (previous : ℕ) (cut : Cut) → rank (nextTag cut) ≡ 7 → Ready n previous types cut → Ready (suc n) previous types cut
   ready-end previous cut e r =
       let h = r .high in let k = s .high in record { low = r .low; high = omega arith; judged = r .judged; behind = λ q. absurd (omega arith) }
 
+module _ (size n : ℕ) {A : Type 0} (types : List ModuleType)
+    (tests : A → ℕ → List ℕ → List Test) (add : A → List ℕ → A) (circuit : A → Circuit)
+    (s : StageOf n types tests add circuit)
+    (next : A → Cut → Reading)
+    (goes-on : (a : A) (previous typeAt : ℕ) (cut : Cut) → Ready (suc n) previous types cut
+    → readFrom size (knowing previous typeAt (circuit a)) cut ≡ next a cut) where
   section-reads : (a : A) (previous typeAt : ℕ) (cut : Cut) → Ready n previous types cut
       → readFrom size (knowing previous typeAt (circuit a)) cut ≡ afterStage (section n tests add a cut) next
   unfolding section afterStage unless
-  section-reads a previous typeAt clean r = goes-on a previous typeAt clean (ready-end previous clean refl r)
-  section-reads a previous typeAt (broken at) r = goes-on a previous typeAt (broken at) (ready-end previous (broken at) refl r)
+  section-reads a previous typeAt clean r = goes-on a previous typeAt clean (ready-end s previous clean refl r)
+  section-reads a previous typeAt (broken at) r = goes-on a previous typeAt (broken at) (ready-end s previous (broken at) refl r)
   section-reads a previous typeAt (field f rest) r =
-      go (eqb (f .tag) n) refl (section-reads (add a (f .body)) n (cond (eqb n 2) (f .at) typeAt) rest (after-own rest))
+      go (eqb (f .tag) n) refl (section-reads (add a (f .body)) n (cond (eqb n 2) (f .at) typeAt) rest (after-own s rest))
     where
       known : Known
       known = knowing previous typeAt (circuit a)
@@ -172,16 +175,16 @@ module _ (size n : ℕ) {A : Type 0} (types : List ModuleType)
           (judged-quiet previous (tagOf n) (circuit a .types) (rw (s .same-types a) (r .judged)))
           ∙ rw (s .tested a (f .at) (f .body), s .added a (f .body))
           (unless-stage (firstOf (tests a (f .at) (f .body))) _ a (field f rest) (section n tests add (add a (f .body)) rest) next more)
-      go false e more = goes-on a previous typeAt (field f rest) (at-stop previous f rest e r)
+      go false e more = goes-on a previous typeAt (field f rest) (at-stop s previous f rest e r)
 
 -- ---- the three stages of one tag
 
 -- a tag that may stand after any field but the first, and not after the tags past n
-in-order : (n previous : ℕ) → 1 ≤ previous → previous ≤ n → (eqb previous 0 || ltb n previous) ≡ false
+pub in-order : (n previous : ℕ) → 1 ≤ previous → previous ≤ n → (eqb previous 0 || ltb n previous) ≡ false
 in-order n previous low high = rw (ne-eqb previous 0 (omega arith), le-ltb n previous high)
 
 module _ (P : ℕ) (types : List ModuleType) where
-  bridges-stage : StageOf 4 types (λ (bs : List Listed). bridgeTests (length bs)) (λ (bs : List Listed) (body : List ℕ). bs ++ (listedIn body ∷ []))
+  pub bridges-stage : StageOf 4 types (λ (bs : List Listed). bridgeTests (length bs)) (λ (bs : List Listed) (body : List ℕ). bs ++ (listedIn body ∷ []))
       (λ (bs : List Listed). record { inputs = P; types = types; bridges = bs; instances = []; vectors = [] })
   unfolding tagOf bodyTests taken isUnknown misplaced between
   bridges-stage = record {
@@ -194,7 +197,7 @@ module _ (P : ℕ) (types : List ModuleType) where
     in-place = in-order 4;
   }
 
-  instances-stage : (bridges : List Listed) → StageOf 5 types
+  pub instances-stage : (bridges : List Listed) → StageOf 5 types
       (λ (is : List Instance). instanceTests (readTo P types bridges is))
       (λ (is : List Instance) (body : List ℕ). is ++ (instanceIn body ∷ []))
       (λ (is : List Instance). record { inputs = P; types = types; bridges = bridges; instances = is; vectors = [] })
@@ -209,7 +212,7 @@ module _ (P : ℕ) (types : List ModuleType) where
     in-place = in-order 5;
   }
 
-  vectors-stage : (bridges : List Listed) (instances : List Instance) → StageOf 6 types
+  pub vectors-stage : (bridges : List Listed) (instances : List Instance) → StageOf 6 types
       (λ (vs : List (List Value)). vectorTests P (length vs))
       (λ (vs : List (List Value)) (body : List ℕ). vs ++ (vectorIn body ∷ []))
       (λ (vs : List (List Value)). record { inputs = P; types = types; bridges = bridges; instances = instances; vectors = vs })
@@ -244,7 +247,7 @@ refused-alike g previous at later more other = go (isUnknown g) (misplaced previ
     go false true h = refl
     go false false h = let z = h refl in cc
 
-known-rank : (g : Tag) → isUnknown g ≡ false → rank g < 7
+pub known-rank : (g : Tag) → isUnknown g ≡ false → rank g < 7
 unfolding isUnknown
 known-rank inputs-tag e = omega arith
 known-rank type-tag e = omega arith
@@ -272,38 +275,43 @@ ending-reads size previous typeAt c (field f rest) r =
 -- ---- types with their edges
 
 -- before the first type stands the inputs field; after it, a type or an edge
-record Before (types : List ModuleType) (previous : ℕ) : Type 0 where
-  low : 1 ≤ previous
-  high : previous ≤ 3
-  none : isEmpty types ≡ true → previous ≡ 1
-  some : isEmpty types ≡ false → unjudged previous ≡ true
+pub record Before (types : List ModuleType) (previous : ℕ) : Type 0 where
+  pub low : 1 ≤ previous
+  pub high : previous ≤ 3
+  pub none : isEmpty types ≡ true → previous ≡ 1
+  pub some : isEmpty types ≡ false → unjudged previous ≡ true
 
-after-type : (types : List ModuleType) (previous : ℕ) → isEmpty types ≡ false → 2 ≤ previous → previous ≤ 3 → Before types previous
+pub after-type : (types : List ModuleType) (previous : ℕ) → isEmpty types ≡ false → 2 ≤ previous → previous ≤ 3 → Before types previous
 unfolding unjudged between
 after-type types previous e low high =
     record { low = omega arith; high = high; none = λ q. cc; some = λ q. rw (le-leb 2 previous low, le-leb previous 3 high) }
 
-both-true : (a b : Bool) → (a && b) ≡ true → (a ≡ true) × (b ≡ true)
+-- where the latest type has been judged the next stage can begin
+pub ready : (types : List ModuleType) (previous : ℕ) (cut : Cut) → Before types previous → (unjudged previous ≡ true → notComplementary types ≡ false)
+    → (rank (nextTag cut) < 4 → misplaced previous (nextTag cut) ≡ true) → Ready 4 previous types cut
+ready types previous cut b j behind = let h = b .high in record { low = b .low; high = omega arith; judged = j; behind = behind }
+
+pub both-true : (a b : Bool) → (a && b) ≡ true → (a ≡ true) × (b ≡ true)
 both-true true b e = (refl, e)
 both-true false b e = (cc, cc)
 
-unjudged-low : (previous : ℕ) → unjudged previous ≡ true → 2 ≤ previous
+pub unjudged-low : (previous : ℕ) → unjudged previous ≡ true → 2 ≤ previous
 unfolding unjudged between
 unjudged-low previous u = leb-true 2 previous (both-true (leb 2 previous) (leb previous 3) u .0)
 
-snoc-some : {A : Type 0} (as′ : List A) (a : A) → isEmpty (as′ ++ (a ∷ [])) ≡ false
+pub snoc-some : {A : Type 0} (as′ : List A) (a : A) → isEmpty (as′ ++ (a ∷ [])) ≡ false
 unfolding isEmpty
 snoc-some [] a = refl
 snoc-some (b ∷ as′) a = refl
 
-set-some : {A : Type 0} (as′ : List A) (i : ℕ) (a : A) → isEmpty as′ ≡ false → isEmpty (set as′ i a) ≡ false
+pub set-some : {A : Type 0} (as′ : List A) (i : ℕ) (a : A) → isEmpty as′ ≡ false → isEmpty (set as′ i a) ≡ false
 unfolding isEmpty
 set-some [] i a e = e
 set-some (b ∷ as′) zero a e = refl
 set-some (b ∷ as′) (suc i) a e = refl
 
 -- a type that is not complementary, before a field that is not its edge
-failing-field : (previous typeAt : ℕ) (c : Circuit) (f : Field) → 2 ≤ previous → previous ≤ 3 → unjudged previous ≡ true → notComplementary (c .types) ≡ true
+pub failing-field : (previous typeAt : ℕ) (c : Circuit) (f : Field) → 2 ≤ previous → previous ≤ 3 → unjudged previous ≡ true → notComplementary (c .types) ≡ true
     → eqb (f .tag) 3 ≡ false → firstOf (fieldTests (knowing previous typeAt c) f) ≡ failingBefore (f .tag) (f .at) typeAt
 unfolding firstOf fieldTests failingBefore isUnknown misplaced isEdge
 failing-field previous typeAt c f low high u fl other = go (tagOf (f .tag)) (kind (f .tag)) _
@@ -321,7 +329,7 @@ failing-field previous typeAt c f low high u fl other = go (tagOf (f .tag)) (kin
     go no-tag is-none later = refl
 
 -- at a field that is neither a type nor an edge of one, what belongs before bridges is misplaced
-types-past : (types : List ModuleType) (previous tag : ℕ) → Before types previous → (eqb tag 3 && not (isEmpty types)) ≡ false → eqb tag 2 ≡ false
+pub types-past : (types : List ModuleType) (previous tag : ℕ) → Before types previous → (eqb tag 3 && not (isEmpty types)) ≡ false → eqb tag 2 ≡ false
     → rank (tagOf tag) < 4 → misplaced previous (tagOf tag) ≡ true
 unfolding misplaced between
 types-past types previous tag b other no-type = go (tagOf tag) (kind tag)
@@ -339,7 +347,7 @@ types-past types previous tag b other no-type = go (tagOf tag) (kind tag)
     go vector-tag (is-vector e) h = absurd (omega arith)
     go no-tag is-none h = absurd (omega arith)
 
-abbrev withTypes : ℕ → List ModuleType → Circuit
+abbrev pub withTypes : ℕ → List ModuleType → Circuit
 withTypes P types = record { inputs = P; types = types; bridges = []; instances = []; vectors = [] }
 
 module _ (size P : ℕ) (types : List ModuleType) (previous typeAt : ℕ) where
@@ -401,10 +409,6 @@ module _ (size P : ℕ) where
         go true fl e f = fine (λ u. let z : false ≡ true = (rw (b .none e) at u) in cc)
         go false true e f = failing e f
         go false false e f = fine (λ u. f)
-
-    ready : (types : List ModuleType) (previous : ℕ) (cut : Cut) → Before types previous → (unjudged previous ≡ true → notComplementary types ≡ false)
-        → (rank (nextTag cut) < 4 → misplaced previous (nextTag cut) ≡ true) → Ready 4 previous types cut
-    ready types previous cut b j behind = let h = b .high in record { low = b .low; high = omega arith; judged = j; behind = behind }
 
     types-read : (types : List ModuleType) (previous : ℕ) (from cut : Cut) → Before types previous
         → readFrom size (knowing previous (fieldPlace from) (withTypes P types)) cut ≡ afterStage (typeStage types from cut) next
@@ -479,7 +483,7 @@ after-inputs size P cut =
     (record { low = omega arith; high = omega arith; none = λ e. refl; some = λ e. cc })
 
 -- a first field that is not the inputs field is out of place
-first-misplaced : (tag : ℕ) → eqb tag 1 ≡ false → isUnknown (tagOf tag) ≡ false → misplaced 0 (tagOf tag) ≡ true
+pub first-misplaced : (tag : ℕ) → eqb tag 1 ≡ false → isUnknown (tagOf tag) ≡ false → misplaced 0 (tagOf tag) ≡ true
 unfolding isUnknown misplaced between
 first-misplaced tag other = go (tagOf tag) (kind tag)
   where

@@ -4,6 +4,7 @@
 --   Table                              the refusal table, a list of numbered tests for each field and for the end of the file
 --   Reading                            a file's circuit or refusal: the fields in file order against the table
 --   Records, Answers                   the code's records and answers in those words; the promise of `read`
+--   Before                             what was read of a file before the field by which it is refused
 --   Laws                               theorems on reading, each with its name
 --   Stages                             how the code reads, stage by stage, and what it has gathered where it ends
 pub mod Limits
@@ -17,5 +18,6 @@ pub mod Records
 pub mod Refusals
 pub mod Verdicts
 pub mod Answers
+pub mod Before
 pub mod Laws
 pub mod Stages

@@ -1,10 +1,10 @@
 -- How the code reads: types with their edges, then bridges, instances and vectors, a stage each, and then the ending.
--- That this order of work gives what Reading says is proved in proofs/StageLaws.
-use Prim.Native.Nat.{ℕ, _-_}
+-- That this order of work gives what Reading and Before say is proved in proofs/StageLaws and proofs/GatheredLaws.
+use Prim.Native.Nat.{ℕ}
 use mathlib.Core.Bool.{cond, not, _&&_}
 use mathlib.Core.List.{List, [], _∷_, _++_}
 use lib.Dec.{eqb, ltb}
-use lib.ListN.{length, take}
+use lib.ListN.{length}
 use Rattle.switch.specs.Conduction.{Value}
 use Rattle.switch.specs.Modules.{ModuleType}
 use Rattle.circuit.specs.Limits.{mostBytes}
@@ -15,11 +15,12 @@ use Rattle.circuit.specs.Table.{Test, Verdict, passes, refusedAt, firstO
 use Rattle.circuit.specs.Reading.{Reading, accepted, refusal, unless}
 use Rattle.circuit.specs.Records.{emptyCircuit}
 use Rattle.circuit.specs.Verdicts.{isRefused}
+use Rattle.circuit.specs.Before.{typesBefore}
 
 -- ---- a stage
 
--- how a stage ends: its verdict, what it has gathered, and the rest of the file from where it stands. It stops at the first field that is not its own,
--- or is refused at a field by a test of the table; what it has gathered then is what stands before that field
+-- how a stage ends: its verdict, what it has gathered, and the rest of the file from where it stands. It stops at the first field that
+-- is not its own, or is refused at a field by a test of the table; what it has gathered then is what stands before that field
 pub record Stage (A : Type 0) : Type 0 where
   pub verdict : Verdict
   pub gathered : A
@@ -87,14 +88,12 @@ fieldPlace clean = 0
 fieldPlace (broken at) = 0
 fieldPlace (field f rest) = f .at
 
-unfoldable pub typesBefore : List ModuleType → List ModuleType
-typesBefore types = take (length types - 1) types
-
--- `from` is the file from the latest type's field on. Where an edge of that type is refused, or the type when it is judged, the stage ends there,
--- with the types before it
+-- `from` is the file from the latest type's field on. Where an edge of that type is refused, or the type when it is judged, the stage ends
+-- there, with the types before it
 unfoldable pub typeStage : List ModuleType → Cut → Cut → Stage (List ModuleType)
 typeStage types from clean = ifPasses (judged types (fieldPlace from) clean) (typesBefore types) from (stopped types clean)
-typeStage types from (broken at) = ifPasses (judged types (fieldPlace from) (broken at)) (typesBefore types) from (stopped types (broken at))
+typeStage types from (broken at) =
+    ifPasses (judged types (fieldPlace from) (broken at)) (typesBefore types) from (stopped types (broken at))
 typeStage types from (field f rest) =
     let moreEdges = typeStage (edgeAdded types (edgeIn (f .body))) from rest in
     let moreTypes = typeStage (types ++ (typeIn (f .body) ∷ [])) (field f rest) rest in
@@ -144,15 +143,21 @@ staged file = let whole = fromStart (length file) (cutFrom file 0) in cond (ltb 
 
 -- ---- what was read, also where the file is refused
 
--- what the stages after the inputs field have gathered, each from where the one before it ended. A stage that refuses ends at a field of its own tag, where
--- the later ones find no field of theirs: so this is what stands before the refused field, a type only when its edges are read and it is complementary
+-- what the stages after the inputs field have gathered, each from where the one before it ended. A stage that refuses ends at a field of
+-- its own tag, where the later ones find no field of theirs
 unfoldable pub gatheredFrom : ℕ → Cut → Circuit
 gatheredFrom P cut =
     let types = typeStage [] clean cut in
     let bridges = bridgeStage [] (types .rest) in
     let instances = instanceStage P (types .gathered) (bridges .gathered) [] (bridges .rest) in
     let vectors = vectorStage P [] (instances .rest) in
-    record { inputs = P; types = types .gathered; bridges = bridges .gathered; instances = instances .gathered; vectors = vectors .gathered }
+    record {
+      inputs = P;
+      types = types .gathered;
+      bridges = bridges .gathered;
+      instances = instances .gathered;
+      vectors = vectors .gathered;
+    }
 
 -- nothing, where the first field is refused
 unfoldable pub gatheredAtStart : Cut → Circuit

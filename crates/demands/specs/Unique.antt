@@ -128,7 +128,8 @@ pub record Unique : Type 0 where
   -- instances::no_instance
   pub instances-no-instance : One λ (r : Instance). r ≡ unusedInstance
   -- instances::read_instances
-  pub instances-read-instances : (file : List ℕ) (from inputs «type_count» : ℕ) (types : List ModuleType) (lists : Lists) → HeldTo «type_count» types lists
+  pub instances-read-instances : (file : List ℕ) (from inputs «type_count» : ℕ) (types : List ModuleType) (lists : Lists)
+      → HeldTo «type_count» types lists
       → One λ (r : Instances). ((ts : List TypeMeant) (bs : List Listed) → TypesAndLists ts bs «type_count» types lists → InstancesRead file from inputs ts bs r)
   -- bridges::lists::lists_of
   pub bridges-lists-of : (bridges : List Bridge) (count : ℕ) → ListedBridges bridges count → One λ (r : Lists). SummedTo bridges count r

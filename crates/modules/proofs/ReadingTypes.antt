@@ -30,9 +30,10 @@ use Rattle.circuit.specs.declared.refusal.Refusal.the-variants.{Nothing}
 use Rattle.modules.specs.declared.edges.OneType.{OneType}
 use Rattle.circuit.proofs.Padding.{padded-nil, padded-snoc}
 use Rattle.circuit.proofs.Verdicts.{first-passes, passes-is}
+use Rattle.circuit.proofs.GatheredLaws.{failing-refuses}
 use Rattle.fields.proofs.Cuts.{section-step, section-stop}
 use Rattle.circuit.proofs.TypeLaws.{accepts, all-snoc, type-back, type-given, edge-passes, with-edge-ranges, with-edge-record}
-use Rattle.modules.proofs.TypeStages.{afterEdges, edges-first, failing-stage, failing-refuses, Settled, settled-none, settled-more, type-step, type-stop}
+use Rattle.modules.proofs.TypeStages.{afterEdges, edges-first, failing-stage, Settled, settled-none, settled-more, type-step, type-stop}
 
 -- ---- a stage that fails
 

@@ -13,10 +13,12 @@ use Rattle.switch.specs.Modules.{ModuleType}
 use Rattle.switch.specs.Deciding.{isComplementary}
 use Rattle.circuit.specs.Fields.{Field, Cut, clean, broken, field, cutFrom}
 use Rattle.circuit.specs.Circuit.{noType}
-use Rattle.circuit.specs.Known.{tagOf, typeIn, edgeIn, latest, withEdge, edgeAdded}
-use Rattle.circuit.specs.Table.{Verdict, passes, refusedAt, firstOf, notComplementary, isEmpty, isUnknown, typeTests, edgeTests}
+use Rattle.circuit.specs.Known.{typeIn, edgeIn, latest, withEdge, edgeAdded}
+use Rattle.circuit.specs.Table.{Verdict, passes, refusedAt, firstOf, notComplementary, isEmpty, typeTests, edgeTests}
 use Rattle.circuit.specs.Verdicts.{isRefused}
-use Rattle.circuit.specs.Stages.{Stage, stopped, ifPasses, section, edgeStage, failingBefore, failingVerdict, judged, fieldPlace, typesBefore, typeStage}
+use Rattle.circuit.specs.Before.{typesBefore}
+use Rattle.circuit.specs.Stages.{Stage, stopped, ifPasses, section, edgeStage, failingVerdict, judged, fieldPlace, typeStage}
+use Rattle.circuit.proofs.GatheredLaws.{failing-refuses}
 use Rattle.fields.specs.Steps.{bodyOf, fieldIn, FieldAt, NextIs}
 use Rattle.fields.specs.declared.Field.{Field as FieldRecord}
 use Rattle.fields.specs.declared.Next.the-variants.{Other}
@@ -77,17 +79,6 @@ refused-leaves : {A : Type 0} (v : Verdict) → isRefused v ≡ true → (a : A)
 unfolding ifPasses isRefused
 refused-leaves passes e a from s u = cc
 refused-leaves (refusedAt number place) e a from s u = refl
-
-pub failing-refuses : (typeAt : ℕ) (cut : Cut) → isRefused (failingVerdict typeAt cut) ≡ true
-unfolding failingVerdict failingBefore isRefused
-failing-refuses typeAt clean = refl
-failing-refuses typeAt (broken at) = refl
-failing-refuses typeAt (field f rest) = go (isUnknown (tagOf (f .tag))) (eqb (f .tag) 1)
-  where
-    go : (a b : Bool) → isRefused (cond a (refusedAt 3 (f .at)) (cond b (refusedAt 4 (f .at)) (refusedAt 9 typeAt))) ≡ true
-    go true b = refl
-    go false true = refl
-    go false false = refl
 
 failing-leaves : {A : Type 0} (typeAt : ℕ) (cut : Cut) (a : A) (from : Cut) (s u : Stage A)
     → ifPasses (failingVerdict typeAt cut) a from s ≡ ifPasses (failingVerdict typeAt cut) a from u

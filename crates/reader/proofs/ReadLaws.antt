@@ -21,6 +21,7 @@ use Rattle.circuit.specs.Records.{unusedType, unusedBridge, unusedInstance, unu
 use Rattle.circuit.specs.Refusals.{verdictOf}
 use Rattle.circuit.specs.Verdicts.{isRefused, orIf}
 use Rattle.circuit.specs.Answers.{Tells, Answers}
+use Rattle.circuit.specs.Before.{readBefore}
 use Rattle.circuit.specs.Stages.{Stage, stageOf, ifPasses, section, judged, typeStage, bridgeStage, instanceStage, vectorStage, endedVerdict, pastVerdict, endingVerdict, afterStage, afterInputs, fromStart, staged, gatheredFrom, gatheredAtStart, gatheredOf}
 use Rattle.fields.specs.Steps.{bodyOf, fieldIn, FieldAt, NextIs}
 use Rattle.modules.specs.ReadTypes.{TypesRead}
@@ -46,6 +47,7 @@ use Rattle.reader.specs.declared.read.Start.{Start}
 use Rattle.vectors.specs.declared.Vectors.{Vectors}
 use Rattle.circuit.proofs.Padding.{padded-nil}
 use Rattle.circuit.proofs.Verdicts.{first-passes}
+use Rattle.circuit.proofs.GatheredLaws.{gathered-is-before}
 use Rattle.fields.proofs.Cuts.{cut-clean}
 
 -- ---- the empty circuit
@@ -181,11 +183,11 @@ module _ {file : List ℕ} {s : Start} (start : StartRead file s)
     vectors .all,
   )
 
-  -- what the stages gather of the file
-  pub stages-gather : (r : Refusal) → wholeOf r (s .inputs) t b i v .circuit ≡ circuitRecord (gatheredOf file)
+  -- what was read of the file
+  pub stages-gather : (r : Refusal) → wholeOf r (s .inputs) t b i v .circuit ≡ circuitRecord (readBefore file)
   unfolding gatheredFrom
   stages-gather r =
-      rw (start .gathered, types .stage, bridges .stage, instances .stage, vectors .stage) (record-is r)
+      rw (← gathered-is-before file, start .gathered, types .stage, bridges .stage, instances .stage, vectors .stage) (record-is r)
 
   -- where each of these refusals is the first so far
   pub stages-tell : (r₁ r₂ r₃ r₄ r : Refusal)

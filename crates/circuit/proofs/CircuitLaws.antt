@@ -21,7 +21,7 @@ use Rattle.circuit.specs.Known.{typeIn, edgeIn, listedIn, instanceIn, ve
 use Rattle.circuit.specs.Table.{Test, Verdict, passes, refusedAt, firstOf, notComplementary, isEmpty, isUnknown, inputsTests, typeTests, edgeTests, bridgeTests, instanceTests, vectorTests}
 use Rattle.circuit.specs.Reading.{Reading, accepted, refusal, unless}
 use Rattle.circuit.specs.Records.{emptyCircuit}
-use Rattle.circuit.specs.Stages.{Stage, stopped, ifPasses, section, failingBefore, failingVerdict, judged, typeStage, readTo, endedVerdict, pastVerdict, endingVerdict, afterStage, afterInputs, fromStart, staged, fieldPlace, typesBefore}
+use Rattle.circuit.specs.Stages.{Stage, stopped, ifPasses, section, failingBefore, failingVerdict, judged, typeStage, readTo, endedVerdict, pastVerdict, endingVerdict, afterStage, afterInputs, fromStart, staged, fieldPlace}
 use Rattle.circuit.specs.Before.{typesBefore}
 use Rattle.circuit.specs.Laws.{Each, TypeSound, TypeGood, ListedGood, InstanceGood, CircuitGood, RefusalGood, AcceptedIsGood, RefusalIsGood}
 use Rattle.circuit.proofs.StageLaws.{staged-is-reading}

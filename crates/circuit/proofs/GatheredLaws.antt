@@ -13,7 +13,7 @@ use Rattle.switch.specs.Modules.{ModuleType}
 use Rattle.circuit.specs.Limits.{mostBytes}
 use Rattle.circuit.specs.Fields.{Field, Cut, clean, broken, field, cutFrom, twoBytes}
 use Rattle.circuit.specs.Circuit.{Circuit, Instance, Listed}
-use Rattle.circuit.specs.Known.{Known, start, Tag, inputs-tag, type-tag, edge-tag, bridge-tag, instance-tag, vector-tag, no-tag, tagOf, typeIn, edgeIn, latest, withEdge, edgeAdded, taken, typeAtAfter, knownAfter}
+use Rattle.circuit.specs.Known.{Known, start, Tag, inputs-tag, type-tag, edge-tag, bridge-tag, instance-tag, vector-tag, no-tag, tagOf, typeIn, edgeIn, latest, withEdge, edgeAdded, taken, typeAtAfter, knownAfter, rank}
 use Rattle.circuit.specs.Table.{Test, Verdict, passes, refusedAt, firstOf, misplaced, isEdge, unjudged, notComplementary, isEmpty, isUnknown, inputsTests, typeTests, edgeTests, bodyTests, fieldTests}
 use Rattle.circuit.specs.Reading.{Reading, accepted, refusal, unless}
 use Rattle.circuit.specs.Records.{emptyCircuit}
@@ -21,7 +21,7 @@ use Rattle.circuit.specs.Verdicts.{isRefused}
 use Rattle.circuit.specs.Before.{typesBefore, withoutLatest, finished, beforeFrom, readBefore}
 use Rattle.circuit.specs.Stages.{Stage, stopped, ifPasses, section, bridgeStage, instanceStage, vectorStage, failingBefore, failingVerdict, judged, fieldPlace, typeStage, pastVerdict, afterStage, afterInputs, fromStart, staged, gatheredFrom, gatheredAtStart, gatheredOf}
 use Rattle.circuit.specs.Laws.{GatheredIsBefore, BeforeIsCircuit}
-use Rattle.circuit.proofs.StageLaws.{rank, Kind, is-edge, kind, knowing, quiet, judged-quiet, Ready, StageOf, after-own, at-stop, ready-end, in-order, bridges-stage, instances-stage, vectors-stage, known-rank, Before, after-type, ready, both-true, unjudged-low, snoc-some, set-some, failing-field, types-past, withTypes, first-misplaced, staged-is-reading}
+use Rattle.circuit.proofs.StageLaws.{Kind, is-edge, kind, knowing, quiet, judged-quiet, Ready, StageOf, after-own, at-stop, ready-end, in-order, bridges-stage, instances-stage, vectors-stage, known-rank, Before, after-type, ready, both-true, unjudged-low, snoc-some, set-some, failing-field, types-past, withTypes, first-misplaced, staged-is-reading}
 
 -- ---- a field, and what is known before it
 

@@ -1,6 +1,7 @@
 //! A refusal in words: which field, which rule, and what was read there. The number
 //! and the place are the second program's; this finds the words for them.
 
+use second::circuit::ModuleType;
 use second::fields::{cut, Field};
 use second::read::read;
 use second::refusal::Refusal;
@@ -51,6 +52,15 @@ impl Explanation {
 struct Scene<'a> {
     before: Before,
     field: Field<'a>,
+}
+
+impl Scene<'_> {
+    /// The type that a refused edge would belong to, and its number.
+    fn latest_type(&self) -> (usize, &ModuleType) {
+        let types = &self.before.circuit.types;
+        let module = types.last();
+        (types.len(), module.expect("an edge in order has a type"))
+    }
 }
 
 const MOST_TOLD: usize = 4;
@@ -131,6 +141,16 @@ fn sentence(slips: Vec<String>) -> String {
         told.push(format!("{more} more like that"));
     }
     format!("{}.", told.join("; "))
+}
+
+/// The nodes and labels that a type has.
+fn has(type_number: usize, module: &ModuleType) -> String {
+    let labels = match module.labels {
+        1 => "label 0".to_string(),
+        labels => format!("labels 0 to {}", labels - 1),
+    };
+    let highest = module.highest;
+    format!("type {type_number} has nodes 0 to {highest} and {labels}")
 }
 
 /// A range, which may be one number.

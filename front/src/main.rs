@@ -25,10 +25,6 @@ fn main() -> ExitCode {
     let words: Vec<OsString> = std::env::args_os().skip(1).collect();
     let command = words.first().and_then(|word| word.to_str());
     let names = words.get(1..).unwrap_or_default();
-    let names = match names.first() {
-        Some(word) if word == "--" => &names[1..],
-        _ => names,
-    };
     let status = match (command, names) {
         (Some("make"), []) => make_from(None),
         (Some("make"), [name]) => make_from(Some(name)),

@@ -37,18 +37,18 @@ fn make_writes_the_file_or_nothing() {
     let many = "word\n".repeat(12);
     let files: [(&str, &[u8]); 3] = [
         ("good", INVERTER.as_bytes()),
-        ("--", wrong.as_bytes()),
+        ("wrong", wrong.as_bytes()),
         ("many", many.as_bytes()),
     ];
     let folder = folder("make", &files);
     let made = call(&folder, &["make", "good"], None);
     assert_eq!((made.0, made.1.len(), made.2.as_str()), (0, 34, ""));
     assert_eq!(call(&folder, &["make"], Some("good")), made);
-    let (status, printed, message) = call(&folder, &["make", "--", "--"], None);
+    let (status, printed, message) = call(&folder, &["make", "wrong"], None);
     assert_eq!((status, printed), (2, vec![]));
     let lines =
-        "togyamiru: --: line 4: found the end of the line, expected a label, a number from 0 to 255
-togyamiru: --: line 6: found `2`, expected `1`, the number of the next vector
+        "togyamiru: wrong: line 4: found the end of the line, expected a label, a number from 0 to 255
+togyamiru: wrong: line 6: found `2`, expected `1`, the number of the next vector
 ";
     assert_eq!(message, lines);
     let (status, printed, message) = call(&folder, &["make"], Some("many"));

@@ -49,7 +49,7 @@ fn the_frame_of_a_file() {
     check(
         one_input().raw(&[9, 0, 4]),
         "refused 2 at 5: field 2, bytes 5 to 7",
-        "here: the field is tag 9, its length says 4 bytes, but 0 bytes are left in the file.",
+        "here: the tag is 9, the length says 4 bytes, but 0 bytes are left in the file.",
     );
     check(
         one_input().field(7, b""),

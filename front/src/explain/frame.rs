@@ -16,18 +16,31 @@ fn left_over(bytes: usize) -> String {
     }
 }
 
-/// A tag with what a field of it is called.
+/// What a field of this tag says.
+fn meaning(tag: u8) -> Option<&'static str> {
+    match tag {
+        1 => Some("the number of inputs"),
+        2 => Some("a type"),
+        3 => Some("an edge"),
+        4 => Some("a bridge"),
+        5 => Some("an instance"),
+        6 => Some("a vector"),
+        _ => None,
+    }
+}
+
+fn tag_meaning(tag: u8) -> String {
+    match meaning(tag) {
+        Some(name) => format!("{tag} ({name})"),
+        None => tag.to_string(),
+    }
+}
+
 fn tag_name(tag: u8) -> String {
-    let name = match tag {
-        1 => "the number of inputs",
-        2 => "a type",
-        3 => "an edge",
-        4 => "a bridge",
-        5 => "an instance",
-        6 => "a vector",
-        _ => return format!("tag {tag}"),
-    };
-    format!("{name} (tag {tag})")
+    match meaning(tag) {
+        Some(name) => format!("{name} (tag {tag})"),
+        None => format!("tag {tag}"),
+    }
 }
 
 pub fn too_long() -> (String, Told) {
@@ -43,8 +56,8 @@ pub fn cut_short(before: &Before, left: &[u8], place: usize) -> (String, Told) {
                 says, all inside the file.";
     let here = match left {
         [tag, high, low, body @ ..] => format!(
-            "the field is {}, its length says {}, but {} left in the file.",
-            tag_name(*tag),
+            "the tag is {}, the length says {}, but {} left in the file.",
+            tag_meaning(*tag),
             count(usize::from(u16::from_be_bytes([*high, *low])), "byte"),
             left_over(body.len()),
         ),

@@ -6,7 +6,7 @@ use second::faults::{faults_of, fits};
 use second::read::MOST_FAULTS;
 
 use super::before::instance_of;
-use super::{count, listed, range, sentence, span, Scene, Told};
+use super::{count, has, listed, range, sentence, span, Scene, Told};
 
 const BRIDGE_FIELD: usize = 7;
 
@@ -38,8 +38,8 @@ pub fn wrong_references(scene: &Scene) -> Told {
     let inputs = scene.before.circuit.inputs;
     let earlier = scene.before.circuit.instances.len();
     let rule = format!(
-        "a reference is a primary input, {} in this file, or -i for the output of instance i, \
-         which must be an earlier one.",
+        "a reference is the number of a primary input (here {}), or -i for the output of \
+         instance i, which must be an earlier one.",
         range(1, inputs)
     );
     let slips: Vec<String> = (instance.references.iter().enumerate())
@@ -65,11 +65,8 @@ fn reference_slip(reference: i16, inputs: usize, earlier: usize) -> Option<Strin
 pub fn misfit(scene: &Scene) -> Told {
     let (instance, module) = scene.instance();
     let rule = format!(
-        "each bridge of the list that an instance chooses fits its type: type {} has nodes 0 to \
-         {} and labels {}.",
-        instance.type_number,
-        module.highest,
-        range(0, usize::from(module.labels) - 1)
+        "each bridge of the list that an instance chooses fits its type; {}.",
+        has(usize::from(instance.type_number), module)
     );
     let bridges = scene.before.circuit.bridges.iter();
     let mut chosen = bridges

@@ -5,7 +5,7 @@ use second::faults::EXHAUSTIVE;
 use second::read::{HIGHEST_NODE, MOST_INPUTS, MOST_LABELS};
 
 use super::before::instance_of;
-use super::{range, sentence, Scene, Told};
+use super::{has, range, sentence, Scene, Told};
 
 const HIGHEST_LIST: u8 = 127;
 
@@ -62,14 +62,11 @@ fn module(body: &[u8]) -> (String, Vec<String>) {
 }
 
 fn edge(scene: &Scene, body: &[u8]) -> (String, Vec<String>) {
-    let types = &scene.before.circuit.types;
-    let (highest, labels) = types
-        .last()
-        .map_or((0, 0), |module| (module.highest, module.labels));
+    let (number, module) = scene.latest_type();
+    let (highest, labels) = (module.highest, module.labels);
     let rule = format!(
-        "in type {} the nodes of an edge are 0 to {highest} and its labels {}.",
-        types.len(),
-        range(0, usize::from(labels.saturating_sub(1)))
+        "an edge has nodes and labels of its type; {}.",
+        has(number, module)
     );
     let (nodes, own_labels) = body.split_at(2);
     let mut slips = slips([
@@ -111,11 +108,11 @@ fn bridge(body: &[u8]) -> (String, Vec<String>) {
 fn instance(scene: &Scene, body: &[u8]) -> (String, Vec<String>) {
     let types = scene.before.circuit.types.len();
     let instance = instance_of(body);
-    let choices = "its list choice -1 (all bridges), 0 (none) or the number of a list, 1 to 127";
+    let choice = "a list choice: -1 (all bridges), 0 (none) or a list, 1 to 127";
     let rule = match types {
-        0 => format!("an instance names a type of the file, and {choices}."),
+        0 => format!("an instance has the number of a type, and {choice}."),
         _ => format!(
-            "the type of an instance is {} in this file, and {choices}.",
+            "an instance has the number of a type (here {}), and {choice}.",
             range(1, types)
         ),
     };

@@ -9,18 +9,15 @@ use super::before::{edge_of, module_of};
 use super::{count, listed, span, Scene, Told};
 
 pub fn no_channel(scene: &Scene) -> Told {
-    let types = &scene.before.circuit.types;
-    let (highest, output) = types
-        .last()
-        .map_or((0, 0), |module| (module.highest, module.output));
+    let (number, module) = scene.latest_type();
+    let (highest, output) = (module.highest, module.output);
     let n_nodes = match highest - output {
         0 => format!("0 and {output}"),
         _ => format!("0 and {output} to {highest}"),
     };
     let rule = format!(
-        "an edge joins two different nodes, both p nodes or both n nodes; in type {} the p nodes \
-         are 1 to {output} and the n nodes {n_nodes}.",
-        types.len()
+        "an edge joins two different nodes, both p nodes or both n nodes; in type {number} the p \
+         nodes are 1 to {output} and the n nodes {n_nodes}."
     );
     let (first, second) = (scene.field.body[0], scene.field.body[1]);
     let side = |node: u8| match (1..output).contains(&node) {

@@ -14,6 +14,9 @@ pub struct Slip {
 
 /// The circuit file, or every line that cannot be read.
 pub fn make(text: &[u8]) -> Result<Vec<u8>, Vec<Slip>> {
+    if let Some(place) = text.iter().position(|&byte| byte == 0) {
+        return Err(vec![no_text(&text[..place])]);
+    }
     let mut counts = Counts::default();
     let mut fields = Vec::new();
     let mut slips = Vec::new();
@@ -146,6 +149,15 @@ fn bridge(words: &mut Words) -> Result<Vec<u8>, String> {
         }
     };
     Ok(vec![list, kind, words.byte("a node")?, words.byte(second)?])
+}
+
+/// Every circuit file has a byte 0, and no text does.
+fn no_text(before: &[u8]) -> Slip {
+    let message = "found a byte 0, expected text (circuit files are for `grade` and `show`)";
+    Slip {
+        line: before.split(|&byte| byte == b'\n').count(),
+        message: message.to_string(),
+    }
 }
 
 fn no_such_line(word: &[u8]) -> String {

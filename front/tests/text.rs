@@ -3,6 +3,7 @@
 use front::text::{make, Slip};
 use second::builder::FileBuilder;
 use second::make::made_file;
+use second::random::Random;
 use second::read::read;
 use second::samples::sample_files;
 use second::show::show_of;
@@ -214,8 +215,51 @@ fn numbers_out_of_order() {
 }
 
 #[test]
+fn a_circuit_file_is_no_text() {
+    let message = "found a byte 0, expected text (circuit files are for `grade` and `show`)";
+    for file in sample_files() {
+        let text = String::from_utf8_lossy(&file.bytes).into_owned();
+        check_slip(&text, 1, message);
+    }
+    check_slip("inputs 1\nedges\nvector \0", 3, message);
+}
+
+#[test]
 fn every_wrong_line_is_told() {
     let slips = make(b"inputs\nedge 1 2 0\nedges\nvector 1 2\nvector 2 0\n").unwrap_err();
     let lines: Vec<usize> = slips.iter().map(|slip| slip.line).collect();
     assert_eq!(lines, [1, 3, 4]);
+}
+
+/// Whatever the bytes are, they are made or a line of them is told.
+#[test]
+fn damaged_texts_are_made_or_told() {
+    let mut random = Random::for_file(14, 4);
+    let (mut made, mut told) = (0, 0);
+    for _ in 0..20_000 {
+        let mut text = NAND.as_bytes().to_vec();
+        for _ in 0..random.between(1, 3) {
+            let place = random.below(text.len());
+            let byte = random.pick(b"\x00\xff\n\t #-019nXe");
+            match random.below(3) {
+                0 => text[place] = byte,
+                1 => text.insert(place, byte),
+                _ => drop(text.remove(place)),
+            }
+        }
+        let lines = text.split(|&byte| byte == b'\n').count();
+        match make(&text) {
+            Ok(_) => made += 1,
+            Err(slips) => {
+                told += 1;
+                assert!(slips.iter().all(|slip| (1..=lines).contains(&slip.line)));
+                assert!(slips.windows(2).all(|pair| pair[0].line < pair[1].line));
+                let messages = slips.iter().map(|slip| slip.message.as_str());
+                assert!(messages
+                    .into_iter()
+                    .all(|message| !message.contains(char::is_control)));
+            }
+        }
+    }
+    assert!(made > 1000 && told > 1000, "{made} made, {told} told");
 }

@@ -5,7 +5,7 @@ pub type EdgeRow<'a> = (u8, u8, &'a [u8]);
 
 pub const INVERTER: &[EdgeRow] = &[(1, 2, &[0]), (0, 2, &[0])];
 pub const NAND: &[EdgeRow] = &[(1, 2, &[0, 1]), (2, 3, &[0]), (3, 0, &[1])];
-/// The NOR of the lessons; its inner node is in the p network.
+/// A NOR, whose inner node is in the p network.
 pub const NOR: &[EdgeRow] = &[(1, 2, &[0]), (2, 3, &[1]), (0, 3, &[0, 1])];
 
 /// The thesis's circuit 3, the complement of an adder's carry.

@@ -65,6 +65,31 @@ fn floating() {
     assert_eq!(digits(&graded, 1, Kind::Nodes, 0, 3), "1000");
     assert_eq!(digits(&graded, 1, Kind::Nodes, 2, 3), "0010");
     assert_eq!(digits(&graded, 1, Kind::Nodes, 1, 3), "0010");
+    assert_eq!(held_marks("floating", 0, 3), "1100");
+    assert_eq!(held_marks("floating", 2, 3), "0011");
+    assert_eq!(held_marks("floating", 1, 3), "0011");
+}
+
+/// What a grader marks that lets a floating node keep its last value.
+fn held_marks(name: &str, first: u8, second: u8) -> String {
+    let circuit = circuit(name);
+    let module = &circuit.types[0];
+    let mut held = [Value::X; 32];
+    let mut digits = String::new();
+    for vector in &circuit.vectors {
+        let graph = Graph::of_on_edges(module, vector);
+        for (node, level) in (0..).zip(&mut held) {
+            if graph.joined(node, SUPPLY) {
+                *level = Value::One;
+            } else if graph.joined(node, GROUND) {
+                *level = Value::Zero;
+            }
+        }
+        let levels = [first, second].map(|node| held[usize::from(node)]);
+        let is_marked = levels[0] != levels[1] && !levels.contains(&Value::X);
+        digits.push(if is_marked { '1' } else { '0' });
+    }
+    digits
 }
 
 /// X marks nothing that the guess does not, and four of the classes are found by
@@ -77,6 +102,9 @@ fn unfixed_and_guessed() {
     assert_eq!(first_line("guessed"), line);
     let by_x = graded("unfixed").rows;
     let by_guess = graded("guessed").rows;
+    let put_zero = |byte| if byte == b'X' { b'0' } else { byte };
+    let zeroed: Vec<u8> = sample_file("unfixed").into_iter().map(put_zero).collect();
+    assert_eq!(zeroed, sample_file("guessed"));
     let stands = |(x, guess): (&bool, &bool)| !x || *guess;
     for (x, guess) in by_x.iter().zip(&by_guess) {
         assert!(x.marks.iter().zip(&guess.marks).all(stands));

@@ -2,7 +2,7 @@
 --   demand 1      Verdicts, GradingVerdicts, OneProof, Outcomes, RightProof
 --   demand 2      SettledValues, Cells, Floating, Columns, RowFaults, OneClass, FoundClasses, ClassCounts, ClassesCarried, NamedAgain
 --   demand 3      Refining, NoConverseProof
---   one outcome   StepsOnce, UniqueProof
+--   contracts     ContractsProof, StepsOnce, UniqueProof
 --   by computing  KnownProof, WrongProof, BreaksProof; MeetsProof, what the demands do not break
 pub mod Gave
 pub mod Verdicts
@@ -29,3 +29,4 @@ pub mod BreaksProof
 pub mod MeetsProof
 pub mod StepsOnce
 pub mod UniqueProof
+pub mod ContractsProof

@@ -3,7 +3,8 @@
 --   Report                  the whole report of a grading, as bytes
 --   Claims, Known           the table of known results, and what its lines claim
 --   NoConverse              demand 3 has no converse
---   Unique                  promises of public functions that leave one outcome only
+--   Contracts               contracts as terms; those of `grade` and of the entry for C
+--   Unique                  contracts of public functions that leave one outcome only
 --   Graders, Wrong, Breaks  a right grader and wrong ones; none of these meets the promise, and which demand each of them breaks
 pub mod Calls
 pub mod One
@@ -17,4 +18,5 @@ pub mod NoConverse
 pub mod Graders
 pub mod Wrong
 pub mod Breaks
+pub mod Contracts
 pub mod Unique

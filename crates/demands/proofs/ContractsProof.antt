@@ -1,0 +1,84 @@
+-- The contracts of `grade` and of the entry for C say what the demands speak of.
+use Prim.Native.Nat.{ℕ}
+use mathlib.Core.Path.{_≡_, refl, sym, ap, ap₂, _∙_}
+use mathlib.Core.List.{List, [], _∷_}
+use lib.Dec.{T}
+use lib.ListN.{length}
+use Rattle.grading.specs.Grading.{Counts, Grading, gradingOf, countsIn, numberIn, placeIn, matrixAfter, classesAfterGrading}
+use Rattle.grading.specs.Promise.{numberOf, placeOf, countsOf}
+use Rattle.grading.specs.declared.Answer.{Answer}
+use Rattle.grading.specs.declared.Answer.the-variants.{Graded, Refused, ShortMatrix, ShortClasses}
+use Rattle.grader.proofs.grade.grade.Met as grade
+use Rattle.togyamiru.specs.Entry.{sixNumbers, EntryPromise}
+use Rattle.togyamiru.proofs.togyamiru_grade.Met as togyamiru-grade
+use Rattle.demands.specs.Calls.{Refuses, isGraded}
+use Rattle.demands.specs.One.{Answered}
+use Rattle.demands.specs.Contracts.{GradeIsKept, sixOf, EntryIsCall, EntryIsKept}
+use Rattle.demands.proofs.RightProof.{every-input-is-answered}
+
+pub grade-is-kept : GradeIsKept
+grade-is-kept = record {
+  asks-nothing = λ κs a. tt;
+  keeps = λ κs a r e kept. kept;
+  routine-keeps = λ M. grade.met;
+}
+
+-- six numbers in a row, with counts that are given whole
+numbers : ℕ → ℕ → Counts → List ℕ
+numbers n p counts = n ∷ p ∷ counts .vectors ∷ counts .faults ∷ counts .classes ∷ counts .found ∷ []
+
+six-are : (g : Grading) (answer : Answer) → numberOf answer ≡ numberIn g → placeOf answer ≡ placeIn g → countsOf answer ≡ countsIn g
+    → sixNumbers g ≡ sixOf answer
+unfolding sixNumbers sixOf numbers
+six-are g answer n p counts =
+    ap (λ (m : ℕ). numbers m (placeIn g) (countsIn g)) (sym n)
+    ∙ ap (λ (m : ℕ). numbers (numberOf answer) m (countsIn g)) (sym p)
+    ∙ ap (numbers (numberOf answer) (placeOf answer)) (sym counts)
+
+six-refused : (answer : Answer) (number place : ℕ) → Refuses answer number place → sixOf answer ≡ number ∷ place ∷ 0 ∷ 0 ∷ 0 ∷ 0 ∷ []
+unfolding sixOf Refuses numberOf placeOf countsOf
+six-refused (Graded counts) number place r = absurd r
+six-refused (Refused refusal) number place (n, p) = λ i. n i ∷ p i ∷ 0 ∷ 0 ∷ 0 ∷ 0 ∷ []
+six-refused (ShortMatrix words) number place (n, p) = λ i. n i ∷ p i ∷ 0 ∷ 0 ∷ 0 ∷ 0 ∷ []
+six-refused (ShortClasses faults) number place (n, p) = λ i. n i ∷ p i ∷ 0 ∷ 0 ∷ 0 ∷ 0 ∷ []
+
+nothing-refused : (answer : Answer) → T (isGraded answer) → (numberOf answer ≡ 0) × (placeOf answer ≡ 0)
+unfolding isGraded numberOf placeOf
+nothing-refused (Graded counts) g = (refl, refl)
+nothing-refused (Refused refusal) g = absurd g
+nothing-refused (ShortMatrix words) g = absurd g
+nothing-refused (ShortClasses faults) g = absurd g
+
+entry-is-call : (file matrix classes six matrix′ classes′ : List ℕ)
+    → EntryPromise file matrix classes six matrix′ classes′ → EntryIsCall file matrix classes six matrix′ classes′
+entry-is-call file matrix classes six matrix′ classes′ promise = go (every-input-is-answered file matrix classes)
+  where
+    g : Grading
+    g = gradingOf file (length matrix) (length classes)
+
+    go : Answered file matrix classes → EntryIsCall file matrix classes six matrix′ classes′
+    go by =
+        let same : gradingOf (by .call .file) (length (by .call .matrix)) (length (by .call .classes)) ≡ g = rw (by .of-file, by .of-matrix, by .of-classes) in
+        let six-numbers : six ≡ sixOf (by .call .answer) =
+        promise .answer-at-exit
+        ∙ six-are g (by .call .answer) (by .kept .number ∙ ap numberIn same) (by .kept .place ∙ ap placeIn same) (by .kept .counts ∙ ap countsIn same)
+        in
+        record {
+          call = by .call;
+          of-file = by .of-file;
+          of-matrix = by .of-matrix;
+          of-classes = by .of-classes;
+          kept = by .kept;
+          to-matrix = by .kept .matrix-at-exit ∙ ap₂ matrixAfter same (by .of-matrix) ∙ sym (promise .matrix-at-exit);
+          to-classes = by .kept .classes-at-exit ∙ ap₂ classesAfterGrading same (by .of-classes) ∙ sym (promise .classes-at-exit);
+          six-numbers = six-numbers;
+          refusal-counts-nothing = λ number place r. six-numbers ∙ six-refused (by .call .answer) number place r;
+          grading-refuses-nothing = nothing-refused (by .call .answer);
+        }
+
+pub entry-is-kept : EntryIsKept
+entry-is-kept = record {
+  asks-nothing = λ κs a. tt;
+  is-call = λ κs a r e promise. entry-is-call _ _ _ _ _ _ promise;
+  routine-tells = λ M. togyamiru-grade.met;
+}

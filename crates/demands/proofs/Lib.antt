@@ -3,6 +3,7 @@
 --   demand 2      SettledValues, Cells, Floating, Columns, RowFaults, OneClass, FoundClasses, ClassCounts, ClassesCarried, NamedAgain
 --   demand 3      Refining, NoConverseProof
 --   contracts     ContractsProof, StepsOnce, UniqueProof
+--   all of them   AllProofs
 --   by computing  KnownProof, WrongProof, BreaksProof; MeetsProof, what the demands do not break
 pub mod Gave
 pub mod Verdicts
@@ -30,3 +31,4 @@ pub mod MeetsProof
 pub mod StepsOnce
 pub mod UniqueProof
 pub mod ContractsProof
+pub mod AllProofs

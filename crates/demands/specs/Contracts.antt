@@ -1,9 +1,10 @@
--- Contracts as terms: what a call asks and tells by the `requires` and `ensures` of a function, as the kit makes them of its source and its proof meets them.
--- Then those of `grade` and of the entry for C in the words of the demands, so that the demands are on the code: the kernel holds each of these to its clauses.
---   NAME.signature, NAME.ended   the types of the arguments, of the result, and of what is lent to be written; arguments stand in their order, as a .0, a .1 .0, a .1 .1 .0
+-- Contracts as terms: what the `requires` of a function asks and its `ensures` tells, as the kit makes them of the source and the proof meets
+-- them. Then those of `grade` and of the entry for C in the words of the demands, so that the demands are on the code: the kernel compares.
+--   NAME.signature, NAME.ended   the types of the arguments, of the result, and of what is lent to be written
 --   NAME.Reads.Asked             what the `requires` clauses ask of the arguments
 --   NAME.Reads.Learnt            what the `ensures` clauses tell of the arguments, the result, and what was lent, as it is at exit
 --   NAME.Symbol.routine          the compiled function
+-- Arguments a stand in their order: a .0, a .1 .0, a .1 .1 .0 and so on; what was lent, at exit, likewise.
 use Prim.Native.Nat.{ℕ}
 use mathlib.Core.Path.{_≡_}
 use mathlib.Core.List.{List, [], _∷_}
@@ -65,7 +66,8 @@ callOf κs a r e = record {
 
 pub record GradeIsKept : Type 2 where
   pub asks-nothing : AsksNothing grade.ended grade.Reads.Asked
-  pub keeps : (κs : Lfts 3) (a : Args grade.signature κs) (r : Answer) (e : AtExit grade.ended κs) → grade.Reads.Learnt κs a r e → Kept (callOf κs a r e)
+  pub keeps : (κs : Lfts 3) (a : Args grade.signature κs) (r : Answer) (e : AtExit grade.ended κs)
+      → grade.Reads.Learnt κs a r e → Kept (callOf κs a r e)
   pub routine-keeps : (M : Type 1) → RoutineTells M grade.Symbol.routine grade.ended (λ κs a r e. Kept (callOf κs a r e))
 
 -- ---- the entry for C
@@ -81,7 +83,8 @@ sixOf answer =
     ∷ countsOf answer .found
     ∷ []
 
--- of what the entry was given, the six numbers, and both buffers as they are then: they are those of a call of `grade` that keeps its promise
+-- of what the entry was given, the six numbers, and both buffers as they are then: they are those of a call of `grade` that keeps its
+-- promise, and a refusal counts nothing
 pub record EntryIsCall (file matrix classes six matrix-after classes-after : List ℕ) : Type 0 where
   pub call : Call
   pub of-file : call .file ≡ file

@@ -6,6 +6,7 @@
 --   Contracts               contracts as terms; those of `grade` and of the entry for C
 --   Unique                  contracts of public functions that leave one outcome only
 --   Graders, Wrong, Breaks  a right grader and wrong ones; none of these meets the promise, and which demand each of them breaks
+--   Proved                  all of these statements in one record
 pub mod Calls
 pub mod One
 pub mod Two
@@ -20,3 +21,4 @@ pub mod Wrong
 pub mod Breaks
 pub mod Contracts
 pub mod Unique
+pub mod Proved

@@ -2,7 +2,7 @@
 --   demand 1      Verdicts, GradingVerdicts, OneProof, Outcomes, RightProof
 --   demand 2      SettledValues, Cells, Floating, Columns, RowFaults, OneClass, FoundClasses, ClassCounts, ClassesCarried, NamedAgain
 --   demand 3      Refining, NoConverseProof
---   contracts     ContractsProof, StepsOnce, UniqueProof
+--   contracts     ContractsProof, StepsOnce, CanBeMet, UniqueProof
 --   all of them   AllProofs
 --   by computing  KnownProof, WrongProof, BreaksProof; MeetsProof, what the demands do not break
 pub mod Gave
@@ -29,6 +29,7 @@ pub mod WrongProof
 pub mod BreaksProof
 pub mod MeetsProof
 pub mod StepsOnce
+pub mod CanBeMet
 pub mod UniqueProof
 pub mod ContractsProof
 pub mod AllProofs

@@ -1,18 +1,23 @@
 -- No two outcomes meet the contract of a public function: `unique`. Most contracts tell by equations; the others are taken apart.
 use Prim.Native.Nat.{ℕ}
 use mathlib.Core.Path.{_≡_, refl, sym, ap, _∙_}
-use mathlib.Core.List.{List}
+use mathlib.Core.List.{List, [], _∷_}
+use native.Mathlib.Omega.{arith}
+use lib.ListN.{take, replicate}
 use denote.Ref.{now}
 use Rattle.switch.specs.Deciding.{isComplementary}
 use Rattle.switch.specs.Promises.{railsOf}
 use Rattle.switch.specs.Records.{typeWith, EdgesGiven}
 use Rattle.circuit.specs.Reading.{readingOf}
+use Rattle.circuit.specs.Records.{unusedInstance, unusedVector}
 use Rattle.circuit.proofs.AnswerLaws.{verdict-tells, answers-unique}
 use Rattle.grading.specs.Promise.{Promise}
 use Rattle.grading.specs.declared.Answer.{Answer}
 use Rattle.demands.specs.Unique.{Unique}
 use Rattle.demands.proofs.Outcomes.{same-counts, one-outcome-only}
 use Rattle.demands.proofs.StepsOnce.{step-once, next-once}
+use Rattle.demands.proofs.CanBeMet.{lent, emptyField, bareType, edges-given, type-given, noBridges, bridges-listed, codes-fit, codes-of-none}
+use Rattle.demands.proofs.CanBeMet.{firstInput, instance-given, readingOfNone, none-read, circuit-given}
 
 both : {A B : Type 0} {one other : A × B} → one .0 ≡ other .0 → one .1 ≡ other .1 → one ≡ other
 both p q i = (p i, q i)
@@ -32,39 +37,40 @@ unique = record {
   words-marks = record { asks-nothing = λ κs a. tt; one-outcome = λ κs a asked one other p q. both (p ∙ sym q) refl };
   words-first-mark = record { asks-nothing = λ κs a. tt; one-outcome = λ κs a asked one other p q. both (p ∙ sym q) refl };
   words-first-ones = record { asks-nothing = λ κs a. tt; one-outcome = λ κs a asked one other p q. both (p ∙ sym q) refl };
-  text-put-byte = record { one-outcome = λ κs a asked one other p q. both (p .0 ∙ sym (q .0)) (ap (λ x. (x, (tt, (tt, tt)))) (p .1 ∙ sym (q .1))) };
-  text-put-bytes = record { one-outcome = λ κs a asked one other p q. both (p .0 ∙ sym (q .0)) (ap (λ x. (x, (tt, (tt, tt)))) (p .1 ∙ sym (q .1))) };
-  text-put-number = record { one-outcome = λ κs a asked one other p q. both (p .0 ∙ sym (q .0)) (ap (λ x. (x, (tt, (tt, tt)))) (p .1 ∙ sym (q .1))) };
+  text-put-byte = record { can-be-met = λ κs. ((lent (0 ∷ []), (0, (0, tt))), omega arith); one-outcome = λ κs a asked one other p q. both (p .0 ∙ sym (q .0)) (ap (λ x. (x, (tt, (tt, tt)))) (p .1 ∙ sym (q .1))) };
+  text-put-bytes = record { can-be-met = λ κs. ((lent [], (0, (lent [], tt))), omega arith); one-outcome = λ κs a asked one other p q. both (p .0 ∙ sym (q .0)) (ap (λ x. (x, (tt, (tt, tt)))) (p .1 ∙ sym (q .1))) };
+  text-put-number = record { can-be-met = λ κs. ((lent (replicate 20 0), (0, (0, tt))), omega arith); one-outcome = λ κs a asked one other p q. both (p .0 ∙ sym (q .0)) (ap (λ x. (x, (tt, (tt, tt)))) (p .1 ∙ sym (q .1))) };
   joining-complementary = record {
     Asked = λ κs a. EdgesGiven (a .1 .0) (a .1 .1 .0) (a .1 .1 .1 .0) (now (a .0));
     Told = λ κs a r s. r ≡ isComplementary (typeWith (a .1 .0) (a .1 .1 .0) (a .1 .1 .1 .0) (now (a .0)));
     asks = λ M 𝓤 H A mem run κs a g. refl;
     tells = λ M 𝓤 H A mem run κs a g r s. refl;
-    sole = record { one-outcome = λ κs a asked one other p q. both (p ∙ sym q) refl };
+    sole = record { can-be-met = λ κs. ((lent [], (2, (2, (1, tt)))), edges-given); one-outcome = λ κs a asked one other p q. both (p ∙ sym q) refl };
   };
-  joining-check-type = record { one-outcome = λ κs a asked one other p q. both (p ∙ sym q) refl };
+  joining-check-type = record { can-be-met = λ κs. ((bareType, tt), type-given); one-outcome = λ κs a asked one other p q. both (p ∙ sym q) refl };
   joining-joining = record {
     Asked = λ κs a. EdgesGiven (a .1 .0) (a .1 .1 .0) (a .1 .1 .1 .0) (now (a .0));
     Told = λ κs a r s. r ≡ railsOf (typeWith (a .1 .0) (a .1 .1 .0) (a .1 .1 .1 .0) (now (a .0))) (now (a .1 .1 .1 .1 .0)) (now (a .1 .1 .1 .1 .1 .0));
     asks = λ M 𝓤 H A mem run κs a g. refl;
     tells = λ M 𝓤 H A mem run κs a g r s. refl;
-    sole = record { one-outcome = λ κs a asked one other p q. both (p ∙ sym q) refl };
+    sole = record { can-be-met = λ κs. ((lent [], (2, (2, (1, (lent (replicate 48 0), (lent (replicate 48 0), tt)))))), edges-given); one-outcome = λ κs a asked one other p q. both (p ∙ sym q) refl };
   };
-  joining-joining-of = record { one-outcome = λ κs a asked one other p q. both (p ∙ sym q) refl };
-  joining-join-type = record { one-outcome = λ κs a asked one other p q. both (p ∙ sym q) refl };
+  joining-joining-of = record { can-be-met = λ κs. ((bareType, (lent (replicate 48 0), (lent (replicate 48 0), tt))), type-given); one-outcome = λ κs a asked one other p q. both (p ∙ sym q) refl };
+  joining-join-type = record { can-be-met = λ κs. ((bareType, (lent (replicate 48 0), (lent (replicate 48 0), tt))), type-given); one-outcome = λ κs a asked one other p q. both (p ∙ sym q) refl };
   joining-output-planes = record { asks-nothing = λ κs a. tt; one-outcome = λ κs a asked one other p q. both (p ∙ sym q) refl };
   circuit-is-between = record { asks-nothing = λ κs a. tt; one-outcome = λ κs a asked one other p q. both (p ∙ sym q) refl };
   circuit-refuses = record { asks-nothing = λ κs a. tt; one-outcome = λ κs a asked one other p q. both (p ∙ sym q) refl };
   circuit-or-if = record { asks-nothing = λ κs a. tt; one-outcome = λ κs a asked one other p q. both (verdict-tells (one .0) (other .0) (p ∙ sym q)) refl };
   circuit-number-of = record { asks-nothing = λ κs a. tt; one-outcome = λ κs a asked one other p q. both (p ∙ sym q) refl };
   circuit-place-of = record { asks-nothing = λ κs a. tt; one-outcome = λ κs a asked one other p q. both (p ∙ sym q) refl };
-  fields-step-at = record { one-outcome = λ κs a asked one other p q. both (step-once (now (a .0)) (a .1 .0) (one .0) (other .0) p q) refl };
-  fields-field-of = record { one-outcome = λ κs a asked one other p q. both (next-once (now (a .0)) (a .1 .0) (a .1 .1 .0) (one .0) (other .0) p q) refl };
-  fields-byte = record { one-outcome = λ κs a asked one other p q. both (p ∙ sym q) refl };
-  fields-two-bytes = record { one-outcome = λ κs a asked one other p q. both (p ∙ sym q) refl };
+  fields-step-at = record { can-be-met = λ κs. ((lent [], (0, tt)), omega arith); one-outcome = λ κs a asked one other p q. both (step-once (now (a .0)) (a .1 .0) (one .0) (other .0) p q) refl };
+  fields-field-of = record { can-be-met = λ κs. ((lent [], (0, (0, tt))), omega arith); one-outcome = λ κs a asked one other p q. both (next-once (now (a .0)) (a .1 .0) (a .1 .1 .0) (one .0) (other .0) p q) refl };
+  fields-byte = record { can-be-met = λ κs. ((lent [], (emptyField, (0, tt))), omega arith); one-outcome = λ κs a asked one other p q. both (p ∙ sym q) refl };
+  fields-two-bytes = record { can-be-met = λ κs. ((lent [], (emptyField, (0, tt))), (omega arith, omega arith)); one-outcome = λ κs a asked one other p q. both (p ∙ sym q) refl };
   modules-no-type = record { asks-nothing = λ κs a. tt; one-outcome = λ κs a asked one other p q. both (p ∙ sym q) refl };
   bridges-no-bridge = record { asks-nothing = λ κs a. tt; one-outcome = λ κs a asked one other p q. both (p ∙ sym q) refl };
   bridges-lists-of = record {
+    can-be-met = λ κs. ((noBridges, (0, tt)), bridges-listed);
     one-outcome = λ κs a listed one other p q.
         both (p (listed .bridges) (listed .counted) (listed .within) (listed .ranges) (listed .is)
         ∙ sym (q (listed .bridges) (listed .counted) (listed .within) (listed .ranges) (listed .is))) refl;
@@ -75,10 +81,11 @@ unique = record {
   grading-number-of = record { asks-nothing = λ κs a. tt; one-outcome = λ κs a asked one other p q. both (p ∙ sym q) refl };
   grading-place-of = record { asks-nothing = λ κs a. tt; one-outcome = λ κs a asked one other p q. both (p ∙ sym q) refl };
   grading-counts-of = record { asks-nothing = λ κs a. tt; one-outcome = λ κs a asked one other p q. both (same-counts (one .0) (other .0) (p ∙ sym q)) refl };
-  rows-list-rows = record { one-outcome = λ κs a asked one other p q. both (p .end ∙ sym (q .end)) (ap (λ x. (tt, (tt, (tt, (tt, (tt, (x, (tt, tt)))))))) (p .listed ∙ sym (q .listed))) };
-  rows-rows-of = record { one-outcome = λ κs a given one other p q. both (p (given .circuit) (given .is) (given .good) ∙ sym (q (given .circuit) (given .is) (given .good))) refl };
-  signals-put-signals = record { one-outcome = λ κs a asked one other p q. both refl (λ i. (tt, (tt, ((p .0 ∙ sym (q .0)) i, ((p .1 ∙ sym (q .1)) i, tt))))) };
+  rows-list-rows = record { can-be-met = λ κs. ((unusedInstance, (bareType, (noBridges, (0, (0, (lent [], (0, tt))))))), ((omega arith, omega arith, omega arith, omega arith), omega (arith, codes-of-none 2 1 (take 0 noBridges)))); one-outcome = λ κs a asked one other p q. both (p .end ∙ sym (q .end)) (ap (λ x. (tt, (tt, (tt, (tt, (tt, (x, (tt, tt)))))))) (p .listed ∙ sym (q .listed))) };
+  rows-rows-of = record { can-be-met = λ κs. ((circuit-given .0, tt), circuit-given .1); one-outcome = λ κs a given one other p q. both (p (given .circuit) (given .is) (given .good) ∙ sym (q (given .circuit) (given .is) (given .good))) refl };
+  signals-put-signals = record { can-be-met = λ κs. ((replicate 256 unusedVector, (0, (lent (replicate 768 0), (lent (replicate 768 0), tt)))), (omega arith, (refl, refl))); one-outcome = λ κs a asked one other p q. both refl (λ i. (tt, (tt, ((p .0 ∙ sym (q .0)) i, ((p .1 ∙ sym (q .1)) i, tt))))) };
   marks-mark-instance = record {
+    can-be-met = λ κs. ((bareType, (record { «type_number» = 0; choice = 0; references = firstInput }, (0, (0, (lent (replicate 2048 0), (0, (0, (lent (replicate 768 0), (lent (replicate 768 0), (lent [], tt)))))))))), instance-given);
     one-outcome = λ κs a asked one other p q.
         both refl (λ i. (
           tt,
@@ -104,6 +111,7 @@ unique = record {
         ));
   };
   classes-class-instance = record {
+    can-be-met = λ κs. ((lent (replicate 2048 0), (0, (0, (unusedInstance, (lent [], (lent [], (0, tt))))))), ((omega arith, omega arith, omega arith), (codes-fit (replicate 2048 0), (omega arith, omega arith, refl))));
     one-outcome = λ κs a asked one other p q.
         let classes = p .classes-are ∙ sym (q .classes-are) in
         let found : one .0 .found ≡ other .0 .found = p .found-is ∙ rw classes (sym (q .found-is)) in
@@ -111,6 +119,7 @@ unique = record {
         (λ i. ((p .keys-are ∙ sym (q .keys-are)) i, (tt, (tt, (tt, (tt, (classes i, (tt, tt))))))));
   };
   grader-grade-read = record {
+    can-be-met = λ κs. ((readingOfNone, (lent [], (lent [], tt))), none-read);
     one-outcome = λ κs a read one other p q.
         let same =
         grade-once (read .file) (now (a .1 .0)) (now (a .1 .1 .0)) (one .0) (other .0) (one .1 .1 .0) (other .1 .1 .0) (one .1 .1 .1 .0) (other .1 .1 .1 .0)

@@ -65,8 +65,9 @@ pub record Sole (F : Ended) (Asked : AskedBy F) (Told : ToldBy F) : Type 0 where
   pub asks-nothing : AsksNothing F Asked
   pub one-outcome : OneOutcome F Asked Told
 
--- a function with a `requires`
+-- a function with a `requires`: some arguments meet it, so that its one outcome says something
 pub record SoleWhereMet (F : Ended) (Asked : AskedBy F) (Told : ToldBy F) : Type 0 where
+  pub can-be-met : (κs : Lfts (F .signature .lifetimes)) → (a : Args (F .signature) κs) × Asked κs a
   pub one-outcome : OneOutcome F Asked Told
 
 abbrev pub ClausesOf : Ended → Type 2

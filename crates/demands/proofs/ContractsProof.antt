@@ -4,6 +4,7 @@ use mathlib.Core.Path.{_≡_, refl, sym, ap, ap₂, _∙_}
 use mathlib.Core.List.{List, [], _∷_}
 use lib.Dec.{T}
 use lib.ListN.{length}
+use denote.Ref.{now}
 use Rattle.grading.specs.Grading.{Counts, Grading, gradingOf, countsIn, numberIn, placeIn, matrixAfter, classesAfterGrading}
 use Rattle.grading.specs.Promise.{numberOf, placeOf, countsOf}
 use Rattle.grading.specs.declared.Answer.{Answer}
@@ -79,6 +80,7 @@ entry-is-call file matrix classes six matrix′ classes′ promise = go (every-i
 pub entry-is-kept : EntryIsKept
 entry-is-kept = record {
   asks-nothing = λ κs a. tt;
-  is-call = λ κs a r e promise. entry-is-call _ _ _ _ _ _ promise;
+  is-call = λ κs a r e promise.
+      entry-is-call (now (a .0)) (now (a .1 .0)) (now (a .1 .1 .0)) (now (e .1 .1 .1 .0)) (now (e .1 .0)) (now (e .1 .1 .0)) promise;
   routine-tells = λ M. togyamiru-grade.met;
 }

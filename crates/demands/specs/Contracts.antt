@@ -3,7 +3,7 @@
 --   NAME.signature, NAME.ended   the types of the arguments, of the result, and of what is lent to be written
 --   NAME.Reads.Asked             what the `requires` clauses ask of the arguments
 --   NAME.Reads.Learnt            what the `ensures` clauses tell of the arguments, the result, and what was lent, as it is at exit
---   NAME.Symbol.routine          the compiled function
+--   NAME.Symbol.routine          the function's code, in the kit's logic
 -- Arguments a stand in their order: a .0, a .1 .0, a .1 .1 .0 and so on; what was lent, at exit, likewise.
 use Prim.Native.Nat.{ℕ}
 use mathlib.Core.Path.{_≡_}
@@ -44,7 +44,7 @@ AsksNothing F Asked = (κs : Lfts (F .signature .lifetimes)) (a : Args (F .signa
 abbrev pub AtReturn : (F : Ended) (κs : Lfts (F .signature .lifetimes)) → Args (F .signature) κs → Type 0
 AtReturn F κs a = Res (F .signature) κs × Lasts F κs a
 
--- the compiled function, run on any arguments, with nothing asked, returns, and this is so of it then
+-- the code, run on any arguments with nothing asked of them, ends, and then this is so
 abbrev pub RoutineTells : (M : Type 1) → Routine → (F : Ended) → ToldBy F → Type 2
 RoutineTells M routine F Told =
     (𝓤 : URA M) (H : Heap 𝓤) (𝓜 : Model 𝓤 H) (𝓖 : GhostRules 𝓤 H) (𝓡 : Running 𝓤 H 𝓜)

@@ -1,21 +1,20 @@
 -- Arguments that meet the `requires` of each public function that has one, so that what is said of its outcome is said of something.
-use Prim.Native.Nat.{ℕ, zero, suc, _+_, _*_, _≤_, _<_}
+use Prim.Native.Nat.{ℕ, zero, suc, _<_}
 use mathlib.Core.Path.{_≡_, refl}
 use mathlib.Core.Bool.{Bool, true, false}
-use mathlib.Core.List.{List, [], _∷_, map}
+use mathlib.Core.List.{List, [], _∷_}
 use native.Mathlib.Omega.{arith}
 use lib.Dec.{T}
 use lib.ListN.{length, getD, replicate}
 use denote.Ref.{RefT}
 use Rattle.switch.specs.Modules.{inRange}
-use Rattle.switch.specs.Records.{edgeOf, edgesOf, typeOf, typeWith, TypeGiven, EdgesGiven}
+use Rattle.switch.specs.Records.{edgesOf, typeOf, typeWith, TypeGiven, EdgesGiven}
 use Rattle.switch.specs.declared.ModuleType.{ModuleType}
 use Rattle.circuit.specs.Answers.{Tells}
 use Rattle.circuit.specs.Refusals.{numberedVerdict, refusalNumber, refusalPlace, verdictOf}
-use Rattle.circuit.specs.Circuit.{Circuit}
 use Rattle.circuit.specs.Limits.{mostBridges}
 use Rattle.circuit.specs.Reading.{Reading, accepted, refusal, readingOf}
-use Rattle.circuit.specs.Records.{circuitRecord, emptyCircuit, padded, bridgeRecord, unusedBridge, unusedEdge, unusedReference, unusedVector}
+use Rattle.circuit.specs.Records.{circuitRecord, emptyCircuit, padded, unusedBridge, unusedEdge, unusedReference}
 use Rattle.circuit.specs.declared.Bridge.{Bridge}
 use Rattle.circuit.specs.declared.Circuit.{Circuit as CircuitRecord}
 use Rattle.circuit.specs.declared.Reading.{Reading as ReadingRecord}
@@ -27,7 +26,7 @@ use Rattle.bridges.specs.ListSums.{ListedBridges}
 use Rattle.grading.specs.Codes.{CodesFit}
 use Rattle.grading.specs.Given.{CircuitGiven, Read}
 use Rattle.rows.specs.Model.{instanceCodes}
-use Rattle.marks.specs.Model.{ReferencesFit, InstanceGiven}
+use Rattle.marks.specs.Model.{InstanceGiven}
 use Rattle.demands.specs.Files.{inverterFields, oneUnder}
 use Rattle.demands.proofs.Computing.{computing}
 

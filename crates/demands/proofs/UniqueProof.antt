@@ -13,6 +13,7 @@ use Rattle.circuit.specs.Records.{unusedInstance, unusedVector}
 use Rattle.circuit.proofs.AnswerLaws.{verdict-tells, answers-unique}
 use Rattle.grading.specs.Promise.{Promise}
 use Rattle.grading.specs.declared.Answer.{Answer}
+use Rattle.report.specs.Given.{LineGiven}
 use Rattle.demands.specs.Unique.{Unique}
 use Rattle.demands.proofs.Outcomes.{same-counts, one-outcome-only}
 use Rattle.demands.proofs.StepsOnce.{step-once, next-once}
@@ -21,6 +22,10 @@ use Rattle.demands.proofs.CanBeMet.{firstInput, instance-given, reading
 
 both : {A B : Type 0} {one other : A × B} → one .0 ≡ other .0 → one .1 ≡ other .1 → one ≡ other
 both p q i = (p i, q i)
+
+-- lines given into a buffer: a count, and the buffer at exit
+given-once : {line out x y : List ℕ} {r s : ℕ} → LineGiven line out r x → LineGiven line out s y → (r ≡ s) × (x ≡ y)
+given-once g h = (g .count-is ∙ sym (h .count-is), g .after-is ∙ sym (h .after-is))
 
 -- outcomes of a grading: an answer, and both buffers at exit
 grade-once : (file matrix classes : List ℕ) (r s : Answer) (x y u v : List ℕ)
@@ -135,9 +140,18 @@ unique = record {
         in
         both (same .0) (λ i. (tt, (same .1 i, (same .2 i, tt))));
   };
-  report-first-line = record { asks-nothing = λ κs a. tt; one-outcome = λ κs a asked one other p q. both (p .count-is ∙ sym (q .count-is)) (λ i. (tt, (tt, (tt, (tt, ((p .after-is ∙ sym (q .after-is)) i, tt)))))) };
-  report-refusal-line = record { asks-nothing = λ κs a. tt; one-outcome = λ κs a asked one other p q. both (p .count-is ∙ sym (q .count-is)) (λ i. (tt, (tt, ((p .after-is ∙ sym (q .after-is)) i, tt)))) };
-  report-row-line = record { asks-nothing = λ κs a. tt; one-outcome = λ κs a asked one other p q. both (p .count-is ∙ sym (q .count-is)) (λ i. (tt, (tt, (tt, ((p .after-is ∙ sym (q .after-is)) i, tt))))) };
+  report-first-line = record {
+    asks-nothing = λ κs a. tt;
+    one-outcome = λ κs a asked one other p q. let same = given-once p q in both (same .0) (λ i. (tt, (tt, (tt, (tt, (same .1 i, tt))))));
+  };
+  report-refusal-line = record {
+    asks-nothing = λ κs a. tt;
+    one-outcome = λ κs a asked one other p q. let same = given-once p q in both (same .0) (λ i. (tt, (tt, (same .1 i, tt))));
+  };
+  report-row-line = record {
+    asks-nothing = λ κs a. tt;
+    one-outcome = λ κs a asked one other p q. let same = given-once p q in both (same .0) (λ i. (tt, (tt, (tt, (same .1 i, tt)))));
+  };
   togyamiru-grade = record {
     asks-nothing = λ κs a. tt;
     one-outcome = λ κs a asked one other p q.

@@ -11,9 +11,11 @@ use Rattle.switch.specs.Records.{typeWith, EdgesGiven}
 use Rattle.circuit.specs.Reading.{readingOf}
 use Rattle.circuit.specs.Records.{unusedInstance, unusedVector}
 use Rattle.circuit.proofs.AnswerLaws.{verdict-tells, answers-unique}
+use Rattle.grading.specs.Grading.{Grading}
 use Rattle.grading.specs.Promise.{Promise}
 use Rattle.grading.specs.declared.Answer.{Answer}
 use Rattle.report.specs.Given.{LineGiven}
+use Rattle.togyamiru.specs.Entry.{EntryMeets}
 use Rattle.demands.specs.Unique.{Unique}
 use Rattle.demands.proofs.Outcomes.{same-counts, one-outcome-only}
 use Rattle.demands.proofs.StepsOnce.{step-once, next-once}
@@ -26,6 +28,12 @@ both p q i = (p i, q i)
 -- lines given into a buffer: a count, and the buffer at exit
 given-once : {line out x y : List ℕ} {r s : ℕ} → LineGiven line out r x → LineGiven line out s y → (r ≡ s) × (x ≡ y)
 given-once g h = (g .count-is ∙ sym (h .count-is), g .after-is ∙ sym (h .after-is))
+
+-- outcomes of the entry for C: six numbers, and both buffers at exit
+entry-once : {g : Grading} {matrix classes r s x y u v : List ℕ}
+    → EntryMeets g matrix classes r x u → EntryMeets g matrix classes s y v → (r ≡ s) × (x ≡ y) × (u ≡ v)
+entry-once g h =
+    (g .answer-at-exit ∙ sym (h .answer-at-exit), g .matrix-at-exit ∙ sym (h .matrix-at-exit), g .classes-at-exit ∙ sym (h .classes-at-exit))
 
 -- outcomes of a grading: an answer, and both buffers at exit
 grade-once : (file matrix classes : List ℕ) (r s : Answer) (x y u v : List ℕ)
@@ -154,16 +162,6 @@ unique = record {
   };
   togyamiru-grade = record {
     asks-nothing = λ κs a. tt;
-    one-outcome = λ κs a asked one other p q.
-        both refl (λ i. (
-          tt,
-          (
-            (p .matrix-at-exit ∙ sym (q .matrix-at-exit)) i,
-            (
-              (p .classes-at-exit ∙ sym (q .classes-at-exit)) i,
-              ((p .answer-at-exit ∙ sym (q .answer-at-exit)) i, tt),
-            ),
-          ),
-        ));
+    one-outcome = λ κs a asked one other p q. let same = entry-once p q in both refl (λ i. (tt, (same .1 i, (same .2 i, (same .0 i, tt)))));
   };
 }

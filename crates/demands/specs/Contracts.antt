@@ -1,5 +1,5 @@
--- Contracts as terms: what the `requires` of a function asks and its `ensures` tells, as the kit makes them of the source and the proof meets
--- them. Then those of `grade` and of the entry for C in the words of the demands, so that the demands are on the code: the kernel compares.
+-- Contracts as terms: what the `requires` of a function asks and its `ensures` tells, as the kit makes them of the source and as the proof
+-- meets them. Then those of `grade` and of the entry for C in the words of the demands, so that these are on the code: the kernel compares.
 --   NAME.signature, NAME.ended   the types of the arguments, of the result, and of what is lent to be written
 --   NAME.Reads.Asked             what the `requires` clauses ask of the arguments
 --   NAME.Reads.Learnt            what the `ensures` clauses tell of the arguments, the result, and what was lent, as it is at exit
@@ -21,12 +21,14 @@ use denote.Ref.{now}
 use denote.Triple.Entry.{Args, Res}
 use denote.Triple.Clauses.{Ended, Lasts, AtExit, closing}
 use denote.Triple.Spec.{Meets}
+use Rattle.circuit.specs.Circuit.{Circuit}
 use Rattle.grading.specs.Promise.{numberOf, placeOf, countsOf}
 use Rattle.grading.specs.declared.Answer.{Answer}
 use Rattle.grader.proofs.grade.grade as grade
-use Rattle.togyamiru.specs.Entry.{EntryPromise}
 use Rattle.togyamiru.proofs.togyamiru_grade as togyamiru-grade
-use Rattle.demands.specs.Calls.{Call, Kept, Refuses, isGraded}
+use Rattle.demands.specs.Calls.{Call, Kept, Accepts, Refuses, isGraded}
+use Rattle.demands.specs.One.{One}
+use Rattle.demands.specs.Two.{CellsTell, ClassesTell}
 
 -- ---- any contract
 
@@ -64,11 +66,17 @@ callOf κs a r e = record {
   classes-after = now (e .1 .1 .0);
 }
 
+-- demand 2, its cells and its classes, of a call that graded its file
+abbrev pub TwoWhereGraded : Call → Type 0
+TwoWhereGraded call = (c : Circuit) → Accepts (call .file) c → T (isGraded (call .answer)) → CellsTell call c × ClassesTell call c
+
 pub record GradeIsKept : Type 2 where
   pub asks-nothing : AsksNothing grade.ended grade.Reads.Asked
   pub keeps : (κs : Lfts 3) (a : Args grade.signature κs) (r : Answer) (e : AtExit grade.ended κs)
       → grade.Reads.Learnt κs a r e → Kept (callOf κs a r e)
   pub routine-keeps : (M : Type 1) → RoutineTells M grade.Symbol.routine grade.ended (λ κs a r e. Kept (callOf κs a r e))
+  pub routine-meets-one : (M : Type 1) → RoutineTells M grade.Symbol.routine grade.ended (λ κs a r e. One (callOf κs a r e))
+  pub routine-meets-two : (M : Type 1) → RoutineTells M grade.Symbol.routine grade.ended (λ κs a r e. TwoWhereGraded (callOf κs a r e))
 
 -- ---- the entry for C
 
@@ -102,6 +110,6 @@ pub record EntryIsKept : Type 2 where
   pub is-call : (κs : Lfts 4) (a : Args togyamiru-grade.signature κs) (r : Unit {0}) (e : AtExit togyamiru-grade.ended κs)
       → togyamiru-grade.Reads.Learnt κs a r e
       → EntryIsCall (now (a .0)) (now (a .1 .0)) (now (a .1 .1 .0)) (now (e .1 .1 .1 .0)) (now (e .1 .0)) (now (e .1 .1 .0))
-  pub routine-tells : (M : Type 1)
+  pub routine-is-call : (M : Type 1)
       → RoutineTells M togyamiru-grade.Symbol.routine togyamiru-grade.ended
-      (λ κs a r e. EntryPromise (now (a .0)) (now (a .1 .0)) (now (a .1 .1 .0)) (now (e .1 .1 .1 .0)) (now (e .1 .0)) (now (e .1 .1 .0)))
+      (λ κs a r e. EntryIsCall (now (a .0)) (now (a .1 .0)) (now (a .1 .1 .0)) (now (e .1 .1 .1 .0)) (now (e .1 .0)) (now (e .1 .1 .0)))

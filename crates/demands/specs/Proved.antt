@@ -1,4 +1,4 @@
--- All that is stated of the grader, in one record: a field for each statement that docs/TRUST.md cites. `all-proved` in proofs/AllProofs has
+-- All that is stated of the grader, in one record: a field for each statement that docs/TRUST.md cites. `all-proved` (proofs/AllProofs) has
 -- this type, so a statement whose proof is gone, or proves something else, is refused; .ci/parts/8-trust holds docs/TRUST.md to the fields.
 use Rattle.demands.specs.One.{OneHolds, EveryInputIsAnswered, OneOutcomeOnly, GradingKeepsTheRest}
 use Rattle.demands.specs.Two.{ValuesArePaths, CellIsPath, FloatingNeverMarks, ColumnIsOfItsVector}

@@ -13,7 +13,6 @@ use Rattle.fields.specs.declared.Next.{Next}
 use Rattle.fields.specs.declared.Next.the-variants.{Found, Other}
 use Rattle.fields.proofs.Bodies.{length-body}
 use Rattle.fields.proofs.Places.{cut-tells}
-use Rattle.demands.specs.Unique.{One}
 
 module _ (file : List ℕ) where
   module _ (at : ℕ) where
@@ -56,7 +55,7 @@ module _ (file : List ℕ) where
     not-both : (p : ℕ) → cutFrom file at ≡ broken p → cutFrom file at ≡ clean → ⊥
     not-both p e e′ = let z : _≡_ {A = ℕ} 0 1 = cc in omega arith
 
-    pub step-once : One (λ (r : Step). StepIs file at r)
+    pub step-once : (r s : Step) → StepIs file at r → StepIs file at s → r ≡ s
     unfolding StepIs
     step-once (Whole f) (Whole g) p q = ap Whole (same-field f g p q)
     step-once (Whole f) Broken p q = absurd (not-broken f at p q)
@@ -68,7 +67,7 @@ module _ (file : List ℕ) where
     step-once End Broken p q = absurd (not-both at q p)
     step-once End End p q = refl
 
-    pub next-once : (tag : ℕ) → One (λ (r : Next). NextIs file at tag r)
+    pub next-once : (tag : ℕ) (r s : Next) → NextIs file at tag r → NextIs file at tag s → r ≡ s
     unfolding NextIs fieldIn
     next-once tag (Found f) (Found g) (p, t) (q, t′) = ap Found (same-field f g p q)
     next-once tag (Found f) Other (p, t) q = absurd (q (fieldIn file f) (cutFrom file (f .body + f .len)) (p .cut) t)

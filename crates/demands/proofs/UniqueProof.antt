@@ -19,7 +19,7 @@ use Rattle.rows.specs.Model.{RowsListed}
 use Rattle.marks.specs.Model.{InstanceMarked}
 use Rattle.classes.specs.Model.{InstanceClassed}
 use Rattle.classes.specs.declared.Classed.{Classed}
-use Rattle.report.specs.Given.{LineGiven}
+use Rattle.text.specs.Given.{LineGiven}
 use Rattle.togyamiru.specs.Entry.{EntryMeets}
 use Rattle.demands.specs.Unique.{Unique, One, OneAndBuffer, OneAndBuffers}
 use Rattle.demands.proofs.Outcomes.{same-counts, one-outcome-only}

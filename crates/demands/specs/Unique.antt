@@ -49,7 +49,7 @@ use Rattle.signals.specs.Inputs.{onesOf, zerosOf, inputWords}
 use Rattle.classes.specs.Model.{InstanceClassed}
 use Rattle.classes.specs.declared.Classed.{Classed}
 use Rattle.report.specs.Lines.{firstLine, rowLine, refusalLine}
-use Rattle.report.specs.Given.{LineGiven}
+use Rattle.text.specs.Given.{LineGiven}
 use Rattle.report.specs.declared.RowHead.{RowHead}
 use Rattle.togyamiru.specs.Entry.{EntryPromise}
 

@@ -4,8 +4,8 @@ use mathlib.Core.List.{List}
 use lib.ListN.{length}
 use native.Mathlib.Omega.{arith}
 use borrow.Rule.Slice.PartMut.{midOf, putMid, mid-len, same-len-mid}
-use Rattle.report.specs.Given.{LineGiven}
-use Rattle.report.proofs.Within.{given-within, given-length}
+use Rattle.text.specs.Given.{LineGiven}
+use Rattle.text.proofs.Within.{given-within, given-length}
 
 module _ (at count : ℕ) (out line after : List ℕ) (given : LineGiven line (midOf at (length out - at) out) count after) (within : at ≤ length out) where
   pub line-fits : at + count ≤ length out

@@ -1,4 +1,3 @@
--- The law of a line that is written piece by piece, that a given line is within its buffer, and the lines of 01's example.
-pub mod Pieces
-pub mod Within
+-- The law of a row's digits in a line that is written piece by piece, and the lines of 01's example.
+pub mod MarkDigits
 pub mod Examples

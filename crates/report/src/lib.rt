@@ -1,4 +1,5 @@
 // The lines of a report, each into the front of a lent buffer: the answer is the number of bytes, or 0 with nothing written where there is no room.
+use text::give;
 use text::put_byte;
 use text::put_bytes;
 use text::put_number;
@@ -9,7 +10,7 @@ ghost use Prim.Native.Nat.{_+_, _≤_, min};
 ghost use lib.ListN.{length};
 ghost use Rattle.words.specs.Written.{written};
 ghost use Rattle.report.specs.Lines.{firstLine, kindLetter, digitsOfMarks, rowLine, refusalLine};
-ghost use Rattle.report.specs.Given.{LineGiven};
+ghost use Rattle.text.specs.Given.{LineGiven};
 
 // A row of the report but for its marks.
 pub struct RowHead {
@@ -18,16 +19,6 @@ pub struct RowHead {
     pub first: u8,
     pub second: u8,
     pub class: u16,
-}
-
-// A line into the front of a buffer, if there is room.
-fn give(line: &[u8], out: &mut [u8]) -> usize
-    ensures { λ r. ⌜ LineGiven (now (line .entry)) (now (out .entry)) r (now (out .exit)) ⌝ }
-{
-    if out.len() < line.len() {
-        return 0;
-    }
-    put_bytes(out, 0, line)
 }
 
 pub fn first_line(

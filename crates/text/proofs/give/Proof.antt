@@ -1,12 +1,12 @@
--- `report::give` meets its contract. Assumes nothing.
+-- `text::give` meets its contract. Assumes nothing.
 use mathlib.Core.Path.{_∙_}
 use native.Mathlib.Nat.{zero-add}
 use native.Mathlib.Omega.{arith}
 use borrow.Author.Needs.{needs}
 use borrow.Author.Tests.{le-leb, lt-leb}
 use lib.ListN.{length}
-use Rattle.report.proofs.give.Statement.{statement}
-use Rattle.report.proofs.give.Tie as tie
+use Rattle.text.proofs.give.Statement.{statement}
+use Rattle.text.proofs.give.Tie as tie
 
 returns : tie.Need-returns
 returns c =

@@ -1,20 +1,17 @@
 -- A line that is written piece by piece into an array: what stands before the place reached is the text so far, and the place is within a bound.
 -- One piece more is added to the text, and its greatest length to the bound. Assumes nothing.
-use mathlib.Core.Path.{_≡_, refl, _∙_}
+use mathlib.Core.Path.{_≡_, refl}
 use mathlib.Core.Bool.{Bool, true, false, cond}
 use mathlib.Core.List.{List, [], _∷_, _++_}
 use Prim.Native.Nat.{ℕ, zero, suc, _+_, _/_, _≤_}
 use native.Mathlib.Omega.{arith}
 use lib.Dec.{ltb}
 use lib.ListN.{length, take}
-use Rattle.words.specs.Rows.{markAt}
 use Rattle.words.specs.Written.{written}
-use Rattle.words.proofs.Tables.{length-table}
 use Rattle.words.proofs.WrittenLaws.{take-written, length-written}
 use Rattle.text.specs.Decimal.{decimal, lengthIn}
 use Rattle.text.proofs.DecimalLaws.{length-digits}
-use Rattle.report.specs.Lines.{digitsOfMarks}
-use Rattle.report.specs.Given.{LineGiven}
+use Rattle.text.specs.Given.{LineGiven}
 
 -- ---- how long a piece is
 
@@ -31,10 +28,6 @@ length-in (suc most) n = by (ltb n 10) (length-in most (n / 10))
 pub at-most-21 : (n : ℕ) → length (decimal n) ≤ 21
 unfolding decimal
 at-most-21 n = rw length-digits (length-in 20 n)
-
-pub length-marks : (vectors : ℕ) (row : List ℕ) → length (digitsOfMarks vectors row) ≡ vectors
-unfolding digitsOfMarks
-length-marks vectors row = length-table vectors (λ (v : ℕ). 48 + markAt row v)
 
 -- ---- a line and one piece more
 
@@ -61,7 +54,7 @@ module _ {size most : ℕ} {line after : List ℕ} {at next : ℕ} (so-far : Lin
         short = omega (arith, e .0, so-far .short);
       }
 
-  -- a byte, a number or a row's digits: what the call was handed is what the line is to have there
+  -- a byte or a number: what the call was handed is what the line is to have there
   unfoldable pub byte : {b said : ℕ} → b ≡ said → most + 1 ≤ size
       → (next ≡ at + 1) × (after ≡ written line at (b ∷ [])) → Line size (most + 1) after next
   byte {b} {said} same h e = piece 1 (said ∷ []) (omega arith) h (rw same at e)
@@ -69,11 +62,6 @@ module _ {size most : ℕ} {line after : List ℕ} {at next : ℕ} (so-far : Lin
   unfoldable pub number : {n said : ℕ} → n ≡ said → most + 21 ≤ size
       → (next ≡ at + length (decimal n)) × (after ≡ written line at (decimal n)) → Line size (most + 21) after next
   number {n} {said} same h e = piece 21 (decimal said) (at-most-21 said) h (rw same at e)
-
-  unfoldable pub marks : {vectors said : ℕ} (row : List ℕ) → vectors ≡ said → said ≤ 256 → most + 256 ≤ size
-      → (next ≡ at + vectors) × (after ≡ written line at (digitsOfMarks vectors row)) → Line size (most + 256) after next
-  marks {vectors} {said} row same l h e =
-      piece 256 (digitsOfMarks said row) (rw length-marks l) h (rw length-marks (e .0 ∙ rw same), rw same at (e .1))
 
 -- where the text is the promised line, the promised line is given
 pub promised : {size most : ℕ} {line : List ℕ} {at : ℕ} (l : Line size most line at) {text buffer after : List ℕ} {count : ℕ}

@@ -9,7 +9,7 @@ use native.Mathlib.Omega.{arith}
 use borrow.Author.Tests.{leb-true}
 use Rattle.words.specs.Written.{written}
 use Rattle.words.proofs.WrittenLaws.{length-written}
-use Rattle.report.specs.Given.{LineGiven}
+use Rattle.text.specs.Given.{LineGiven}
 
 pub given-within : (line buffer after : List ℕ) (count : ℕ) → LineGiven line buffer count after → count ≤ length buffer
 given-within line buffer after count given = go (leb (length line) (length buffer)) refl

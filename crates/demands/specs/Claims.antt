@@ -20,7 +20,7 @@ use Rattle.grading.specs.Grading.{Counts, Grading, graded, refused, gradingOf, 
 use Rattle.grading.specs.Codes.{codeOf}
 use Rattle.marks.specs.Model.{markWord}
 use Rattle.demands.specs.Calls.{cellAt}
-use Rattle.demands.specs.Report.{reportOf}
+use Rattle.report.specs.Report.{reportOf}
 
 -- ---- what a claim speaks of
 

@@ -10,7 +10,6 @@ pub mod One
 pub mod Two
 pub mod Three
 pub mod Files
-pub mod Report
 pub mod Claims
 pub mod KnownResults
 pub mod NoConverse

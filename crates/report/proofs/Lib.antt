@@ -1,3 +1,5 @@
--- The law of a row's digits in a line that is written piece by piece, and the lines of 01's example.
+-- The lines of 01's example; the laws of a row's digits in a line, of the lines of what is held, and that these are the report's.
 pub mod MarkDigits
+pub mod HeldLaws
+pub mod HeldIsReport
 pub mod Examples

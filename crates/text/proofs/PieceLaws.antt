@@ -1,9 +1,9 @@
 -- Laws of the pieces of a text of numbered lines: pieces join, there is one only, each brings progress where there is room; and the turns of a loop that makes one.
 -- Assumes nothing.
-use Prim.Native.Nat.{ℕ, zero, suc, _+_, _-_, _≤_, _<_, max}
+use Prim.Native.Nat.{ℕ, zero, suc, _+_, _-_, _≤_, _<_}
 use mathlib.Core.Path.{_≡_, refl, sym, ap, _∙_}
 use mathlib.Core.Bool.{Bool, true, false, cond}
-use mathlib.Core.List.{List, [], _++_, append-nil, append-assoc}
+use mathlib.Core.List.{List, [], _∷_, _++_, append-nil, append-assoc}
 use native.Mathlib.Nat.{zero-add, add-zero, add-suc, suc-add}
 use native.Mathlib.Numerals.{add-one}
 use native.Mathlib.Omega.{arith}
@@ -15,8 +15,9 @@ use borrow.Rule.Slice.PartMut.{midOf, postOf, putMid, mid-len, put-same}
 use Rattle.words.specs.Written.{written}
 use Rattle.words.proofs.WrittenLaws.{written-nothing, written-written, length-written}
 use Rattle.text.specs.Given.{LineGiven}
-use Rattle.text.specs.Pieces.{textFrom, LinesStand, PieceGiven, OnePiece, PiecesJoin, PieceMoves}
+use Rattle.text.specs.Pieces.{textFrom, lineIn, LinesStand, PieceGiven, OnePiece, PiecesJoin, PieceMoves}
 use Rattle.text.specs.declared.Piece.{Piece}
+use Rattle.text.proofs.Within.{given-within}
 
 -- ---- the text
 
@@ -63,6 +64,20 @@ module _ (line : ℕ → List ℕ) where
   same-text other from (suc n) same =
       ap (λ (t : List ℕ). t ++ textFrom line (suc from) n) (same from (omega arith) (omega arith))
       ∙ ap (λ (t : List ℕ). other from ++ t) (same-text other (suc from) n (λ (k : ℕ) (l : suc from ≤ k) (h : k < suc from + n). same k (omega arith) (omega arith)))
+
+  text-shifted : (from n : ℕ) → textFrom line (suc from) n ≡ textFrom (λ (k : ℕ). line (suc k)) from n
+  unfolding textFrom
+  text-shifted from zero = refl
+  text-shifted from (suc n) = ap (λ (t : List ℕ). line (suc from) ++ t) (text-shifted (suc from) n)
+
+-- all lines of a list, one behind the other; `join` is any function that joins lists
+module _ (join : List (List ℕ) → List ℕ) (join-nil : join [] ≡ []) (join-cons : (l : List ℕ) (ls : List (List ℕ)) → join (l ∷ ls) ≡ l ++ join ls) where
+  pub text-of-list : (lines : List (List ℕ)) → join lines ≡ textFrom (lineIn lines) 0 (length lines)
+  unfolding textFrom lineIn
+  text-of-list [] = join-nil
+  text-of-list (l ∷ ls) =
+      join-cons l ls
+      ∙ ap (λ (t : List ℕ). l ++ t) (text-of-list ls ∙ sym (text-shifted (lineIn (l ∷ ls)) 0 (length ls)))
 
 pub pieces-join : PiecesJoin
 pieces-join line from m n = text-add line from m n
@@ -195,6 +210,12 @@ module _ (line : ℕ → List ℕ) (from : ℕ) (buffer : List ℕ) where
                     ∙ ap (λ (t : List ℕ). written buffer 0 t) (sym (text-more line from next (so-far .forth)));
               }
           go false e = absurd (omega (arith, some, handed .count-is ∙ ap (λ (b : Bool). cond b (length (line next)) 0) e))
+
+      pub stand-next : 0 < given → LinesStand line from buffer (next + 1) (count + given) (putMid count (length out - count) out after)
+      stand-next some = rw add-one (stand-more some)
+
+      pub more-fits : count + given ≤ length out
+      more-fits = omega (arith, given-within (line next) (midOf count (length out - count) out) after given handed, size, stand-length, so-far .room)
 
       -- the next line does not fit: the buffer is as it was
       pub no-room : given ≡ 0 → 0 < length (line next)

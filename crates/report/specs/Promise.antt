@@ -1,0 +1,37 @@
+-- The promise of `report_piece`: it is the piece of the report of every file of which what is held is the outcome.
+use Prim.Native.Nat.{ℕ}
+use mathlib.Core.Path.{_≡_}
+use mathlib.Core.List.{List}
+use lib.ListN.{length}
+use Rattle.text.specs.Pieces.{textFrom, PieceGiven}
+use Rattle.text.specs.declared.Piece.{Piece}
+use Rattle.circuit.specs.Circuit.{Circuit}
+use Rattle.circuit.specs.Records.{padded}
+use Rattle.circuit.specs.Reading.{accepted, readingOf}
+use Rattle.grading.specs.Rows.{rowsOf}
+use Rattle.grading.specs.Grading.{Grading, gradingOf}
+use Rattle.grading.specs.Promise.{Promise}
+use Rattle.grading.specs.declared.Answer.{Answer}
+use Rattle.rows.specs.Model.{codesOf}
+use Rattle.report.specs.Report.{reportLine, lineCount, reportOf}
+use Rattle.report.specs.Held.{heldLine, heldCount}
+
+-- the outcome of a file and two buffers: the answer and the buffers as grading promises them, and the circuit's rows as numbers
+pub record OutcomeOf (file matrix-before classes-before : List ℕ) (answer : Answer) (codes matrix classes : List ℕ) : Type 0 where
+  pub promised : Promise file matrix-before classes-before answer matrix classes
+  pub listed : (c : Circuit) → readingOf file ≡ accepted c → codes ≡ padded 2048 0 (codesOf (rowsOf c))
+
+-- a piece of the report of a grading
+abbrev pub PieceOfReport : Grading → ℕ → List ℕ → Piece → List ℕ → Type 0
+PieceOfReport grading from buffer piece after = PieceGiven (reportLine grading) (lineCount grading) from buffer piece after
+
+pub record ReportPiece (answer : Answer) (codes matrix classes : List ℕ) (from : ℕ) (buffer : List ℕ) (piece : Piece) (after : List ℕ) : Type 0 where
+  -- whatever is held, the piece of its lines, which are never empty
+  pub of-held : PieceGiven (heldLine answer codes matrix classes) (heldCount answer) from buffer piece after
+  pub of-report : (file matrix-before classes-before : List ℕ) → OutcomeOf file matrix-before classes-before answer codes matrix classes
+      → PieceOfReport (gradingOf file (length matrix-before) (length classes-before)) from buffer piece after
+
+-- ---- a theorem: all lines, one behind the other, are the report
+
+abbrev pub ReportIsLines : Type 0
+ReportIsLines = (grading : Grading) → reportOf grading ≡ textFrom (reportLine grading) 0 (lineCount grading)

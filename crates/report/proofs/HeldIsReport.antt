@@ -1,27 +1,26 @@
 -- What is held is the report: under an outcome of a file each held line is the report's line, and there are as many. Assumes nothing.
 use Prim.Native.Nat.{ℕ, zero, suc, _+_, _*_, _/_, _%_, _≤_, _<_, min}
 use mathlib.Core.Path.{_≡_, refl, sym, ap, subst, _∙_}
-use mathlib.Core.Bool.{Bool, true, false, cond}
 use mathlib.Core.List.{List, [], _∷_}
 use native.Mathlib.Omega.{arith}
-use lib.Dec.{ltb}
-use lib.ListN.{length, getD, drop, List·getD-append}
+use lib.ListN.{length, getD, drop, length-append, List·getD-append}
 use Rattle.text.specs.Pieces.{lineIn, PieceGiven}
 use Rattle.text.specs.declared.Piece.{Piece}
-use Rattle.text.proofs.PieceLaws.{same-piece, text-of-list}
+use Rattle.text.proofs.PieceLaws.{same-piece}
 use Rattle.words.specs.Rows as marks
+use Rattle.words.proofs.Tables.{length-table}
 use Rattle.switch.specs.Modules.{ModuleType}
 use Rattle.switch.specs.Bridges.{Bridge, nodes, input}
-use Rattle.circuit.specs.Circuit.{Circuit, Instance, Listed, faultsOf, joinLists}
+use Rattle.circuit.specs.Circuit.{Circuit, Instance, Listed, faultsOf}
 use Rattle.circuit.specs.Records.{padded}
-use Rattle.circuit.specs.Reading.{Reading, accepted, refusal, readingOf}
+use Rattle.circuit.specs.Reading.{accepted, readingOf}
 use Rattle.circuit.specs.Laws.{CircuitGood}
-use Rattle.circuit.proofs.CircuitLaws.{accepted-is-good, refusal-is-good}
+use Rattle.circuit.proofs.CircuitLaws.{accepted-is-good}
 use Rattle.circuit.proofs.Padding.{getD-padded}
 use Rattle.grading.specs.Rows.{Row, rowsOfInstance, rowsFrom, rowsOf, rowWords, matrixOf}
 use Rattle.grading.specs.Classes.{classesOf}
 use Rattle.grading.specs.Codes.{codeOf}
-use Rattle.grading.specs.Grading.{Grading, graded, refused, Counts, countsOfCircuit as countsOfCircuit, gradingOfCircuit, afterReading, gradingOf}
+use Rattle.grading.specs.Grading.{Grading, graded, refused, Counts, countsOfCircuit as countsOfCircuit, gradingOf}
 use Rattle.grading.specs.Grading.{countsIn, numberIn, placeIn, over, matrixAfter, classesAfterGrading}
 use Rattle.grading.specs.Promise.{placeOf, countsOf}
 use Rattle.grading.specs.declared.Answer.{Answer}
@@ -33,10 +32,11 @@ use Rattle.grading.proofs.RowLaws.{noRow, few-rows}
 use Rattle.grading.proofs.ClassNumbering.{class-numbers}
 use Rattle.rows.specs.Model.{codesOf}
 use Rattle.report.specs.Lines.{rowLine, refusalLine}
-use Rattle.report.specs.Report.{kindOf, firstEnd, secondEnd, lineOf, rowLines, countsLine, reportLines, reportLine, lineCount, reportOf}
+use Rattle.report.specs.Report.{kindOf, firstEnd, secondEnd, lineOf, rowLines, countsLine, reportLines, reportLine, lineCount}
 use Rattle.report.specs.Held.{headOf, headLine, wordsAt, gradedLine, toldLine, heldLine, heldCount}
-use Rattle.report.specs.Promise.{OutcomeOf, ReportPiece, ReportIsLines}
+use Rattle.report.specs.Promise.{OutcomeOf, ReportPiece, RowsAreHeld}
 use Rattle.report.specs.declared.RowHead.{RowHead}
+use Rattle.report.proofs.ReportLaws.{length-lines, line-at, GradingSound, grading-sound}
 
 -- ---- a row as a number
 
@@ -80,26 +80,6 @@ head-back n (input m l) class fits =
     ∙ ap (λ (x : ℕ). record { instance = n; kind = x; first = code / 256 % 256; second = code % 256; class = class }) k
     ∙ ap (λ (x : ℕ). record { instance = n; kind = 1; first = x; second = code % 256; class = class }) f
     ∙ ap (λ (x : ℕ). record { instance = n; kind = 1; first = m; second = x; class = class }) s
-
--- ---- the report's lines, one by one
-
-length-lines : (c : Circuit) (rows : List Row) (classes : List ℕ) → length classes ≡ length rows → length (rowLines c rows classes) ≡ length rows
-unfolding rowLines
-length-lines c [] classes e = refl
-length-lines c (row ∷ rows) [] e = e
-length-lines c (row ∷ rows) (class ∷ classes) e = ap suc (length-lines c rows classes (omega (arith, e)))
-
-line-at : (c : Circuit) (rows : List Row) (classes : List ℕ) (r : ℕ) → length classes ≡ length rows → r < length rows
-    → getD (rowLines c rows classes) r [] ≡ lineOf c (getD rows r noRow) (getD classes r 0)
-unfolding rowLines
-line-at c [] classes r e h = absurd (omega arith)
-line-at c (row ∷ rows) [] r e h = absurd (omega (arith, e))
-line-at c (row ∷ rows) (class ∷ classes) zero e h = refl
-line-at c (row ∷ rows) (class ∷ classes) (suc r) e h = line-at c rows classes r (omega (arith, e)) (omega arith)
-
-pub report-is-lines : ReportIsLines
-unfolding reportOf reportLine lineCount joinLists
-report-is-lines grading = text-of-list joinLists refl (λ l ls. refl) (reportLines grading)
 
 -- ---- a row as it is held
 
@@ -159,25 +139,6 @@ module _
 
 -- ---- the whole
 
--- a graded file was read, and a refusal has a number
-unfoldable GradingSound : List ℕ → Grading → Type 0
-GradingSound file (graded c) = readingOf file ≡ accepted c
-GradingSound file (refused number place) = 1 ≤ number
-
-grading-sound : (file : List ℕ) (words entries : ℕ) → GradingSound file (gradingOf file words entries)
-unfolding gradingOf afterReading gradingOfCircuit GradingSound
-grading-sound file words entries = go (readingOf file) refl
-  where
-    by : (c : Circuit) → readingOf file ≡ accepted c → (a b : Bool)
-        → GradingSound file (cond a (refused 15 (4 * length (rowsOf c))) (cond b (refused 22 (length (rowsOf c))) (graded c)))
-    by c e true b = omega arith
-    by c e false true = omega arith
-    by c e false false = e
-
-    go : (r : Reading) → readingOf file ≡ r → GradingSound file (afterReading r words entries)
-    go (accepted c) e = by c e (ltb words (4 * length (rowsOf c))) (ltb entries (length (rowsOf c)))
-    go (refusal number place) e = refusal-is-good file number place e .low
-
 -- as many lines, and each the report's
 abbrev LinesAre : Grading → Counts → (ℕ → List ℕ) → Type 0
 LinesAre g counts line = (suc (counts .faults) ≡ lineCount g) × ((n : ℕ) → n < lineCount g → line n ≡ reportLine g n)
@@ -206,6 +167,34 @@ module _
       line : (n : ℕ) → n < 1 → refusalLine (suc number) place ≡ getD (refusalLine (suc number) place ∷ []) n []
       line zero h = refl
       line (suc n) h = absurd (omega arith)
+
+  rows-in : (g : Grading) → GradingSound file g → matrix ≡ matrixAfter g matrix-before → classes ≡ classesAfterGrading g classes-before
+      → (countsIn g .faults ≤ length codes) × (4 * countsIn g .faults ≤ length matrix) × (countsIn g .faults ≤ length classes)
+  unfolding GradingSound matrixAfter classesAfterGrading countsIn countsOfCircuit over matrixOf padded
+  rows-in (graded c) reads matrix-is classes-are = (
+    omega (arith, few-rows c (accepted-is-good file c reads), ap length (listed c reads), length-table 2048 (λ (i : ℕ). getD (codesOf (rowsOf c)) i 0)),
+    omega (
+      arith,
+      ap length matrix-is,
+      length-append (matrixOf c) (drop (length (matrixOf c)) matrix-before),
+      length-matrix c (rowsOf c),
+    ),
+    omega (
+      arith,
+      ap length classes-are,
+      length-append (classesOf (rowsOf c)) (drop (length (classesOf (rowsOf c))) classes-before),
+      class-numbers c .one-each,
+    ),
+  )
+  rows-in (refused number place) low matrix-is classes-are = (omega arith, omega arith, omega arith)
+
+pub rows-are-held : RowsAreHeld
+rows-are-held file matrix-before classes-before answer codes matrix classes outcome =
+    let g : Grading = gradingOf file (length matrix-before) (length classes-before) in
+    let told = rows-in file matrix-before classes-before codes matrix classes (outcome .listed) g
+    (grading-sound file (length matrix-before) (length classes-before)) (outcome .promised .matrix-at-exit) (outcome .promised .classes-at-exit) in
+    let counts = ap (λ (m : Counts). m .faults) (outcome .promised .counts) in
+    record { codes-held = omega (arith, counts, told .0); words-held = omega (arith, counts, told .1); classes-held = omega (arith, counts, told .2) }
 
 pub held-is-report : (file matrix-before classes-before : List ℕ) (answer : Answer) (codes matrix classes : List ℕ)
     → OutcomeOf file matrix-before classes-before answer codes matrix classes

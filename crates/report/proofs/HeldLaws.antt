@@ -1,20 +1,19 @@
 -- The lines of what is held: which of them each call of the code gives, and that none is empty. Assumes nothing.
 use Prim.Native.Nat.{ℕ, zero, suc, _-_, _≤_, _<_, min}
 use mathlib.Core.Path.{_≡_, refl, sym, ap, subst, _∙_}
-use mathlib.Core.List.{List, [], _∷_, _++_}
+use mathlib.Core.List.{List}
 use native.Mathlib.Omega.{arith}
-use lib.ListN.{length, getD, length-append}
-use Rattle.words.specs.Rows.{marksOf, firstMarkOf}
-use Rattle.text.specs.Decimal.{decimal}
+use lib.ListN.{length, getD}
 use Rattle.text.specs.Given.{LineGiven}
 use Rattle.grading.specs.Grading.{Counts}
 use Rattle.grading.specs.Promise.{numberOf, placeOf, countsMeant, countsOf}
 use Rattle.grading.specs.declared.Counts.{Counts as CountsRecord}
 use Rattle.grading.specs.declared.Answer.{Answer}
-use Rattle.report.specs.Lines.{space, newline, firstLine, kindLetter, digitsOfMarks, rowLine, refusalLine}
+use Rattle.report.specs.Lines.{firstLine, refusalLine}
 use Rattle.report.specs.Report.{countsLine}
 use Rattle.report.specs.declared.RowHead.{RowHead}
 use Rattle.report.specs.Held.{headOf, headLine, wordsAt, gradedLine, toldLine, heldLine}
+use Rattle.report.proofs.LineSizes.{Sized, first-sized, refusal-sized, row-sized}
 
 pub given-line : (line other : List ℕ) {buffer after : List ℕ} {count : ℕ} → line ≡ other → LineGiven line buffer count after → LineGiven other buffer count after
 given-line line other {buffer} {after} {count} e g = subst (λ (l : List ℕ). LineGiven l buffer count after) e g
@@ -57,20 +56,13 @@ module _ (answer : Answer) (codes matrix classes : List ℕ) (n number : ℕ) (n
 
 -- ---- no line is empty
 
-ended : (line : List ℕ) → 0 < length (line ++ newline)
-ended line = omega (arith, length-append line newline)
-
 pub held-some : (answer : Answer) (codes matrix classes : List ℕ) (n : ℕ) → 0 < length (heldLine answer codes matrix classes n)
-unfolding heldLine toldLine gradedLine countsLine firstLine rowLine refusalLine
-held-some answer codes matrix classes n = told (numberOf answer) n
+unfolding heldLine toldLine gradedLine countsLine
+held-some answer codes matrix classes n = told (numberOf answer) n .0
   where
-    told : (number n : ℕ) → 0 < length (toldLine number (placeOf answer) (countsOf answer) codes matrix classes n)
-    told zero zero = omega arith
+    told : (number n : ℕ) → Sized (toldLine number (placeOf answer) (countsOf answer) codes matrix classes n)
+    told zero zero = first-sized (countsOf answer .vectors) (countsOf answer .faults) (countsOf answer .classes) (countsOf answer .found)
     told zero (suc r) =
-        ended
-        (let head = headOf (getD codes r 0) (getD classes r 0) in
-        let row = wordsAt matrix r in
-        decimal (head .instance) ++ space ++ (kindLetter (head .kind) ∷ []) ++ space ++ decimal (head .first) ++ space ++ decimal (head .second) ++ space
-        ++ decimal (head .class) ++ space ++ digitsOfMarks (min (countsOf answer .vectors) 256) row ++ space ++ decimal (marksOf row) ++ space
-        ++ decimal (firstMarkOf row))
-    told (suc number) n = omega arith
+        let head = headOf (getD codes r 0) (getD classes r 0) in
+        row-sized (head .instance) (head .kind) (head .first) (head .second) (head .class) (min (countsOf answer .vectors) 256) (wordsAt matrix r) (omega arith)
+    told (suc number) n = refusal-sized (suc number) (placeOf answer)

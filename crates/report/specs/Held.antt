@@ -1,4 +1,5 @@
--- What the code computes: the report's lines from what a grading leaves in memory, which are the answer, the rows as numbers, the matrix and the classes.
+-- What the code computes: the report's lines from what a grading leaves in memory.
+-- That is the answer, the rows as numbers, the matrix and the classes.
 use Prim.Native.Nat.{ℕ, zero, suc, _+_, _*_, _/_, _%_, _≤_, min}
 use mathlib.Core.List.{List, [], _∷_}
 use lib.ListN.{length, getD}

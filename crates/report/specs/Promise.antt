@@ -1,5 +1,5 @@
 -- The promise of `report_piece`: it is the piece of the report of every file of which what is held is the outcome.
-use Prim.Native.Nat.{ℕ}
+use Prim.Native.Nat.{ℕ, _≤_, _<_}
 use mathlib.Core.Path.{_≡_}
 use mathlib.Core.List.{List}
 use lib.ListN.{length}
@@ -14,7 +14,7 @@ use Rattle.grading.specs.Promise.{Promise}
 use Rattle.grading.specs.declared.Answer.{Answer}
 use Rattle.rows.specs.Model.{codesOf}
 use Rattle.report.specs.Report.{reportLine, lineCount, reportOf}
-use Rattle.report.specs.Held.{heldLine, heldCount}
+use Rattle.report.specs.Held.{heldLine, heldCount, RowsHeld}
 
 -- the outcome of a file and two buffers: the answer and the buffers as grading promises them, and the circuit's rows as numbers
 pub record OutcomeOf (file matrix-before classes-before : List ℕ) (answer : Answer) (codes matrix classes : List ℕ) : Type 0 where
@@ -26,12 +26,25 @@ abbrev pub PieceOfReport : Grading → ℕ → List ℕ → Piece → List ℕ �
 PieceOfReport grading from buffer piece after = PieceGiven (reportLine grading) (lineCount grading) from buffer piece after
 
 pub record ReportPiece (answer : Answer) (codes matrix classes : List ℕ) (from : ℕ) (buffer : List ℕ) (piece : Piece) (after : List ℕ) : Type 0 where
-  -- whatever is held, the piece of its lines, which are never empty
+  -- whatever is held, the piece of its lines
   pub of-held : PieceGiven (heldLine answer codes matrix classes) (heldCount answer) from buffer piece after
   pub of-report : (file matrix-before classes-before : List ℕ) → OutcomeOf file matrix-before classes-before answer codes matrix classes
       → PieceOfReport (gradingOf file (length matrix-before) (length classes-before)) from buffer piece after
 
--- ---- a theorem: all lines, one behind the other, are the report
+-- ---- theorems
 
+-- all lines, one behind the other, are the report
 abbrev pub ReportIsLines : Type 0
 ReportIsLines = (grading : Grading) → reportOf grading ≡ textFrom (reportLine grading) 0 (lineCount grading)
+
+-- no line is empty, and each has room in 512 bytes, so that a piece of them brings progress
+abbrev pub LinesFit : Type 0
+LinesFit =
+    (file : List ℕ) (words entries n : ℕ) → n < lineCount (gradingOf file words entries)
+    → (0 < length (reportLine (gradingOf file words entries) n)) × (length (reportLine (gradingOf file words entries) n) ≤ 512)
+
+-- an outcome has the rows that `report_piece` asks for
+abbrev pub RowsAreHeld : Type 0
+RowsAreHeld =
+    (file matrix-before classes-before : List ℕ) (answer : Answer) (codes matrix classes : List ℕ)
+    → OutcomeOf file matrix-before classes-before answer codes matrix classes → RowsHeld answer codes matrix classes

@@ -1,4 +1,5 @@
--- What a whole report is (01, "The report"): one first line, then a line for each row; a refusal prints only its own. Lines are numbered from 0, row r, from 0, is line r + 1.
+-- What a whole report is (01, "The report"): one first line, then a line for each row; a refusal prints only its own.
+-- Lines are numbered from 0; row r, from 0, is line r + 1.
 use Prim.Native.Nat.{ℕ}
 use mathlib.Core.List.{List, [], _∷_}
 use lib.ListN.{length}

@@ -127,6 +127,13 @@ piece-moves line total from buffer piece after given h room = go (ltb from (piec
         let none : piece .count ≡ 0 = given .stands .count-is ∙ ap (λ (n : ℕ). length (textFrom line from n)) nothing in
         absurd (omega (arith, here, given .full (omega (arith, here)), none, ap (λ (n : ℕ). length (line n)) here))
 
+-- and it is not empty where that line is not
+pub piece-some : (line : ℕ → List ℕ) (total from : ℕ) (buffer : List ℕ) (piece : Piece) (after : List ℕ)
+    → PieceGiven line total from buffer piece after → from < total → 0 < length (line from) → length (line from) ≤ length buffer → 0 < piece .count
+piece-some line total from buffer piece after given h some room =
+    let moves = piece-moves line total from buffer piece after given h room in
+    omega (arith, given .stands .count-is, text-grows line from from (piece .next) (omega arith) moves, some)
+
 -- a piece of the same lines
 pub same-piece : (line other : ℕ → List ℕ) (total from : ℕ) (buffer : List ℕ) (piece : Piece) (after : List ℕ)
     → ((k : ℕ) → k < total → line k ≡ other k) → PieceGiven line total from buffer piece after → PieceGiven other total from buffer piece after

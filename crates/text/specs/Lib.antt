@@ -1,4 +1,4 @@
--- What the crate `text` means: decimal numbers, texts as bytes, a line given into a buffer, and a text of numbered lines given piece by piece.
+-- What the crate `text` means: decimal numbers, texts as bytes, a line given into a buffer, and numbered lines given piece by piece.
 pub mod Decimal
 pub mod Ascii
 pub mod Given

@@ -1,4 +1,5 @@
--- A text of numbered lines, from 0 on, given piece by piece into a lent buffer: a piece is as many whole lines as have room, from the first that is wanted on.
+-- A text of numbered lines, from 0 on, given piece by piece into a lent buffer: a piece is as many whole lines as have room,
+-- from the first that is wanted on.
 -- The laws that other crates rest on follow; their proofs are in proofs/PieceLaws.
 use Prim.Native.Nat.{ℕ, zero, suc, _+_, _-_, _≤_, _<_, max}
 use mathlib.Core.Path.{_≡_}

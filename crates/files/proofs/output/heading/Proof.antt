@@ -1,9 +1,8 @@
 -- `files::output::heading` meets its contract: each call adds its bytes behind what stands, and there is room for all. Assumes nothing.
-use Prim.Native.Nat.{ℕ}
 use mathlib.Core.Path.{refl, sym}
-use mathlib.Core.List.{List, _++_}
+use mathlib.Core.List.{_++_}
 use native.Mathlib.Omega.{arith}
-use lib.ListN.{length, length-append}
+use lib.ListN.{length-append}
 use lib.Seq.{length-take-le}
 use Rattle.text.specs.Ascii.{bytesOf}
 use Rattle.files.specs.Outputs.{blankLine, headingText}

@@ -20,6 +20,7 @@ use Rattle.marks.specs.Model.{InstanceMarked}
 use Rattle.classes.specs.Model.{InstanceClassed}
 use Rattle.classes.specs.declared.Classed.{Classed}
 use Rattle.text.specs.Given.{LineGiven}
+use Rattle.text.proofs.PieceLaws.{one-piece}
 use Rattle.togyamiru.specs.Entry.{EntryMeets}
 use Rattle.demands.specs.Unique.{Unique, One, OneAndBuffer, OneAndBuffers}
 use Rattle.demands.proofs.Outcomes.{same-counts, one-outcome-only}
@@ -90,6 +91,7 @@ unique = record {
   text-put-byte = λ out at b. by-equations;
   text-put-bytes = λ out at bytes. by-equations;
   text-put-number = λ out at n. by-equations;
+  text-give = λ line out. given-once;
   joining-complementary = λ edges highest output labels. by-equation;
   joining-check-type = λ t. by-equation;
   joining-joining = λ edges highest output labels ones zeros. by-equation;
@@ -126,5 +128,6 @@ unique = record {
   report-first-line = λ vectors faults classes found out. given-once;
   report-refusal-line = λ number place out. given-once;
   report-row-line = λ head vectors row out. given-once;
+  report-report-piece = λ answer codes matrix classes from out r s x y g h. one-piece _ _ _ _ _ _ _ _ (g .of-held) (h .of-held);
   togyamiru-grade = λ file matrix classes. entry-once;
 }

@@ -1,6 +1,5 @@
 -- The three demands on the grader. Calls says what they speak of; One, Two and Three state them; their proofs are in proofs/.
 --   Files                   small circuit files, put together field by field
---   Report                  the whole report of a grading, as bytes
 --   Claims, Known           the table of known results, and what its lines claim
 --   NoConverse              demand 3 has no converse
 --   Unique                  promises of public functions that leave one outcome only

@@ -50,7 +50,9 @@ use Rattle.classes.specs.Model.{InstanceClassed}
 use Rattle.classes.specs.declared.Classed.{Classed}
 use Rattle.report.specs.Lines.{firstLine, rowLine, refusalLine}
 use Rattle.text.specs.Given.{LineGiven}
+use Rattle.report.specs.Promise.{ReportPiece}
 use Rattle.report.specs.declared.RowHead.{RowHead}
+use Rattle.text.specs.declared.Piece.{Piece}
 use Rattle.togyamiru.specs.Entry.{EntryPromise}
 
 -- an answer alone; an answer and one buffer; an answer and two
@@ -76,6 +78,8 @@ pub record Unique : Type 0 where
   pub text-put-bytes : (out : List ℕ) (at : ℕ) (bytes : List ℕ) → OneAndBuffer λ (r : ℕ) (out′ : List ℕ). (r ≡ at + length bytes) × (out′ ≡ written out at bytes)
   -- text::put_number
   pub text-put-number : (out : List ℕ) (at n : ℕ) → OneAndBuffer λ (r : ℕ) (out′ : List ℕ). (r ≡ at + length (decimal n)) × (out′ ≡ written out at (decimal n))
+  -- text::give
+  pub text-give : (line out : List ℕ) → OneAndBuffer λ (r : ℕ) (out′ : List ℕ). LineGiven line out r out′
   -- joining::complementary::complementary
   pub joining-complementary : (edges : List Edge) (highest output labels : ℕ) → One λ (r : Bool). r ≡ isComplementary (typeWith highest output labels edges)
   -- joining::complementary::check_type
@@ -152,6 +156,9 @@ pub record Unique : Type 0 where
   -- report::row_line
   pub report-row-line : (head : RowHead) (vectors : ℕ) (row out : List ℕ)
       → OneAndBuffer λ (r : ℕ) (out′ : List ℕ). LineGiven (rowLine (head .instance) (head .kind) (head .first) (head .second) (head .class) (min vectors 256) row) out r out′
+  -- report::report_piece
+  pub report-report-piece : (answer : Answer) (codes matrix classes : List ℕ) (from : ℕ) (out : List ℕ)
+      → OneAndBuffer λ (r : Piece) (out′ : List ℕ). ReportPiece answer codes matrix classes from out r out′
   -- togyamiru::togyamiru_grade
   pub togyamiru-grade : (file matrix classes : List ℕ)
       → OneAndBuffers λ (answer′ matrix′ classes′ : List ℕ). EntryPromise file matrix classes answer′ matrix′ classes′

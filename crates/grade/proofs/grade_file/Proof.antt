@@ -1,7 +1,7 @@
 -- `grade::grade_file` meets its contract. The loop's invariant: what is held is the file's outcome, and the lines before the next were handed over.
 -- Each turn hands over a line at least. Assumes nothing.
 use Prim.Native.Nat.{_-_, _≤_}
-use mathlib.Core.Path.{_≡_, refl, sym, _∙_}
+use mathlib.Core.Path.{_≡_, refl, _∙_}
 use native.Mathlib.Omega.{arith}
 use borrow.Author.Needs.{needs}
 use lib.ListN.{length}

@@ -1,4 +1,4 @@
--- What reading leaves: how many bytes stand at the start of the buffer, none of an input that could not be read. The bytes come from outside.
+-- What reading leaves: how many bytes stand at the start of the buffer, none where the input could not be read. Bytes come from outside.
 use Prim.Native.Nat.{ℕ}
 use mathlib.Core.Path.{_≡_}
 use mathlib.Core.Bool.{false}

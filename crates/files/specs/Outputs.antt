@@ -1,4 +1,4 @@
--- What writing leaves, and the heading of one report of several. Whether a write failed comes from outside; that it failed is never forgotten.
+-- What writing leaves, and the heading of one report of several. Whether a write failed comes from outside, and is never forgotten.
 use Prim.Native.Nat.{ℕ}
 use mathlib.Core.Path.{_≡_}
 use mathlib.Core.Bool.{Bool, true, false}

@@ -32,4 +32,5 @@ AllHanded file lines = lines ≡ lineCount (gradingOfFile file)
 -- the rows, as numbers, of the circuit that was read
 pub record RowsRead (reading : ReadingRecord) (codes : List ℕ) : Type 0 where
   pub many : length codes ≡ 2048
-  pub listed : (file : List ℕ) (c : Circuit) → Tells (readingOf file) reading → readingOf file ≡ accepted c → codes ≡ padded 2048 0 (codesOf (rowsOf c))
+  pub listed : (file : List ℕ) (c : Circuit) → Tells (readingOf file) reading → readingOf file ≡ accepted c
+      → codes ≡ padded 2048 0 (codesOf (rowsOf c))

@@ -12,7 +12,13 @@ use Rattle.report.specs.declared.RowHead.{RowHead}
 
 -- a row but for its marks, from the number that it is kept as: instance, kind, first and second, a byte each, highest first
 abbrev pub headOf : ℕ → ℕ → RowHead
-headOf code class = record { instance = code / 16777216; kind = code / 65536 % 256; first = code / 256 % 256; second = code % 256; class = class }
+headOf code class = record {
+  instance = code / 16777216;
+  kind = code / 65536 % 256;
+  first = code / 256 % 256;
+  second = code % 256;
+  class = class;
+}
 
 -- the four words of the row at a place
 abbrev pub wordsAt : List ℕ → ℕ → List ℕ

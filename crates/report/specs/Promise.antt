@@ -25,11 +25,12 @@ pub record OutcomeOf (file matrix-before classes-before : List ℕ) (answer : An
 abbrev pub PieceOfReport : Grading → ℕ → List ℕ → Piece → List ℕ → Type 0
 PieceOfReport grading from buffer piece after = PieceGiven (reportLine grading) (lineCount grading) from buffer piece after
 
-pub record ReportPiece (answer : Answer) (codes matrix classes : List ℕ) (from : ℕ) (buffer : List ℕ) (piece : Piece) (after : List ℕ) : Type 0 where
+pub record ReportPiece
+    (answer : Answer) (codes matrix classes : List ℕ) (from : ℕ) (out : List ℕ) (piece : Piece) (out′ : List ℕ) : Type 0 where
   -- whatever is held, the piece of its lines
-  pub of-held : PieceGiven (heldLine answer codes matrix classes) (heldCount answer) from buffer piece after
+  pub of-held : PieceGiven (heldLine answer codes matrix classes) (heldCount answer) from out piece out′
   pub of-report : (file matrix-before classes-before : List ℕ) → OutcomeOf file matrix-before classes-before answer codes matrix classes
-      → PieceOfReport (gradingOf file (length matrix-before) (length classes-before)) from buffer piece after
+      → PieceOfReport (gradingOf file (length matrix-before) (length classes-before)) from out piece out′
 
 -- ---- theorems
 

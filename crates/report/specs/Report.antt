@@ -25,7 +25,7 @@ secondEnd (input m l) = l
 
 unfoldable pub lineOf : Circuit → Row → ℕ → List ℕ
 lineOf c row class =
-    rowLine (row .number) (kindOf (row .bridge)) (firstEnd (row .bridge)) (secondEnd (row .bridge)) class (length (c .vectors)) (rowWords c row)
+    let b = row .bridge in rowLine (row .number) (kindOf b) (firstEnd b) (secondEnd b) class (length (c .vectors)) (rowWords c row)
 
 -- each row with its class
 unfoldable pub rowLines : Circuit → List Row → List ℕ → List (List ℕ)

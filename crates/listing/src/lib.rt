@@ -7,9 +7,10 @@ ghost use mathlib.Core.List.{[]};
 ghost use Prim.Native.Nat.{_<_, _≤_};
 ghost use lib.ListN.{length, getD};
 ghost use Rattle.text.specs.Given.{LineGiven};
-ghost use Rattle.text.specs.Pieces.{PieceGiven, lineIn};
+ghost use Rattle.text.specs.Pieces.{lineIn};
 ghost use Rattle.listing.specs.Listing.{circuitLines, listingOf};
 ghost use Rattle.listing.specs.Told.{circuitTold, readingTold};
+ghost use Rattle.listing.specs.Promise.{ListingPiece};
 ghost use Rattle.listing.specs.Puts.{Puts};
 use crate::lines::inputs_line;
 use crate::parts::bridge_part;
@@ -82,6 +83,7 @@ fn listed_line(line: &mut [u8], reading: Reading, n: usize) -> usize
 fn one_line(reading: Reading, n: usize, out: &mut [u8]) -> usize
     ensures { λ r. ⌜ LineGiven (lineIn (listingOf (readingTold reading)) n) (now (out .entry)) r (now (out .exit)) ⌝ }
     ensures { λ r. ⌜ (0 < r → n ≤ 1681) ⌝ }
+    ensures { λ r. ⌜ length (lineIn (listingOf (readingTold reading)) n) ≤ 512 ⌝ }
 {
     let mut line = [0u8; 512];
     let count = listed_line(&mut line, reading, n);
@@ -90,7 +92,7 @@ fn one_line(reading: Reading, n: usize, out: &mut [u8]) -> usize
 
 // The piece of a file's listing that begins with line `from`.
 pub fn show_piece(reading: Reading, from: usize, out: &mut [u8]) -> Piece
-    ensures { λ r. ⌜ PieceGiven (lineIn (listingOf (readingTold reading))) (length (listingOf (readingTold reading))) from (now (out .entry)) r (now (out .exit)) ⌝ }
+    ensures { λ r. ⌜ ListingPiece reading from (now (out .entry)) r (now (out .exit)) ⌝ }
 {
     let mut next = from;
     let mut count: usize = 0;

@@ -1,5 +1,5 @@
 -- `listing::show_piece` meets its contract. Assumes nothing.
-use Prim.Native.Nat.{ℕ, _-_, _≤_, _<_, max}
+use Prim.Native.Nat.{ℕ, zero, suc, _+_, _-_, _≤_, _<_, max}
 use mathlib.Core.Path.{_≡_, refl, ap, _∙_}
 use mathlib.Core.List.{List}
 use native.Mathlib.Omega.{arith}
@@ -15,10 +15,16 @@ use Rattle.listing.proofs.SoughtLaws.{given-some, given-none, line-ther
 use Rattle.listing.proofs.show_piece.Statement.{statement}
 use Rattle.listing.proofs.show_piece.Tie as tie
 
+-- a line was put where there was room for one
+some-put : (from next count long size total : ℕ) → from ≤ next → next ≤ from + count → from < total → 512 ≤ size → long ≤ 512
+    → (next < total → size < count + long) → 0 < count
+some-put from next zero long size total forth near more room short full = absurd (omega (arith, full (omega arith)))
+some-put from next (suc count) long size total forth near more room short full = omega arith
+
 abbrev Inv-loop : tie.InvT-loop
 Inv-loop reading from out₀ next₀ count₀ out next count =
     LinesStand (lineIn (listingOf (readingTold reading))) from out₀ next count out
-    × (count ≤ length out) × (length out ≡ length out₀) × (next ≤ max from (length (listingOf (readingTold reading))))
+    × (count ≤ length out) × (length out ≡ length out₀) × (next ≤ max from (length (listingOf (readingTold reading)))) × (next ≤ from + count)
 
 abbrev μ-loop : tie.MeasureT-loop
 μ-loop reading from out₀ next₀ count₀ out next count = length out₀ - count
@@ -26,7 +32,7 @@ abbrev μ-loop : tie.MeasureT-loop
 loop-holds : tie.Need-loop-holds Inv-loop μ-loop
 loop-holds c =
     let start = c .before in
-    (stand-none _ (start .args .from) (start .args .out .now), omega arith, refl, omega arith)
+    (stand-none _ (start .args .from) (start .args .out .now), omega arith, refl, omega arith, omega arith)
 
 sub-one-line : tie.Need-sub-one-line Inv-loop μ-loop
 sub-one-line c = search needs
@@ -41,7 +47,7 @@ one-line-requires : tie.Need-one-line-requires Inv-loop μ-loop
 one-line-requires c κs = search needs
 
 add-next : tie.Need-add-next Inv-loop μ-loop
-add-next c = omega (arith, c .before .before .before .one-line .ensures .1 (omega arith))
+add-next c = omega (arith, c .before .before .before .one-line .ensures .1 .0 (omega arith))
 
 add-count : tie.Need-add-count Inv-loop μ-loop
 add-count c =
@@ -63,7 +69,7 @@ loop-again c =
     let stands = stand-next _ _ _ _ _ _ (turn .inv .0) _ _ handed some in
     let long = stand-length _ _ _ _ _ _ stands in
     let there = line-there _ (turn .next) (given-some _ _ _ _ handed some) in
-    (stands, omega (arith, long, stands .room), long, omega arith)
+    (stands, omega (arith, long, stands .room), long, omega arith, omega arith)
 
 same-length : tie.Need-same-length Inv-loop μ-loop
 same-length c = search needs
@@ -73,15 +79,19 @@ unfolding lineIn
 returns c =
     let turn = c .before .before .before .before .before .loop in
     let handed = c .before .before .before .one-line .ensures .0 in
-    let lines : List (List ℕ) = listingOf (readingTold (c .before .before .before .before .before .before .before .args .reading)) in
+    let start = c .before .before .before .before .before .before .before in
+    let lines : List (List ℕ) = listingOf (readingTold (start .args .reading)) in
     let none : c .before .before .before .one-line .result ≡ 0 = c .if1 .taken in
     let kept = ap (λ (l : List ℕ). putMid (turn .count) (length (turn .out) - turn .count) (turn .out) l) (given-none _ _ _ _ handed none)
     ∙ put-same (turn .count) (length (turn .out) - turn .count) (turn .out) in
     let filled : (n : ℕ) → n < length lines → 0 < length (lineIn lines n) = λ (n : ℕ) (h : n < length lines). filled-at lines n (listing-filled _) h in
+    let short = c .before .before .before .one-line .ensures .1 .1 in
+    let full : turn .next < length lines → length (start .args .out .now) < turn .count + length (lineIn lines (turn .next))
+    = λ (h : turn .next < length lines). no-room _ _ _ _ _ _ (turn .inv .0) _ _ handed none (filled (turn .next) h) .1 in
     record {
-      stands = rw kept (turn .inv .0);
-      within = turn .inv .3;
-      full = λ (h : turn .next < length lines). no-room _ _ _ _ _ _ (turn .inv .0) _ _ handed none (filled (turn .next) h) .1;
+      given = record { stands = rw kept (turn .inv .0); within = turn .inv .3; full = full };
+      moves = λ (more : start .args .from < length lines) (room : 512 ≤ length (start .args .out .now)).
+          some-put (start .args .from) (turn .next) (turn .count) _ (length (start .args .out .now)) (length lines) (turn .inv .0 .forth) (turn .inv .4) more room short full;
     }
 
 pub show-piece-spec : {M : Type 1} → statement M

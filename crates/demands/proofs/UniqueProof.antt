@@ -129,5 +129,6 @@ unique = record {
   report-refusal-line = λ number place out. given-once;
   report-row-line = λ head vectors row out. given-once;
   report-report-piece = λ answer codes matrix classes from out r s x y g h. one-piece _ _ _ _ _ _ _ _ (g .of-held) (h .of-held);
+  listing-show-piece = λ reading from out r s x y g h. one-piece _ _ _ _ _ _ _ _ (g .given) (h .given);
   togyamiru-grade = λ file matrix classes. entry-once;
 }

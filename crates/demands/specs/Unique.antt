@@ -53,6 +53,7 @@ use Rattle.text.specs.Given.{LineGiven}
 use Rattle.report.specs.Promise.{ReportPiece}
 use Rattle.report.specs.declared.RowHead.{RowHead}
 use Rattle.text.specs.declared.Piece.{Piece}
+use Rattle.listing.specs.Promise.{ListingPiece}
 use Rattle.togyamiru.specs.Entry.{EntryPromise}
 
 -- an answer alone; an answer and one buffer; an answer and two
@@ -159,6 +160,8 @@ pub record Unique : Type 0 where
   -- report::report_piece
   pub report-report-piece : (answer : Answer) (codes matrix classes : List ℕ) (from : ℕ) (out : List ℕ)
       → OneAndBuffer λ (r : Piece) (out′ : List ℕ). ReportPiece answer codes matrix classes from out r out′
+  -- listing::show_piece
+  pub listing-show-piece : (reading : Reading) (from : ℕ) (out : List ℕ) → OneAndBuffer λ (r : Piece) (out′ : List ℕ). ListingPiece reading from out r out′
   -- togyamiru::togyamiru_grade
   pub togyamiru-grade : (file matrix classes : List ℕ)
       → OneAndBuffers λ (answer′ matrix′ classes′ : List ℕ). EntryPromise file matrix classes answer′ matrix′ classes′

@@ -1,19 +1,17 @@
 -- The texts of a line's fields by what the code tests of the record, and how long each is at most. Assumes nothing.
 use mathlib.Core.Path.{_≡_, refl, sym, ap, _∙_}
-use mathlib.Core.Bool.{Bool, true, false, cond}
-use mathlib.Core.List.{List, [], _∷_, _++_, map, map-map, append-assoc}
+use mathlib.Core.Bool.{true, false}
+use mathlib.Core.List.{List, _++_, map, map-map, append-assoc}
 use Prim.Native.Nat.{ℕ, zero, suc, _≤_, min}
 use native.Mathlib.Omega.{arith}
-use borrow.Author.Tests.{eq-eqb, ne-eqb}
-use lib.Dec.{eqb}
-use lib.ListN.{length, take, length-append, length-map}
+use borrow.Author.Tests.{ne-eqb}
+use lib.ListN.{length}
 use Rattle.words.specs.Bits.{bit}
 use Rattle.words.specs.Tables.{table}
 use Rattle.words.proofs.Tables.{length-table, map-table}
 use Rattle.text.specs.Ascii.{bytesOf}
 use Rattle.text.specs.Decimal.{decimal, digitsOf, lengthIn}
 use Rattle.text.proofs.GrowingLine.{at-most-21}
-use Rattle.switch.specs.Conduction.{Value}
 use Rattle.switch.specs.Records.{valueOf}
 use Rattle.circuit.specs.Circuit.{Choice, exhaustive, no-faults, list, Reference, primary, outputOf, joinLists}
 use Rattle.circuit.specs.declared.Bridge.{Bridge as BridgeRecord}

@@ -8,7 +8,6 @@ use borrow.Author.Tests.{ne-eqb}
 use lib.Dec.{T}
 use lib.ListN.{length, getD, take, length-map}
 use Rattle.words.specs.Bits.{bit, pack}
-use Rattle.words.specs.Tables.{table}
 use Rattle.words.proofs.Laws.{bit-pack}
 use Rattle.words.proofs.Tables.{is-table}
 use Rattle.switch.specs.Conduction.{Value, at0, at1, atX, between}

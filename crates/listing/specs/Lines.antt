@@ -1,6 +1,6 @@
 -- docs/SHOW.md: the lines of a listing. A line is a word and then its fields, each behind one space; it ends with byte 10.
 use Prim.Native.Nat.{ℕ, zero, suc}
-use mathlib.Core.List.{List, [], _∷_, _++_, map}
+use mathlib.Core.List.{List, _++_, map}
 use Rattle.text.specs.Ascii.{bytesOf}
 use Rattle.text.specs.Decimal.{decimal}
 use Rattle.switch.specs.Conduction.{Value, at0, at1, atX, Edge}
@@ -53,7 +53,8 @@ referenceText (outputOf i) = bytesOf " -" ++ decimal i
 -- instance N T C R ..
 unfoldable pub instanceLine : ℕ → Instance → List ℕ
 instanceLine number i =
-    bytesOf "instance" ++ spaced number ++ spaced (i .type) ++ choiceText (i .choice) ++ joinLists (map referenceText (i .references)) ++ newline
+    bytesOf "instance" ++ spaced number ++ spaced (i .type) ++ choiceText (i .choice) ++ joinLists (map referenceText (i .references))
+    ++ newline
 
 -- the letter of a value: 0, 1 or X
 unfoldable pub valueLetter : Value → ℕ

@@ -1,5 +1,5 @@
--- The promise of `show_piece`: a piece of the listing that the record of a reading tells. 512 bytes are room for every line, so that a piece of a buffer with them
--- is empty only past the last.
+-- The promise of `show_piece`: a piece of the listing that the record of a reading tells. 512 bytes are room for every line, so that in a
+-- buffer of as many a piece is empty only past the last line.
 use Prim.Native.Nat.{ℕ, _≤_, _<_}
 use mathlib.Core.List.{List}
 use lib.ListN.{length}

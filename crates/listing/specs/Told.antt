@@ -11,7 +11,8 @@ use Rattle.switch.specs.Conduction.{Value}
 use Rattle.switch.specs.Modules.{ModuleType}
 use Rattle.switch.specs.Bridges.{Bridge, nodes, input}
 use Rattle.switch.specs.Records.{typeOf, valueOf}
-use Rattle.circuit.specs.Circuit.{Circuit, Instance, Listed, Reference, primary, outputOf, Choice, exhaustive, no-faults, list, numbered, noType}
+use Rattle.circuit.specs.Circuit.{Circuit, Instance, Listed, numbered, noType}
+use Rattle.circuit.specs.Circuit.{Reference, primary, outputOf, Choice, exhaustive, no-faults, list}
 use Rattle.circuit.specs.Reading.{Reading, accepted, unless, readingOf}
 use Rattle.circuit.specs.Refusals.{verdictOf}
 use Rattle.circuit.specs.Answers.{Tells}

@@ -1,7 +1,6 @@
 // Looks into circuit files: for each, the circuit that it tells, a line for each field, or its refusal (docs/SHOW.md).
 mod handing;
 
-ghost use mathlib.Core.Path.{_≡_};
 ghost use Prim.Native.Nat.{_≤_};
 ghost use lib.ListN.{length};
 ghost use Rattle.show.specs.Handing.{ListingHanded};

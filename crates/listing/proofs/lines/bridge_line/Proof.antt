@@ -4,10 +4,11 @@ use borrow.Author.Needs.{needs}
 use Rattle.text.specs.Ascii.{bytesOf}
 use Rattle.listing.specs.Lines.{kindText}
 use Rattle.listing.proofs.TextLaws.{kind-short, bridge-is}
-use Rattle.listing.proofs.Putting.{SoFar, start, piece, byte, number, next-number, whole}
+use Rattle.listing.proofs.Putting.{SoFar, start, piece, byte, next-number, whole}
 use Rattle.listing.proofs.lines.bridge_line.Statement.{statement}
 use Rattle.listing.proofs.lines.bridge_line.Tie as tie
 
+-- the text after each call: what the calls have added, one by one, and how many bytes that is at most
 line-1 : (c : tie.After-put-bytes) → SoFar (c .before .before .before .before .args .out .now) (c .before .before .before .before .args .at) 512 6 (c .put-bytes .last .0) (c .put-bytes .result)
 line-1 c = piece (start (c .before .before .before .before .pre)) 6 (bytesOf "bridge") (omega arith) (omega arith) (c .put-bytes .ensures)
 
@@ -60,7 +61,7 @@ same-length : tie.Need-same-length
 same-length c = search needs
 
 returns : tie.Need-returns
-unfolding start piece byte number next-number line-1 line-2 line-3 line-4 line-5 line-6
+unfolding start piece byte next-number line-1 line-2 line-3 line-4 line-5 line-6
 returns c = whole (line-6 (c .before .before)) (bridge-is (c .before .before .before .before .before .before .before .before .before .before .before .before .before .before .before .before .before .before .before .before .before .before .before .before .before .before .before .before .before .args .b))
 
 pub bridge-line-spec : {M : Type 1} → statement M

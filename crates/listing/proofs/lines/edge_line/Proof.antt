@@ -5,10 +5,11 @@ use borrow.Author.Needs.{needs}
 use Rattle.text.specs.Ascii.{bytesOf}
 use Rattle.switch.specs.Records.{edgeOf}
 use Rattle.listing.specs.Lines.{edgeLine}
-use Rattle.listing.proofs.Putting.{SoFar, start, piece, byte, number, next-number, whole}
+use Rattle.listing.proofs.Putting.{SoFar, start, piece, byte, next-number, whole}
 use Rattle.listing.proofs.lines.edge_line.Statement.{statement}
 use Rattle.listing.proofs.lines.edge_line.Tie as tie
 
+-- the text after each call: what the calls have added, one by one, and how many bytes that is at most
 line-1 : (c : tie.After-put-bytes) → SoFar (c .before .before .before .before .before .args .out .now) (c .before .before .before .before .before .args .at) 512 4 (c .put-bytes .last .0) (c .put-bytes .result)
 line-1 c = piece (start (c .before .before .before .before .before .pre)) 4 (bytesOf "edge") (omega arith) (omega arith) (c .put-bytes .ensures)
 
@@ -55,7 +56,7 @@ same-length : tie.Need-same-length
 same-length c = search needs
 
 returns : tie.Need-returns
-unfolding start piece byte number next-number edgeLine edgeOf line-1 line-2 line-3 line-4 line-5
+unfolding start piece byte next-number edgeLine edgeOf line-1 line-2 line-3 line-4 line-5
 returns c = whole (line-5 (c .before .before)) refl
 
 pub edge-line-spec : {M : Type 1} → statement M

@@ -4,10 +4,11 @@ use native.Mathlib.Omega.{arith}
 use borrow.Author.Needs.{needs}
 use Rattle.text.specs.Ascii.{bytesOf}
 use Rattle.listing.specs.Lines.{inputsLine}
-use Rattle.listing.proofs.Putting.{SoFar, start, piece, byte, number, next-number, whole}
+use Rattle.listing.proofs.Putting.{SoFar, start, piece, byte, next-number, whole}
 use Rattle.listing.proofs.lines.inputs_line.Statement.{statement}
 use Rattle.listing.proofs.lines.inputs_line.Tie as tie
 
+-- the text after each call: what the calls have added, one by one, and how many bytes that is at most
 line-1 : (c : tie.After-put-bytes) → SoFar (c .before .before .before .before .args .out .now) (c .before .before .before .before .args .at) 512 6 (c .put-bytes .last .0) (c .put-bytes .result)
 line-1 c = piece (start (c .before .before .before .before .pre)) 6 (bytesOf "inputs") (omega arith) (omega arith) (c .put-bytes .ensures)
 
@@ -33,7 +34,7 @@ same-length : tie.Need-same-length
 same-length c = search needs
 
 returns : tie.Need-returns
-unfolding start piece byte number next-number inputsLine line-1 line-2 line-3
+unfolding start piece byte next-number inputsLine line-1 line-2 line-3
 returns c = whole (line-3 (c .before .before)) refl
 
 pub inputs-line-spec : {M : Type 1} → statement M

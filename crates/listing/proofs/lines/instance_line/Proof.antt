@@ -6,10 +6,11 @@ use Rattle.text.specs.Ascii.{bytesOf}
 use Rattle.listing.specs.Lines.{choiceText, instanceLine}
 use Rattle.listing.specs.Told.{instanceWith}
 use Rattle.listing.proofs.TextLaws.{choice-short}
-use Rattle.listing.proofs.Putting.{SoFar, start, piece, byte, number, next-number, whole}
+use Rattle.listing.proofs.Putting.{SoFar, start, piece, byte, next-number, whole}
 use Rattle.listing.proofs.lines.instance_line.Statement.{statement}
 use Rattle.listing.proofs.lines.instance_line.Tie as tie
 
+-- the text after each call: what the calls have added, one by one, and how many bytes that is at most
 line-1 : (c : tie.After-put-bytes) → SoFar (c .before .before .before .before .before .args .out .now) (c .before .before .before .before .before .args .at) 512 8 (c .put-bytes .last .0) (c .put-bytes .result)
 line-1 c = piece (start (c .before .before .before .before .before .pre)) 8 (bytesOf "instance") (omega arith) (omega arith) (c .put-bytes .ensures)
 
@@ -56,7 +57,7 @@ same-length : tie.Need-same-length
 same-length c = search needs
 
 returns : tie.Need-returns
-unfolding start piece byte number next-number instanceLine instanceWith line-1 line-2 line-3 line-4 line-5 line-6
+unfolding start piece byte next-number instanceLine instanceWith line-1 line-2 line-3 line-4 line-5 line-6
 returns c = whole (line-6 (c .before .before)) refl
 
 pub instance-line-spec : {M : Type 1} → statement M

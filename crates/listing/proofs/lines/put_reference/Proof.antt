@@ -8,6 +8,7 @@ use borrow.Author.Needs.{needs}
 use Rattle.listing.proofs.lines.put_reference.Statement.{statement}
 use Rattle.listing.proofs.lines.put_reference.Tie as tie
 
+-- the text after each call: what the calls have added, one by one, and how many bytes that is at most
 line-1 : (c : tie.After-put-bytes) → SoFar (c .before .before .before .before .before .args .out .now) (c .before .before .before .before .before .args .at) 23 2 (c .put-bytes .last .0) (c .put-bytes .result)
 line-1 c = piece (start (c .before .before .before .before .before .pre)) 2 (bytesOf " -") (omega arith) (omega arith) (c .put-bytes .ensures)
 

@@ -3,10 +3,11 @@ use mathlib.Core.Path.{refl}
 use native.Mathlib.Omega.{arith}
 use borrow.Author.Needs.{needs}
 use Rattle.listing.specs.Lines.{spaced}
-use Rattle.listing.proofs.Putting.{SoFar, start, piece, byte, number, next-number, whole}
+use Rattle.listing.proofs.Putting.{SoFar, start, piece, byte, number, whole}
 use Rattle.listing.proofs.lines.put_spaced.Statement.{statement}
 use Rattle.listing.proofs.lines.put_spaced.Tie as tie
 
+-- the text after each call: what the calls have added, one by one, and how many bytes that is at most
 line-1 : (c : tie.After-put-byte) → SoFar (c .before .before .before .args .out .now) (c .before .before .before .args .at) 22 1 (c .put-byte .last .0) (c .put-byte .result)
 line-1 c = byte (start (c .before .before .before .pre)) 32 (omega arith) (c .put-byte .ensures)
 
@@ -23,7 +24,7 @@ same-length : tie.Need-same-length
 same-length c = search needs
 
 returns : tie.Need-returns
-unfolding start piece byte number next-number spaced line-1 line-2
+unfolding start piece byte number spaced line-1 line-2
 returns c = whole (line-2 (c .before .before)) refl
 
 pub put-spaced-spec : {M : Type 1} → statement M

@@ -8,10 +8,11 @@ use Rattle.switch.specs.Conduction.{Value}
 use Rattle.report.specs.Lines.{space, newline}
 use Rattle.listing.specs.Lines.{spaced, valueLetter, vectorLine}
 use Rattle.listing.proofs.TextLaws.{letters-short, vector-held}
-use Rattle.listing.proofs.Putting.{SoFar, start, piece, byte, number, next-number, whole}
+use Rattle.listing.proofs.Putting.{SoFar, start, piece, byte, next-number, whole}
 use Rattle.listing.proofs.lines.vector_line.Statement.{statement}
 use Rattle.listing.proofs.lines.vector_line.Tie as tie
 
+-- the text after each call: what the calls have added, one by one, and how many bytes that is at most
 line-1 : (c : tie.After-put-bytes) → SoFar (c .before .before .before .before .args .out .now) (c .before .before .before .before .args .at) 512 6 (c .put-bytes .last .0) (c .put-bytes .result)
 line-1 c = piece (start (c .before .before .before .before .pre)) 6 (bytesOf "vector") (omega arith) (omega arith) (c .put-bytes .ensures)
 
@@ -52,7 +53,7 @@ same-length : tie.Need-same-length
 same-length c = search needs
 
 returns : tie.Need-returns
-unfolding start piece byte number next-number vectorLine line-1 line-2 line-3 line-4 line-5
+unfolding start piece byte next-number vectorLine line-1 line-2 line-3 line-4 line-5
 returns c =
     let start = c .before .before .before .before .before .before .before .before .before .before .before .before .before .before .before .before .before .before .before .before .before .before .before in
     whole (line-5 (c .before .before))

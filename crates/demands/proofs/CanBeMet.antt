@@ -27,8 +27,11 @@ use Rattle.bridges.specs.declared.lists.Lists.{Lists}
 use Rattle.instances.specs.ReadInstances.{HeldTo}
 use Rattle.grading.specs.Codes.{CodesFit}
 use Rattle.grading.specs.Given.{CircuitGiven, Read}
+use Rattle.grading.specs.Promise.{countsOf}
+use Rattle.grading.specs.declared.Answer.the-variants.{ShortMatrix}
 use Rattle.rows.specs.Model.{instanceCodes}
 use Rattle.marks.specs.Model.{InstanceGiven}
+use Rattle.report.specs.Held.{RowsHeld}
 use Rattle.demands.specs.Files.{inverterFields, oneUnder}
 use Rattle.demands.proofs.Computing.{computing}
 
@@ -59,6 +62,11 @@ noBridges = padded mostBridges unusedBridge []
 pub bridges-listed : ListedBridges noBridges 0
 unfolding computing
 bridges-listed = record { bridges = []; within = omega arith; counted = refl; is = refl; ranges = tt }
+
+-- a refusal has no rows
+pub rows-held : RowsHeld (ShortMatrix 0) [] [] []
+unfolding countsOf
+rows-held = record { codes-held = omega arith; words-held = omega arith; classes-held = omega arith }
 
 -- no types, and the sums of no lists
 abbrev pub noTypes : List ModuleType

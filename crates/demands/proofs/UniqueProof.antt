@@ -14,7 +14,8 @@ use Rattle.circuit.proofs.AnswerLaws.{verdict-tells, answers-unique}
 use Rattle.grading.specs.Grading.{Grading}
 use Rattle.grading.specs.Promise.{Promise}
 use Rattle.grading.specs.declared.Answer.{Answer}
-use Rattle.report.specs.Given.{LineGiven}
+use Rattle.text.specs.Given.{LineGiven}
+use Rattle.text.proofs.PieceLaws.{one-piece}
 use Rattle.togyamiru.specs.Entry.{EntryMeets}
 use Rattle.demands.specs.Unique.{Unique}
 use Rattle.modules.proofs.TypesOnce.{types-once}
@@ -22,10 +23,11 @@ use Rattle.bridges.proofs.BridgesOnce.{bridges-once}
 use Rattle.instances.proofs.InstancesOnce.{instances-once}
 use Rattle.vectors.proofs.VectorsOnce.{vectors-once}
 use Rattle.reader.proofs.StagesOnce.{stages-once}
+use Rattle.grading.specs.declared.Answer.the-variants.{ShortMatrix}
 use Rattle.demands.proofs.Outcomes.{same-counts, one-outcome-only}
 use Rattle.demands.proofs.StepsOnce.{step-once, next-once}
 use Rattle.demands.proofs.CanBeMet.{lent, emptyField, bareType, edges-given, type-given, noBridges, bridges-listed, codes-fit, codes-of-none}
-use Rattle.demands.proofs.CanBeMet.{noTypes, noLists, held-to-none, firstInput, instance-given, readingOfNone, none-read, circuit-given}
+use Rattle.demands.proofs.CanBeMet.{rows-held, noTypes, noLists, held-to-none, firstInput, instance-given, readingOfNone, none-read, circuit-given}
 
 both : {A B : Type 0} {one other : A × B} → one .0 ≡ other .0 → one .1 ≡ other .1 → one ≡ other
 both p q i = (p i, q i)
@@ -58,6 +60,10 @@ unique = record {
   text-put-byte = record { can-be-met = λ κs. ((lent (0 ∷ []), (0, (0, tt))), omega arith); one-outcome = λ κs a asked one other p q. both (p .0 ∙ sym (q .0)) (ap (λ x. (x, (tt, (tt, tt)))) (p .1 ∙ sym (q .1))) };
   text-put-bytes = record { can-be-met = λ κs. ((lent [], (0, (lent [], tt))), omega arith); one-outcome = λ κs a asked one other p q. both (p .0 ∙ sym (q .0)) (ap (λ x. (x, (tt, (tt, tt)))) (p .1 ∙ sym (q .1))) };
   text-put-number = record { can-be-met = λ κs. ((lent (replicate 20 0), (0, (0, tt))), omega arith); one-outcome = λ κs a asked one other p q. both (p .0 ∙ sym (q .0)) (ap (λ x. (x, (tt, (tt, tt)))) (p .1 ∙ sym (q .1))) };
+  text-give = record {
+    asks-nothing = λ κs a. tt;
+    one-outcome = λ κs a asked one other p q. let same = given-once p q in both (same .0) (λ i. (tt, (same .1 i, tt)));
+  };
   joining-complementary = record {
     Asked = λ κs a. EdgesGiven (a .1 .0) (a .1 .1 .0) (a .1 .1 .1 .0) (now (a .0));
     Told = λ κs a r s. r ≡ isComplementary (typeWith (a .1 .0) (a .1 .1 .0) (a .1 .1 .1 .0) (now (a .0)));
@@ -173,6 +179,26 @@ unique = record {
   report-row-line = record {
     asks-nothing = λ κs a. tt;
     one-outcome = λ κs a asked one other p q. let same = given-once p q in both (same .0) (λ i. (tt, (tt, (tt, (same .1 i, tt)))));
+  };
+  report-report-piece = record {
+    can-be-met = λ κs. ((ShortMatrix 0, (lent [], (lent [], (lent [], (0, (lent [], tt)))))), rows-held);
+    one-outcome = λ κs a asked one other p q.
+        let same = one-piece _ _ _ _ _ _ _ _ (p .of-held) (q .of-held) in both (same .0) (λ i. (tt, (tt, (tt, (tt, (tt, (same .1 i, tt)))))));
+  };
+  listing-show-piece = record {
+    asks-nothing = λ κs a. tt;
+    one-outcome = λ κs a asked one other p q.
+        let same = one-piece _ _ _ _ _ _ _ _ (p .given) (q .given) in both (same .0) (λ i. (tt, (tt, (same .1 i, tt))));
+  };
+  files-unread = record {
+    asks-nothing = λ κs a. tt;
+    one-outcome = λ κs a asked one other p q.
+        both (λ i. record { «is_read» = (p .0 ∙ sym (q .0)) i; count = (p .1 ∙ sym (q .1)) i }) refl;
+  };
+  files-nothing = record {
+    asks-nothing = λ κs a. tt;
+    one-outcome = λ κs a asked one other p q.
+        both (λ i. record { «is_lost» = (p .0 ∙ sym (q .0)) i; «has_report» = (p .1 ∙ sym (q .1)) i }) refl;
   };
   togyamiru-grade = record {
     asks-nothing = λ κs a. tt;

@@ -1,6 +1,5 @@
 -- The three demands on the grader. Calls says what they speak of; One, Two and Three state them; their proofs are in proofs/.
 --   Files                   small circuit files, put together field by field
---   Report                  the whole report of a grading, as bytes
 --   Claims, KnownResults    the table of known results, and what its lines claim
 --   AlikeFiles, SplitFiles  demand 3 and the column clause of two files, byte by byte; why files are split as they are there
 --   NoConverse              demand 3 has no converse
@@ -14,7 +13,6 @@ pub mod One
 pub mod Two
 pub mod Three
 pub mod Files
-pub mod Report
 pub mod Claims
 pub mod KnownResults
 pub mod AlikeFiles

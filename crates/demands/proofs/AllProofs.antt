@@ -1,5 +1,10 @@
 -- All statements, proved: each field of AllProved by the theorem of its name.
 use Rattle.demands.specs.Proved.{AllProved}
+use Rattle.circuit.proofs.GatheredLaws.{gathered-is-before, before-is-circuit}
+use Rattle.text.proofs.PieceLaws.{one-piece, pieces-join, piece-moves}
+use Rattle.report.proofs.ReportLaws.{report-is-lines, lines-fit}
+use Rattle.report.proofs.HeldIsReport.{rows-are-held}
+use Rattle.listing.proofs.ToldLaws.{told-is-reading}
 use Rattle.demands.proofs.OneProof.{one-holds, grading-keeps-the-rest}
 use Rattle.demands.proofs.RightProof.{promise-can-be-met, rightly-is-right}
 use Rattle.demands.proofs.Outcomes.{one-outcome-only}
@@ -63,6 +68,15 @@ all-proved = record {
   grade-is-kept = grade-is-kept;
   entry-is-kept = entry-is-kept;
   unique = unique;
+  one-piece = one-piece;
+  pieces-join = pieces-join;
+  piece-moves = piece-moves;
+  report-is-lines = report-is-lines;
+  lines-fit = lines-fit;
+  rows-are-held = rows-are-held;
+  told-is-reading = told-is-reading;
+  gathered-is-before = gathered-is-before;
+  before-is-circuit = before-is-circuit;
   all-known = all-known;
   rightly-is-right = rightly-is-right;
   refuses-every-is-wrong = refuses-every-is-wrong;

@@ -15,6 +15,7 @@ use Rattle.circuit.specs.Fields.{twoBytes, cutIn, cutFrom}
 use Rattle.circuit.specs.Circuit.{numbered, joinLists, nodePairs, nodeInputs, exhaustiveList, exhaustiveSize, userList, chosen, chosenSize, faultsOf, faultCount}
 use Rattle.circuit.specs.Numbers.{signed, choiceOf, choiceInRange, referenceOf, referenceGood}
 use Rattle.circuit.specs.Known.{tagOf, typeIn, edgeIn, bridgeOf, listedIn, referencesIn, instanceIn, letterOf, vectorIn, latest, withEdge, edgeAdded, taken, typeAtAfter, knownAfter}
+use Rattle.circuit.specs.Records.{choiceByte}
 use Rattle.circuit.specs.Table.{firstOf, misplaced, isEdge, unjudged, notComplementary, bridgeInRange, bridgeSuits, isEmpty, listUnsuited, listEmpty, isLetter, inputsTests, typeTests, edgeTestsOf, edgeTests, bridgeTests, instanceTests, vectorTests, bodyTests, isUnknown, fieldTests, endTests}
 use Rattle.circuit.specs.Reading.{unless, readFrom, readingOf}
 use Rattle.grading.specs.Values.{valueAt, labelValues, outputsAfter, outputsOf}
@@ -27,7 +28,7 @@ use Rattle.demands.specs.Graders.{refusalOf, refusing, outcomeOf, grades
 
 -- to unfold a definition is to unfold what its line names
 unfoldable pub computing : Unit {0}
-unfolding bit pack word sumTo table upTo rowOf
+unfolding bit pack word sumTo table upTo rowOf choiceByte
     between pEnds nEnd nEnds badEnds channelOf transistorOn anyOf edgeOn links allOf typeInRange edgeInRange linksOf valueOfBit settingOf
     toLabel closing rename partIn renamings joins allBelow oneRail isComplementary deciding.outputValue isMarked
     twoBytes cutIn cutFrom numbered joinLists nodePairs nodeInputs exhaustiveList exhaustiveSize userList chosen chosenSize faultsOf faultCount

@@ -7,6 +7,7 @@ use Rattle.words.specs.Tables.{table}
 use Rattle.text.specs.Ascii.{bytesOf}
 use Rattle.switch.specs.Bridges.{Bridge, nodes, input}
 use Rattle.circuit.specs.Circuit.{Reference, primary, outputOf, Choice, exhaustive, no-faults, list, joinLists}
+use Rattle.circuit.specs.Records.{choiceByte}
 
 -- two bytes, high byte first
 abbrev pub twoBytesOf : ℕ → List ℕ
@@ -29,11 +30,6 @@ bridgeField number (nodes a b) = fieldBytes 4 (number ∷ 0 ∷ a ∷ b ∷ [])
 bridgeField number (input m l) = fieldBytes 4 (number ∷ 1 ∷ m ∷ l ∷ [])
 
 -- numbers below zero in two's complement
-abbrev pub choiceByte : Choice → ℕ
-choiceByte exhaustive = 255
-choiceByte no-faults = 0
-choiceByte (list n) = n
-
 abbrev pub referenceBytes : Reference → List ℕ
 referenceBytes (primary n) = twoBytesOf n
 referenceBytes (outputOf i) = twoBytesOf (65536 - i)

@@ -1,5 +1,9 @@
 -- All that is stated of the grader, in one record: a field for each statement that docs/TRUST.md cites. `all-proved` (proofs/AllProofs) has
 -- this type, so a statement whose proof is gone, or proves something else, is refused; .ci/parts/8-trust holds docs/TRUST.md to the fields.
+use Rattle.circuit.specs.Laws.{GatheredIsBefore, BeforeIsCircuit}
+use Rattle.text.specs.Pieces.{OnePiece, PiecesJoin, PieceMoves}
+use Rattle.report.specs.Promise.{ReportIsLines, LinesFit, RowsAreHeld}
+use Rattle.listing.specs.Told.{ToldIsReading}
 use Rattle.demands.specs.One.{OneHolds, PromiseCanBeMet, OneOutcomeOnly, GradingKeepsTheRest}
 use Rattle.demands.specs.Two.{ValuesArePaths, CellIsPath, FloatingNeverMarks, ColumnIsOfItsVector}
 use Rattle.demands.specs.Two.{ClassesCountOnce, NamingAgainAddsNothing, OtherEndAddsNothing}
@@ -61,6 +65,16 @@ pub record AllProved : Type 2 where
   pub grade-is-kept : GradeIsKept
   pub entry-is-kept : EntryIsKept
   pub unique : Unique
+  -- what the programs print, and what was read before a refusal
+  pub one-piece : OnePiece
+  pub pieces-join : PiecesJoin
+  pub piece-moves : PieceMoves
+  pub report-is-lines : ReportIsLines
+  pub lines-fit : LinesFit
+  pub rows-are-held : RowsAreHeld
+  pub told-is-reading : ToldIsReading
+  pub gathered-is-before : GatheredIsBefore
+  pub before-is-circuit : BeforeIsCircuit
   -- known results
   pub all-known : AllKnown
   -- a right grader, and wrong ones

@@ -9,7 +9,7 @@ use Rattle.switch.specs.Conduction.{between, pEnds, channelOf, transisto
 use Rattle.switch.specs.Modules.{allOf, typeInRange, edgeInRange, inRange, linksOf, valueOfBit, settingOf}
 use Rattle.switch.specs.Deciding.{rename, partIn, renamings, joins, allBelow, oneRail, isComplementary}
 use Rattle.switch.specs.Records.{edgeOf, edgesOf, typeOf}
-use Rattle.switch.specs.Examples.{edge, nand, edgeRecord, nandRecord, NandGiven}
+use Rattle.switch.specs.Examples.{edge, nand, nandEdge, nandRecord, NandGiven}
 use Rattle.switch.proofs.Deciding.{complementary-decides}
 
 nand-complementary : isComplementary nand ≡ true
@@ -19,7 +19,7 @@ unfolding edge nand
 nand-complementary = refl
 
 pub nand-given : NandGiven
-unfolding edge nand edgeRecord nandRecord
+unfolding edge nand nandEdge nandRecord
     between allOf typeInRange edgeInRange inRange edgeOf edgesOf typeOf
 nand-given = record {
   accepted = record { ranges = tt; complementary = complementary-decides nand .1 (subst T (sym nand-complementary) tt) };

@@ -18,8 +18,8 @@ unfoldable pub nand : ModuleType
 nand = record { highest = 3; output = 2; labels = 2; edges = edge 1 2 (0 ∷ 1 ∷ []) ∷ edge 2 3 (0 ∷ []) ∷ edge 3 0 (1 ∷ []) ∷ [] }
 
 -- in the code's places: four for the labels of an edge, 64 for the edges
-unfoldable pub edgeRecord : ℕ → ℕ → ℕ → ℕ → ℕ → EdgeRecord
-edgeRecord a b n l m = record { first = a; second = b; count = n; labels = l ∷ m ∷ 0 ∷ 0 ∷ [] }
+unfoldable pub nandEdge : ℕ → ℕ → ℕ → ℕ → ℕ → EdgeRecord
+nandEdge a b n l m = record { first = a; second = b; count = n; labels = l ∷ m ∷ 0 ∷ 0 ∷ [] }
 
 unfoldable pub nandRecord : TypeRecord
 nandRecord = record {
@@ -27,7 +27,7 @@ nandRecord = record {
   output = 2;
   labels = 2;
   count = 3;
-  edges = edgeRecord 1 2 2 0 1 ∷ edgeRecord 2 3 1 0 0 ∷ edgeRecord 3 0 1 1 0 ∷ replicate (mostEdges - 3) (edgeRecord 0 0 0 0 0);
+  edges = nandEdge 1 2 2 0 1 ∷ nandEdge 2 3 1 0 0 ∷ nandEdge 3 0 1 1 0 ∷ replicate (mostEdges - 3) (nandEdge 0 0 0 0 0);
 }
 
 -- so there is a type that is accepted, and a record of it that the code takes

@@ -27,7 +27,8 @@ unfoldable pub most : (Bridge → ℕ) → List Bridge → ℕ
 most f [] = 0
 most f (b ∷ bs) = max (f b) (most f bs)
 
--- of each list, by its number: how many bridges it has, the highest node that they name, and one more than the highest label, 0 where they name none
+-- of each list, by its number: how many bridges it has, the highest node that they name, and one more than the highest label, 0 where they
+-- name none
 abbrev pub listsOf : List Listed → Lists
 listsOf bridges = record {
   counts = table 128 (λ (n : ℕ). length (userList n bridges));

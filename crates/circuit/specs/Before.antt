@@ -30,7 +30,8 @@ withoutLatest c =
 -- a type that was not judged yet is finished where it is complementary and what stands next is no edge
 unfoldable pub finished : Known → Bool → Circuit
 finished known edge =
-    cond (unjudged (known .previous) && (edge || notComplementary (known .circuit .types))) (withoutLatest (known .circuit)) (known .circuit)
+    cond (unjudged (known .previous) && (edge || notComplementary (known .circuit .types))) (withoutLatest (known .circuit))
+    (known .circuit)
 
 unfoldable pub beforeFrom : Known → Cut → Circuit
 beforeFrom known clean = finished known false

@@ -1,4 +1,5 @@
--- 01, "The circuit file": each field is one tag byte, a two-byte length (high byte first), then that many body bytes. Fields fill the file to its last byte.
+-- 01, "The circuit file": each field is one tag byte, a two-byte length (high byte first), then that many body bytes. Fields fill the file
+-- to its last byte.
 use Prim.Native.Nat.{ℕ, zero, suc, _+_, _-_, _*_}
 use mathlib.Core.Bool.{cond}
 use mathlib.Core.List.{List}
@@ -28,7 +29,8 @@ cutIn (suc most) file at =
     let n = twoBytes file (at + 1) in
     let rest = cutIn most file (at + 3 + n) in
     let whole = field (record { at = at; tag = getD file at 0; body = take n (drop (at + 3) file) }) rest in
-    cond (eqb at (length file)) clean (cond (ltb (length file) (at + 3)) (broken at) (cond (ltb (length file) (at + 3 + n)) (broken at) whole))
+    cond (eqb at (length file)) clean
+    (cond (ltb (length file) (at + 3)) (broken at) (cond (ltb (length file) (at + 3 + n)) (broken at) whole))
 
 unfoldable pub cutFrom : List ℕ → ℕ → Cut
 cutFrom file at = cutIn (suc (length file) - at) file at

@@ -91,15 +91,45 @@ unfoldable pub taken : Tag → Circuit → List ℕ → Circuit
 taken inputs-tag c body =
     record { inputs = twoBytes body 0; types = c .types; bridges = c .bridges; instances = c .instances; vectors = c .vectors }
 taken type-tag c body =
-    record { inputs = c .inputs; types = c .types ++ (typeIn body ∷ []); bridges = c .bridges; instances = c .instances; vectors = c .vectors }
+    record {
+      inputs = c .inputs;
+      types = c .types ++ (typeIn body ∷ []);
+      bridges = c .bridges;
+      instances = c .instances;
+      vectors = c .vectors;
+    }
 taken edge-tag c body =
-    record { inputs = c .inputs; types = edgeAdded (c .types) (edgeIn body); bridges = c .bridges; instances = c .instances; vectors = c .vectors }
+    record {
+      inputs = c .inputs;
+      types = edgeAdded (c .types) (edgeIn body);
+      bridges = c .bridges;
+      instances = c .instances;
+      vectors = c .vectors;
+    }
 taken bridge-tag c body =
-    record { inputs = c .inputs; types = c .types; bridges = c .bridges ++ (listedIn body ∷ []); instances = c .instances; vectors = c .vectors }
+    record {
+      inputs = c .inputs;
+      types = c .types;
+      bridges = c .bridges ++ (listedIn body ∷ []);
+      instances = c .instances;
+      vectors = c .vectors;
+    }
 taken instance-tag c body =
-    record { inputs = c .inputs; types = c .types; bridges = c .bridges; instances = c .instances ++ (instanceIn body ∷ []); vectors = c .vectors }
+    record {
+      inputs = c .inputs;
+      types = c .types;
+      bridges = c .bridges;
+      instances = c .instances ++ (instanceIn body ∷ []);
+      vectors = c .vectors;
+    }
 taken vector-tag c body =
-    record { inputs = c .inputs; types = c .types; bridges = c .bridges; instances = c .instances; vectors = c .vectors ++ (vectorIn body ∷ []) }
+    record {
+      inputs = c .inputs;
+      types = c .types;
+      bridges = c .bridges;
+      instances = c .instances;
+      vectors = c .vectors ++ (vectorIn body ∷ []);
+    }
 taken no-tag c body = c
 
 unfoldable pub typeAtAfter : Known → Field → ℕ

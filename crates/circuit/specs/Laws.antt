@@ -11,7 +11,8 @@ use Rattle.switch.specs.Modules.{ModuleType, allOf, inRange}
 use Rattle.switch.specs.Bridges.{Bridge, nodes, input}
 use Rattle.switch.specs.Deciding.{isComplementary}
 use Rattle.circuit.specs.Limits.{mostTypes, mostEdges, mostBridges, mostInstances, mostVectors, mostFaults}
-use Rattle.circuit.specs.Circuit.{Circuit, Instance, Listed, Choice, exhaustive, no-faults, list, typeOfInstance, joinLists, chosenSize, faultsOf, faultCount}
+use Rattle.circuit.specs.Circuit.{Circuit, Instance, Listed, Choice, exhaustive, no-faults, list, typeOfInstance, joinLists}
+use Rattle.circuit.specs.Circuit.{chosenSize, faultsOf, faultCount}
 use Rattle.circuit.specs.Numbers.{referenceGood}
 use Rattle.circuit.specs.Table.{listUnsuited, listEmpty}
 use Rattle.circuit.specs.Reading.{Reading, accepted, refusal, readingOf}

@@ -1,5 +1,5 @@
 -- What the crate `circuit` means, from meaning to model:
---   Limits, Fields, Circuit, Numbers   the circuit file of 01: its limits, its cut into fields, the circuit that it tells, its signed numbers
+--   Limits, Fields, Circuit, Numbers   the circuit file of 01: its limits, its cut into fields, its circuit, its signed numbers
 --   Known                              what is known part of the way through a file, and what a field adds
 --   Table                              the refusal table, a list of numbered tests for each field and for the end of the file
 --   Reading                            a file's circuit or refusal: the fields in file order against the table

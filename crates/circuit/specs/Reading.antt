@@ -1,4 +1,5 @@
--- A file's circuit or refusal. 01, "Refusal numbers": number 1 is looked at first; then fields in file order; at the end of the file 9 and then 14.
+-- A file's circuit or refusal. 01, "Refusal numbers": number 1 is looked at first; then fields in file order; at the end of the file 9 and
+-- then 14.
 use Prim.Native.Nat.{ℕ}
 use mathlib.Core.Bool.{cond}
 use mathlib.Core.List.{List}

@@ -12,7 +12,8 @@ use Rattle.switch.specs.Promises.{isAt0, isAt1}
 use Rattle.switch.specs.declared.Edge.{Edge as EdgeRecord}
 use Rattle.switch.specs.declared.ModuleType.{ModuleType as TypeRecord}
 use Rattle.circuit.specs.Limits.{mostTypes, mostEdges, mostBridges, mostInstances, mostVectors}
-use Rattle.circuit.specs.Circuit.{Circuit, Instance, Listed, Reference, primary, outputOf, Choice, exhaustive, no-faults, list, faultCount}
+use Rattle.circuit.specs.Circuit.{Circuit, Instance, Listed, Reference, primary, outputOf, Choice, exhaustive, no-faults, list}
+use Rattle.circuit.specs.Circuit.{faultCount}
 use Rattle.circuit.specs.declared.Bridge.{Bridge as BridgeRecord}
 use Rattle.circuit.specs.declared.Reference.{Reference as ReferenceRecord}
 use Rattle.circuit.specs.declared.Instance.{Instance as InstanceRecord}

@@ -2,7 +2,9 @@
 use Prim.Native.Nat.{ℕ, zero, suc}
 use Rattle.circuit.specs.Table.{Verdict, passes, refusedAt}
 use Rattle.circuit.specs.declared.refusal.Refusal.{Refusal}
-use Rattle.circuit.specs.declared.refusal.Refusal.the-variants.{Nothing, TooLong, Broken, UnknownTag, Misplaced, WrongLength, TooMany, OutOfRange, BadEnds, NotComplementary, BadReference, BridgeUnsuited, EmptyList, TooManyFaults, Unfinished}
+use Rattle.circuit.specs.declared.refusal.Refusal.the-variants.{Nothing, TooLong, Broken, UnknownTag, Misplaced, WrongLength, TooMany}
+use Rattle.circuit.specs.declared.refusal.Refusal.the-variants.{OutOfRange, BadEnds, NotComplementary, BadReference, BridgeUnsuited}
+use Rattle.circuit.specs.declared.refusal.Refusal.the-variants.{EmptyList, TooManyFaults, Unfinished}
 
 unfoldable pub refusalNumber : Refusal → ℕ
 refusalNumber Nothing = 0

@@ -11,7 +11,8 @@ use Rattle.circuit.specs.Limits.{mostBytes}
 use Rattle.circuit.specs.Fields.{Cut, clean, broken, field, cutFrom, twoBytes}
 use Rattle.circuit.specs.Circuit.{Circuit, Instance, Listed}
 use Rattle.circuit.specs.Known.{typeIn, edgeIn, listedIn, instanceIn, vectorIn, latest, withEdge, edgeAdded, tagOf}
-use Rattle.circuit.specs.Table.{Test, Verdict, passes, refusedAt, firstOf, notComplementary, isEmpty, isUnknown, inputsTests, typeTests, edgeTests, bridgeTests, instanceTests, vectorTests}
+use Rattle.circuit.specs.Table.{Test, Verdict, passes, refusedAt, firstOf, notComplementary, isEmpty, isUnknown, inputsTests}
+use Rattle.circuit.specs.Table.{typeTests, edgeTests, bridgeTests, instanceTests, vectorTests}
 use Rattle.circuit.specs.Reading.{Reading, accepted, refusal, unless}
 use Rattle.circuit.specs.Records.{emptyCircuit}
 use Rattle.circuit.specs.Verdicts.{isRefused}
@@ -64,7 +65,8 @@ instanceStage P types bridges =
 
 abbrev pub vectorStage : ℕ → List (List Value) → Cut → Stage (List (List Value))
 vectorStage P =
-    section 6 (λ (vs : List (List Value)). vectorTests P (length vs)) (λ (vs : List (List Value)) (body : List ℕ). vs ++ (vectorIn body ∷ []))
+    section 6 (λ (vs : List (List Value)). vectorTests P (length vs))
+    (λ (vs : List (List Value)) (body : List ℕ). vs ++ (vectorIn body ∷ []))
 
 -- ---- types, each judged when its edges are read
 

@@ -1,5 +1,5 @@
--- 01, "Refusal numbers": the table. For each field a list of numbered tests in the order in which they are looked at, and one list for the end of the file.
--- In one field by number, except that 9 comes right after 4. A place is the offset of the field's tag byte.
+-- 01, "Refusal numbers": the table. For each field a list of numbered tests in the order in which they are looked at, and one list for the
+-- end of the file. In one field by number, except that 9 comes right after 4. A place is the offset of the field's tag byte.
 use Prim.Native.Nat.{ℕ, _+_, _%_}
 use mathlib.Core.Bool.{Bool, true, false, cond, not, _&&_, _||_}
 use mathlib.Core.List.{List, [], _∷_}
@@ -11,9 +11,11 @@ use Rattle.switch.specs.Bridges.{Bridge, nodes, input}
 use Rattle.switch.specs.Deciding.{isComplementary}
 use Rattle.circuit.specs.Limits.{mostTypes, mostEdges, mostBridges, mostInstances, mostVectors, mostFaults}
 use Rattle.circuit.specs.Fields.{Field, twoBytes}
-use Rattle.circuit.specs.Circuit.{Circuit, Listed, Choice, exhaustive, no-faults, list, typeOfInstance, userList, chosenSize, faultCount}
+use Rattle.circuit.specs.Circuit.{Circuit, Listed, Choice, exhaustive, no-faults, list, typeOfInstance, userList, chosenSize}
+use Rattle.circuit.specs.Circuit.{faultCount}
 use Rattle.circuit.specs.Numbers.{signed, choiceInRange, referenceGood}
-use Rattle.circuit.specs.Known.{Known, Tag, inputs-tag, type-tag, edge-tag, bridge-tag, instance-tag, vector-tag, no-tag, rank, tagOf, edgeIn, instanceIn, latest}
+use Rattle.circuit.specs.Known.{Known, Tag, inputs-tag, type-tag, edge-tag, bridge-tag, instance-tag, vector-tag, no-tag, rank, tagOf}
+use Rattle.circuit.specs.Known.{edgeIn, instanceIn, latest}
 
 -- a test of the table: its number, whether it refuses, and the place that it gives
 pub record Test : Type 0 where
@@ -33,7 +35,8 @@ unfoldable pub firstOf : List Test → Verdict
 firstOf [] = passes
 firstOf (t ∷ ts) = let later = firstOf ts in cond (t .refuses) (refusedAt (t .number) (t .place)) later
 
--- ---- number 4: a first field that is not tag 1, a later tag 1, an edge not right after its type or an edge of it, or a tag whose place in this order is past
+-- ---- number 4: a first field that is not tag 1, a later tag 1, an edge not right after its type or an edge of it, or a tag whose place
+-- in this order is past
 
 -- the tag `previous` of the field before, 0 before the first
 unfoldable pub misplaced : ℕ → Tag → Bool

@@ -74,8 +74,10 @@ foundFrom matrix classes from (suc left) count =
 abbrev pub numbersOf : List ℕ → List ReferenceRecord → ℕ → ℕ → ℕ → List ℕ
 numbersOf rows references from to count = numbers count (keysOf rows (firstLabels references) from to)
 
--- the rows from one place to another: their keys in their place, their classes, the number of classes then, and how many of those that begin there are found
-pub record InstanceClassed (rows : List ℕ) (references : List ReferenceRecord) (from to count : ℕ) (matrix classes : List ℕ) (r : Classed) (rows′ classes′ : List ℕ) : Type 0 where
+-- the rows from one place to another: their keys in their place, their classes, the number of classes then, and how many of those that
+-- begin there are found
+pub record InstanceClassed (rows : List ℕ) (references : List ReferenceRecord) (from to count : ℕ) (matrix classes : List ℕ) (r : Classed)
+    (rows′ classes′ : List ℕ) : Type 0 where
   pub keys-are : rows′ ≡ written rows from (keysOf rows (firstLabels references) from to)
   pub classes-are : classes′ ≡ written classes from (numbersOf rows references from to count)
   pub count-is : r .count ≡ countAfter count (numbersOf rows references from to count)

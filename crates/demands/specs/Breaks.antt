@@ -1,8 +1,8 @@
 -- Which demand each wrong grader breaks (specs/Wrong), held against the demands themselves, and which it meets. 01, last paragraph: to
 -- refuse every file, or to grade one that the table refuses, breaks demand 1; wrong marks break demand 2 and not demand 1; an invented
--- found count breaks the class clause of demand 2. One that marks all, or never, meets part of demand 3 but breaks demand 2. One that grades
--- the first 64 vectors and writes zeros for the rest breaks demand 2, and demand 3 is read over that same definition.
--- The proofs are in proofs/BreaksProof and proofs/MeetsProof.
+-- found count breaks the class clause of demand 2. One that marks all, or never, meets part of demand 3 but breaks demand 2. One that
+-- grades the first 64 vectors and writes zeros for the rest breaks demand 2, and demand 3 is read over that same definition. The proofs are
+-- in proofs/BreaksProof and proofs/MeetsProof.
 use Prim.Native.Nat.{ℕ, _≤_, _<_}
 use mathlib.Core.Path.{_≡_}
 use mathlib.Core.List.{List}
@@ -19,7 +19,8 @@ use Rattle.demands.specs.Two.{MatrixCell, rowOfCell, vectorOfCell, markI
 use Rattle.demands.specs.Three.{Refined, Three}
 use Rattle.demands.specs.NoConverse.{Filling}
 use Rattle.demands.specs.Graders.{Grader, called, Work, gradesBy, rightly}
-use Rattle.demands.specs.Wrong.{marking, refusesEvery, skips, marksAll, marksNever, leavesMatrix, firstWordOnly, inventsFound, sweepsOnce, onePlane, marksFloating, countsRows, spills, wraps, goesOn}
+use Rattle.demands.specs.Wrong.{marking, refusesEvery, skips, marksAll, marksNever, leavesMatrix, firstWordOnly, inventsFound}
+use Rattle.demands.specs.Wrong.{sweepsOnce, onePlane, marksFloating, countsRows, spills, wraps, goesOn}
 use Rattle.demands.specs.Wrong.{watchesOutputs, holdsLevels, countsTwice, countsLabels, readsXAsZero, writesPast, clearsFirst}
 
 -- demand 1 holds of every call
@@ -82,7 +83,8 @@ pub record RightlyMeetsAll : Type 0 where
   pub three-by-paths : MeetsThreeByPaths rightly
   pub fillings : MeetsFillings rightly
 
--- whatever a grader works out and writes, it meets demand 1 if it refuses by the table; so do those that mark all or never, which break demand 2
+-- whatever a grader works out and writes, it meets demand 1 if it refuses by the table; so do those that mark all or never, which break
+-- demand 2
 pub record MeetDemandOne : Type 0 where
   pub by-any-work : (work : Circuit → Work) → MeetsOne (gradesBy work)
   pub marks-all : MeetsOne marksAll

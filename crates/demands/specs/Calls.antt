@@ -1,4 +1,5 @@
--- What the demands speak of: accepted files, calls of `grade` with what they were given and what they gave, and what stands in the buffers then.
+-- What the demands speak of: accepted files, calls of `grade` with what they were given and what they gave, and what stands in the buffers
+-- then.
 use Prim.Native.Nat.{ℕ, _+_, _*_, _/_, _%_}
 use mathlib.Core.Path.{_≡_}
 use mathlib.Core.Bool.{Bool, true, false}
@@ -49,7 +50,8 @@ Refuses (Refused refusal) number place = (refusalNumber refusal ≡ number) × (
 Refuses (ShortMatrix words) number place = (15 ≡ number) × (words ≡ place)
 Refuses (ShortClasses faults) number place = (22 ≡ number) × (faults ≡ place)
 
--- the cell of a row and a vector, both counted from 0: vector v, from 1, is bit (v - 1) mod 64 of word floor((v - 1) / 64) of its row's four
+-- the cell of a row and a vector, both counted from 0: vector v, from 1, is bit (v - 1) mod 64 of word floor((v - 1) / 64) of its row's
+-- four
 unfoldable pub cellAt : List ℕ → ℕ → ℕ → ℕ
 cellAt matrix r v = bit (getD matrix (4 * r + v / 64) 0) (v % 64)
 

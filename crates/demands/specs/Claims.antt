@@ -16,7 +16,8 @@ use Rattle.switch.specs.Deciding.{joins}
 use Rattle.circuit.specs.Circuit.{Circuit, Instance, no-faults, numbered, typeOfInstance, joinLists}
 use Rattle.grading.specs.Values.{labelValues, outputsOf}
 use Rattle.grading.specs.Rows.{Row, rowsOf}
-use Rattle.grading.specs.Grading.{Counts, Grading, graded, refused, gradingOf, countsIn, numberIn, placeIn, matrixAfter, classesAfterGrading}
+use Rattle.grading.specs.Grading.{Counts, Grading, graded, refused, gradingOf, countsIn, numberIn, placeIn, matrixAfter}
+use Rattle.grading.specs.Grading.{classesAfterGrading}
 use Rattle.grading.specs.Codes.{codeOf}
 use Rattle.demands.specs.Calls.{cellAt}
 use Rattle.report.specs.Report.{reportOf}
@@ -137,7 +138,13 @@ Holds (sizes file rows classes) = sizesIn (graded-whole file) ≡ (0, rows, clas
 Holds (leaves file words) = wordsIn (graded-whole file) ≡ (0, words)
 Holds (grades file size counts marks classes) =
     wholeGrading file (graded-whole file)
-    ≡ record { size = size; number = 0; counts = counts; words = joinLists (map (λ (text : String). four (wordOf text)) marks); classes = classes }
+    ≡ record {
+      size = size;
+      number = 0;
+      counts = counts;
+      words = joinLists (map (λ (text : String). four (wordOf text)) marks);
+      classes = classes;
+    }
 Holds (turns file matrix classes matrix′ classes′) = buffersAfter file matrix classes ≡ (matrix′, classes′)
 Holds (reports file lines) = reportOf (graded-whole file) ≡ bytesOfLines lines
 

@@ -60,7 +60,8 @@ norFields = typeField 3 3 2 ++ edgeField 1 2 (0 ∷ []) ++ edgeField 2 3 (1 ∷ 
 
 -- a NAND of three: h=4, o=2, k=3; from ground up 0-4 label 2; 3-4 label 1; 2-3 label 0; then 1-2 with labels 0, 1 and 2
 abbrev pub nand3Fields : List ℕ
-nand3Fields = typeField 4 2 3 ++ edgeField 0 4 (2 ∷ []) ++ edgeField 3 4 (1 ∷ []) ++ edgeField 2 3 (0 ∷ []) ++ edgeField 1 2 (0 ∷ 1 ∷ 2 ∷ [])
+nand3Fields =
+    typeField 4 2 3 ++ edgeField 0 4 (2 ∷ []) ++ edgeField 3 4 (1 ∷ []) ++ edgeField 2 3 (0 ∷ []) ++ edgeField 1 2 (0 ∷ 1 ∷ 2 ∷ [])
 
 -- two branches from supply to the output: h=5, o=4, k=4; edges 1-2 label 0, 2-4 label 1; 1-3 label 2, 3-4 label 3;
 -- then 4-5 with labels 0 and 1, 5-0 with labels 2 and 3
@@ -78,7 +79,8 @@ oneUnder inputs type vectors =
 
 abbrev pub oneListed : ℕ → List ℕ → List Bridge → List String → List ℕ
 oneListed inputs type bridges vectors =
-    inputsField inputs ++ type ++ joinLists (map (bridgeField 1) bridges) ++ instanceField 1 (list 1) (table inputs (λ (l : ℕ). primary (l + 1)))
+    inputsField inputs ++ type ++ joinLists (map (bridgeField 1) bridges)
+    ++ instanceField 1 (list 1) (table inputs (λ (l : ℕ). primary (l + 1)))
     ++ vectorFields vectors
 
 abbrev pub inverterUnder : List String → List ℕ
@@ -128,7 +130,8 @@ split = oneType (edgeField 1 2 (0 ∷ []) ++ edgeField 0 2 (1 ∷ []))
 -- inverters, one for each of these references
 abbrev pub invertersOf : List Reference → List ℕ
 invertersOf references =
-    inputsField 1 ++ inverterFields ++ joinLists (map (λ (r : Reference). instanceField 1 exhaustive (r ∷ [])) references) ++ vectorField "0"
+    inputsField 1 ++ inverterFields ++ joinLists (map (λ (r : Reference). instanceField 1 exhaustive (r ∷ [])) references)
+    ++ vectorField "0"
 
 -- an inverter with a choice
 abbrev pub inverterChoosing : Choice → List ℕ
@@ -148,5 +151,6 @@ fourInstances vectors =
 abbrev pub manyFaults : ℕ → List ℕ
 manyFaults more =
     inputsField 1 ++ inverterFields ++ joinLists (replicate 128 (bridgeField 1 (nodes 0 1))) ++ bridgeField 2 (nodes 0 1)
-    ++ joinLists (replicate 16 (instanceField 1 (list 1) (primary 1 ∷ []))) ++ joinLists (replicate more (instanceField 1 (list 2) (primary 1 ∷ [])))
+    ++ joinLists (replicate 16 (instanceField 1 (list 1) (primary 1 ∷ [])))
+    ++ joinLists (replicate more (instanceField 1 (list 2) (primary 1 ∷ [])))
     ++ vectorField "0"

@@ -1,4 +1,5 @@
--- Graders as functions, to try against the promise of `grade`: what they answer and leave in the buffers, a right one, and where a wrong one may differ.
+-- Graders as functions, to try against the promise of `grade`: what they answer and leave in the buffers, a right one, and where a wrong
+-- one may differ.
 use Prim.Native.Nat.{ℕ}
 use mathlib.Core.Bool.{Bool, cond}
 use mathlib.Core.List.{List, [], map}
@@ -11,7 +12,9 @@ use Rattle.switch.specs.Modules.{ModuleType}
 use Rattle.switch.specs.Bridges.{Bridge}
 use Rattle.circuit.specs.Circuit.{Circuit, typeOfInstance, joinLists}
 use Rattle.circuit.specs.declared.refusal.Refusal.{Refusal}
-use Rattle.circuit.specs.declared.refusal.Refusal.the-variants.{TooLong, Broken, UnknownTag, Misplaced, WrongLength, TooMany, OutOfRange, BadEnds, NotComplementary, BadReference, BridgeUnsuited, EmptyList, TooManyFaults, Unfinished}
+use Rattle.circuit.specs.declared.refusal.Refusal.the-variants.{TooLong, Broken, UnknownTag, Misplaced, WrongLength, TooMany, OutOfRange}
+use Rattle.circuit.specs.declared.refusal.Refusal.the-variants.{BadEnds, NotComplementary, BadReference, BridgeUnsuited, EmptyList}
+use Rattle.circuit.specs.declared.refusal.Refusal.the-variants.{TooManyFaults, Unfinished}
 use Rattle.grading.specs.Rows.{Row, rowsOf, rowValues, markOf}
 use Rattle.grading.specs.Classes.{sameClass, largest, classesBy, foundBy}
 use Rattle.grading.specs.Grading.{Grading, graded, refused, gradingOf, over}

@@ -1,12 +1,13 @@
--- 01, "Known results": all of them, those marked P first, then the whole example of "The report" and more of both kinds, in one table under one statement,
--- `AllKnown`. What a line says is in specs/Claims; the proof, by computation, is in proofs/KnownProof.
+-- 01, "Known results": all of them, those marked P first, then the whole example of "The report" and more of both kinds, in one table under
+-- one statement, `AllKnown`. What a line says is in specs/Claims; the proof, by computation, is in proofs/KnownProof.
 use Prim.Native.Nat.{_-_, _^_}
 use Prim.Native.String.{String}
 use mathlib.Core.List.{List, [], _∷_, _++_}
 use lib.ListN.{replicate}
 use Rattle.switch.specs.Bridges.{nodes, input}
 use Rattle.circuit.specs.Circuit.{primary, outputOf, exhaustive, no-faults, list, joinLists}
-use Rattle.demands.specs.Files.{fieldBytes, inputsField, typeField, edgeField, instanceField, inverterFields, inverter, inverterUnder, inverterListed, inverterChoosing, nandUnder, norUnder, branches, inverterThenNand}
+use Rattle.demands.specs.Files.{fieldBytes, inputsField, typeField, edgeField, instanceField, inverterFields, inverter, inverterUnder}
+use Rattle.demands.specs.Files.{inverterListed, inverterChoosing, nandUnder, norUnder, branches, inverterThenNand}
 use Rattle.demands.specs.Files.{nandOfOne, oneType, split, invertersOf, fourInstances, manyFaults}
 use Rattle.demands.specs.Claims.{Claim, reads, floats, refuses, short, sizes, leaves, grades, turns, reports, AllHold}
 
@@ -34,7 +35,8 @@ knownResults =
     ∷ reads (nandUnder ("1X" ∷ [])) 1 (nodes 2 3) "0"
     -- P: bridge 0-1 is marked under every vector, XX included
     ∷ reads (nandUnder nine) 1 (nodes 0 1) "111111111"
-    -- P: an inverter from input a, then a NAND of a and the inverter's output: X for a does not mark the NAND's 0-2, although both fillings do
+    -- P: an inverter from input a, then a NAND of a and the inverter's output: X for a does not mark the NAND's 0-2, although both fillings
+    -- do
     ∷ reads (inverterThenNand ("0" ∷ "1" ∷ "X" ∷ [])) 2 (nodes 0 2) "110"
     -- P: document 002's example: supply 1010 and ground 0100 at one end, 1100 and 0011 at the other, gives 0110.
     -- The ends are nodes 2 and 3. A node's bridge to ground reads where it is joined to supply, that to supply where it is joined to ground
@@ -142,7 +144,8 @@ knownResults =
     (7 ∷ 0 ∷ 0 ∷ 0 ∷ 1 ∷ 0 ∷ 0 ∷ 0 ∷ 2 ∷ 0 ∷ 0 ∷ 0 ∷ 2 ∷ 0 ∷ 0 ∷ 0 ∷ 1 ∷ 0 ∷ 0 ∷ 0 ∷ 3 ∷ 0 ∷ 0 ∷ 0 ∷ 9 ∷ 9 ∷ [])
     (1 ∷ 2 ∷ 3 ∷ 4 ∷ 5 ∷ 6 ∷ 9 ∷ [])
     -- four instances, rows of three of them, in the order of their lists
-    ∷ grades (fourInstances ("00" ∷ "01" ∷ "10" ∷ "11" ∷ "X0" ∷ "0X" ∷ [])) 152 (record { vectors = 6; faults = 10; classes = 10; found = 9 })
+    ∷ grades (fourInstances ("00" ∷ "01" ∷ "10" ∷ "11" ∷ "X0" ∷ "0X" ∷ [])) 152
+    (record { vectors = 6; faults = 10; classes = 10; found = 9 })
     ("010100" ∷ "111110" ∷ "000100" ∷ "100000" ∷ "001000" ∷ "101100" ∷ "010100" ∷ "101010" ∷ "000000" ∷ "111110" ∷ [])
     (1 ∷ 2 ∷ 3 ∷ 4 ∷ 5 ∷ 6 ∷ 7 ∷ 8 ∷ 9 ∷ 10 ∷ [])
     -- the NAND's output is 1 under 00, 01 and 10, and 0 under 11
@@ -160,8 +163,8 @@ knownResults =
     ∷ "1 n 0 2 1 10 1 1"
     ∷ "1 n 2 0 1 10 1 1"
     ∷ [])
-    -- more refusals, so that each number is here: a file too long, tag 0, inputs twice, three bytes for the inputs, 65 inputs, a 17th type, an edge 2-2,
-    -- a bridge of kind 2, choice -2, bridge 0-3 for an inverter, a list without bridges
+    -- more refusals, so that each number is here: a file too long, tag 0, inputs twice, three bytes for the inputs, 65 inputs, a 17th type,
+    -- an edge 2-2, a bridge of kind 2, choice -2, bridge 0-3 for an inverter, a list without bridges
     ∷ refuses (replicate 32769 0) 1 0
     ∷ refuses (0 ∷ 0 ∷ 0 ∷ []) 3 0
     ∷ refuses (inputsField 1 ++ inputsField 1) 4 5

@@ -10,7 +10,8 @@ use Rattle.demands.specs.Two.{ClassesCountOnce, NamingAgainAddsNothing, 
 use Rattle.demands.specs.Three.{ThreeHolds, MarksHoldUnderEveryFilling}
 use Rattle.demands.specs.NoConverse.{NoConverse}
 use Rattle.demands.specs.AlikeFiles.{AlikeFilesReadAlike, FinerFilesReadRefined, RowsAreOfTheHead, ColumnIsOfItsField}
-use Rattle.demands.specs.AlikeFiles.{ThreeHoldsOfFiles, MarksHoldInEveryFilledFile, FillingsAreGraded, RefinementsAreGraded, NandRefined}
+use Rattle.demands.specs.AlikeFiles.{ThreeHoldsOfFiles, MarksHoldInEveryFilledFile, FillingsAreGraded, RefinementsAreGraded}
+use Rattle.demands.specs.AlikeFiles.{NandRefined}
 use Rattle.demands.specs.SplitFiles.{AcceptedIsSplit, SplitOnce, OtherVectorsAreAccepted, FillingsAreAccepted, NotAnyHead}
 use Rattle.demands.specs.Determined.{DemandsLeaveOneOutcome, DemandsAreThePromise}
 use Rattle.demands.specs.Contracts.{GradeIsKept, EntryIsKept}

@@ -1,6 +1,6 @@
--- Wrong graders, each with its mistake and where that comes from, and the statement that it does not meet the promise of `grade`. Each is right in all else
--- (specs/Graders, `rightly`). 01's last paragraph names those of the first part, its "Slips my class makes" those of the second, README those of the third;
--- those of the fourth break 01's rules on lent memory.
+-- Wrong graders, each with its mistake and where that comes from, and the statement that it does not meet the promise of `grade`. Each is
+-- right in all else (specs/Graders, `rightly`). 01's last paragraph names those of the first part, its "Slips my class makes" those of the
+-- second, README those of the third; those of the fourth break 01's rules on lent memory.
 -- The proofs, on small files, are in proofs/WrongProof.
 use Prim.Native.Nat.{ℕ, zero, suc, _+_, _*_, min}
 use mathlib.Core.Bool.{Bool, true, false, cond, not, _&&_, _||_, Bool·beq}
@@ -26,7 +26,8 @@ use Rattle.grading.specs.Classes.{sameClass, hasMarkBy}
 use Rattle.grading.specs.Grading.{Grading, graded, refused, gradingOf, afterReading}
 use Rattle.grading.specs.declared.Answer.{Answer}
 use Rattle.demands.specs.Calls.{isGraded}
-use Rattle.demands.specs.Graders.{Grader, MeetsPromise, refusing, Work, outcomeOf, gradesBy, Packing, workBy, marksBy, rightWork, rightly}
+use Rattle.demands.specs.Graders.{Grader, MeetsPromise, refusing, Work, outcomeOf, gradesBy, Packing, workBy, marksBy, rightWork}
+use Rattle.demands.specs.Graders.{rightly}
 
 -- only the marks are wrong
 abbrev pub marking : (Circuit → Row → ℕ → ℕ) → Grader
@@ -60,7 +61,8 @@ readWithout n size known (field f rest) =
 unfoldable pub skips : ℕ → Grader
 skips n file matrix classes =
     let whole = readWithout n (length file) start (cutFrom file 0) in
-    outcomeOf rightWork (afterReading (cond (ltb mostBytes (length file)) (refusal 1 0) whole) (length matrix) (length classes)) matrix classes
+    outcomeOf rightWork
+    (afterReading (cond (ltb mostBytes (length file)) (refusal 1 0) whole) (length matrix) (length classes)) matrix classes
 
 -- it takes types that are not complementary
 abbrev pub SkipsNineIsWrong : Type 0
@@ -87,7 +89,8 @@ MarksNeverIsWrong = MeetsPromise marksNever → ⊥
 -- leaves the matrix as found; its counts and classes are right
 unfoldable pub leavesMatrix : Grader
 leavesMatrix =
-    gradesBy λ (c : Circuit). let w = rightWork c in record { words = []; classes = w .classes; class-count = w .class-count; found = w .found }
+    gradesBy λ (c : Circuit).
+    let w = rightWork c in record { words = []; classes = w .classes; class-count = w .class-count; found = w .found }
 
 abbrev pub LeavesMatrixIsWrong : Type 0
 LeavesMatrixIsWrong = MeetsPromise leavesMatrix → ⊥
@@ -102,7 +105,8 @@ FirstWordOnlyIsWrong = MeetsPromise firstWordOnly → ⊥
 -- invents the found count: all classes are found
 unfoldable pub inventsFound : Grader
 inventsFound =
-    gradesBy λ (c : Circuit). let w = rightWork c in record { words = w .words; classes = w .classes; class-count = w .class-count; found = w .class-count }
+    gradesBy λ (c : Circuit).
+    let w = rightWork c in record { words = w .words; classes = w .classes; class-count = w .class-count; found = w .class-count }
 
 abbrev pub InventsFoundIsWrong : Type 0
 InventsFoundIsWrong = MeetsPromise inventsFound → ⊥
@@ -200,7 +204,12 @@ rowsFound vectors marks (row ∷ rows) = ofBool (hasMarkBy vectors marks row) + 
 unfoldable pub countsRows : Grader
 countsRows =
     gradesBy λ (c : Circuit). let w = rightWork c in
-    record { words = w .words; classes = w .classes; class-count = w .class-count; found = rowsFound (length (c .vectors)) (markOf c) (rowsOf c) }
+    record {
+      words = w .words;
+      classes = w .classes;
+      class-count = w .class-count;
+      found = rowsFound (length (c .vectors)) (markOf c) (rowsOf c);
+    }
 
 abbrev pub CountsRowsIsWrong : Type 0
 CountsRowsIsWrong = MeetsPromise countsRows → ⊥
@@ -237,7 +246,8 @@ GoesOnIsWrong = MeetsPromise goesOn → ⊥
 
 -- the first: watches outputs instead of the leak. It marks where the closed bridge gives the module's output another value
 unfoldable pub changesOutput : ModuleType → (ℕ → Value) → Bridge → Bool
-changesOutput t values bridge = not (sameLevel (levelIn (closing bridge values ++ linksOf t values) (t .output)) (deciding.outputValue t values))
+changesOutput t values bridge =
+    not (sameLevel (levelIn (closing bridge values ++ linksOf t values) (t .output)) (deciding.outputValue t values))
 
 unfoldable pub watchesOutputs : Grader
 watchesOutputs = marking (marksBy changesOutput)
@@ -340,7 +350,11 @@ WritesPastIsWrong = MeetsPromise writesPast → ⊥
 unfoldable pub clearsFirst : Grader
 clearsFirst file matrix classes =
     let out = rightly file matrix classes in
-    record { answer = out .answer; matrix = cond (isGraded (out .answer)) (out .matrix) (replicate (length matrix) 0); classes = out .classes }
+    record {
+      answer = out .answer;
+      matrix = cond (isGraded (out .answer)) (out .matrix) (replicate (length matrix) 0);
+      classes = out .classes;
+    }
 
 abbrev pub ClearsFirstIsWrong : Type 0
 ClearsFirstIsWrong = MeetsPromise clearsFirst → ⊥

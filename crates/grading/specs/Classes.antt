@@ -1,6 +1,6 @@
--- 01, "Faults, marks and classes": two rows are in one class when they are of the same instance and kind, with the same nodes in either order for kind 0,
--- or the same node and labels with equal references for kind 1. Classes are numbered from 1 at their first row; the search for a row's class stops
--- at the first earlier row that matches. A class is found when a row of it has a mark.
+-- 01, "Faults, marks and classes": two rows are in one class when they are of the same instance and kind, with the same nodes in either
+-- order for kind 0, or the same node and labels with equal references for kind 1. Classes are numbered from 1 at their first row; the
+-- search for a row's class stops at the first earlier row that matches. A class is found when a row of it has a mark.
 use Prim.Native.Nat.{ℕ, suc, max}
 use mathlib.Core.Bool.{Bool, false, cond, _&&_, _||_}
 use mathlib.Core.List.{List, [], _∷_, _++_}

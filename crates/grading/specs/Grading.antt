@@ -1,5 +1,6 @@
--- The answer for given bytes and given buffer lengths. 01, "Refusal numbers": the table's refusals, then 15, then 22; a refusal leaves the matrix and the class buffer
--- unwritten and the four counts at 0. Words past the last row, and class entries past the last, keep their contents.
+-- The answer for given bytes and given buffer lengths. 01, "Refusal numbers": the table's refusals, then 15, then 22; a refusal leaves the
+-- matrix and the class buffer unwritten and the four counts at 0. Words past the last row, and class entries past the last, keep their
+-- contents.
 use Prim.Native.Nat.{ℕ, _*_}
 use mathlib.Core.Bool.{cond}
 use mathlib.Core.List.{List, _++_}

@@ -1,4 +1,5 @@
--- The promise of `grade`: its whole answer and both buffers at exit, on refusal too, for any bytes and any buffers. And that of `grade_read`.
+-- The promise of `grade`: its whole answer and both buffers at exit, on refusal too, for any bytes and any buffers. And that of
+-- `grade_read`.
 use Prim.Native.Nat.{ℕ}
 use mathlib.Core.Path.{_≡_}
 use mathlib.Core.List.{List}

@@ -1,5 +1,6 @@
--- 01, "Faults, marks and classes": rows stand in instance order, those of one instance in the order of its list. A row is marked under a vector when, with its bridge
--- closed, a path runs from supply to ground in its instance: 01 gives the mark by the ends and has the agreement proved, which is `ClosedPathIsEnds` of the crate `switch`.
+-- 01, "Faults, marks and classes": rows stand in instance order, those of one instance in the order of its list. A row is marked under a
+-- vector when, with its bridge closed, a path runs from supply to ground in its instance: 01 gives the mark by the ends and has the
+-- agreement proved, which is `ClosedPathIsEnds` of the crate `switch`.
 use Prim.Native.Nat.{ℕ, suc}
 use mathlib.Core.Bool.{Bool}
 use mathlib.Core.List.{List, [], _∷_, _++_, map}

@@ -14,7 +14,8 @@ use Rattle.grading.specs.Classes.{sameClass, classesOf, classCount}
 abbrev pub RowOf : Circuit → Row → Type 0
 RowOf c row = List·Memᴰ row (rowsOf c)
 
--- on the rows of a circuit, to be of one class is an equivalence. Rows with equal numbers are of one instance, which says what labels have equal references
+-- on the rows of a circuit, to be of one class is an equivalence. Rows with equal numbers are of one instance, which says what labels have
+-- equal references
 pub record SameClassIsEquivalence (c : Circuit) : Type 0 where
   pub one-instance : (r s : Row) → RowOf c r → RowOf c s → r .number ≡ s .number → r .instance ≡ s .instance
   pub itself : (r : Row) → T (sameClass r r)
@@ -30,8 +31,8 @@ ClassesHaveEqualMarks =
 abbrev pub classNumber : Circuit → ℕ → ℕ
 classNumber c r = getD (classesOf (rowsOf c)) r 0
 
--- each row has a number; two rows have equal numbers exactly when they are of one class; the numbers are 1 to the number of classes, and each of them is a row's.
--- `none` stands past the last row
+-- each row has a number; two rows have equal numbers exactly when they are of one class; the numbers are 1 to the number of classes, and
+-- each of them is a row's. `none` stands past the last row
 pub record ClassNumbers (c : Circuit) : Type 0 where
   pub one-each : length (classesOf (rowsOf c)) ≡ length (rowsOf c)
   pub same : (r s : ℕ) (none : Row) → r < length (rowsOf c) → s < length (rowsOf c)

@@ -1,4 +1,5 @@
--- 01, "Conduction": a label has the value of its reference. Instances are taken in file order; an instance's output is 1 if joined to node 1, 0 if joined to node 0, and otherwise X.
+-- 01, "Conduction": a label has the value of its reference. Instances are taken in file order; an instance's output is 1 if joined to node
+-- 1, 0 if joined to node 0, and otherwise X.
 use Prim.Native.Nat.{ℕ}
 use mathlib.Core.List.{List, [], _∷_, _++_, map}
 use lib.ListN.{getD}

@@ -11,7 +11,8 @@ use Rattle.bridges.specs.declared.lists.Lists.{Lists}
 unfoldable pub listNamed : ℕ → ℕ
 listNamed choice = cond (ltb choice 128) choice 0
 
--- what a choice gives in a type with h and k, where the list that it names has `count` bridges, which name nodes up to `node` and labels below `label`
+-- what a choice gives in a type with h and k, where the list that it names has `count` bridges, which name nodes up to `node` and labels
+-- below `label`
 unfoldable pub chosenOf : ℕ → ℕ → ℕ → ℕ → ℕ → ℕ → Chosen
 chosenOf h k choice count node label =
     cond (leb 128 choice) (record { faults = exhaustiveSize h k; unsuited = false; empty = false })

@@ -52,7 +52,8 @@ pub record InstanceFits (body : List ℕ) : Type 0 where
   pub good : T (allOf (referenceGood 64 128) (referencesIn body))
 
 -- the types and lists that instances are held to
-pub record TypesAndLists (types : List ModuleType) (bridges : List Listed) (typeCount : ℕ) (all : List TypeRecord) (lists : Lists) : Type 0 where
+pub record TypesAndLists (types : List ModuleType) (bridges : List Listed) (typeCount : ℕ) (all : List TypeRecord)
+    (lists : Lists) : Type 0 where
   pub within : length types ≤ mostTypes
   pub counted : typeCount ≡ length types
   pub is : all ≡ padded mostTypes unusedType (map typeRecord types)

@@ -148,7 +148,11 @@ settingZeros block = table mostLabels (λ (l : ℕ). word (λ (v : ℕ). 1 - bit
 
 -- the words of a type's output for each rail
 abbrev pub outputWords : ModuleType → List ℕ → List ℕ → OutputWords
-outputWords t ones zeros = record { supply = getD (railWords t ones zeros supply) (t .output) 0; ground = getD (railWords t ones zeros ground) (t .output) 0 }
+outputWords t ones zeros =
+    record {
+      supply = getD (railWords t ones zeros supply) (t .output) 0;
+      ground = getD (railWords t ones zeros ground) (t .output) 0;
+    }
 
 -- under each of the 64 settings of a block that are below `settings`, the output is joined to exactly one rail
 pub record BlockVerdict (t : ModuleType) (block settings : ℕ) (holds : Bool) : Type 0 where

@@ -1,4 +1,5 @@
--- What the code computes, as lists of words: signals' planes, an instance's words, mark words. The inputs' planes are in the crate `signals`.
+-- What the code computes, as lists of words: signals' planes, an instance's words, mark words. The inputs' planes are in the crate
+-- `signals`.
 use Prim.Native.Nat.{ℕ, _+_, _-_, _*_, _/_, _%_, _<_, _≤_}
 use mathlib.Core.Bool.{Bool, true, false, cond}
 use mathlib.Core.List.{List, []}
@@ -106,7 +107,8 @@ vectorsIn vectors w = firstOnes (vectors - 64 * w)
 
 -- the four words of a row, under masks
 unfoldable pub rowUnderMasks : List ℕ → List ℕ → List ℕ → List ℕ → List ℕ → ℕ → List ℕ
-rowUnderMasks toSupply toGround ones zeros masks row = table 4 (λ (w : ℕ). bitAnd (markWord toSupply toGround ones zeros row w) (getD masks w 0))
+rowUnderMasks toSupply toGround ones zeros masks row =
+    table 4 (λ (w : ℕ). bitAnd (markWord toSupply toGround ones zeros row w) (getD masks w 0))
 
 -- the words of an instance's rows, from one place to another
 unfoldable pub rowsWords : List ℕ → List ℕ → List ℕ → List ℕ → List ℕ → ℕ → ℕ → ℕ → List ℕ
@@ -114,8 +116,10 @@ rowsWords rows toSupply toGround ones zeros vectors from to =
     table (4 * (to - from)) (λ (i : ℕ).
     bitAnd (markWord toSupply toGround ones zeros (getD rows (from + i / 4) 0) (i % 4)) (vectorsIn vectors (i % 4)))
 
--- what marking an instance asks, with t its type's record: its type and references are in range, and there is room for its rows and its output
-pub record InstanceGiven (t : TypeRecord) (references : List ReferenceRecord) (place : ℕ) (rows : List ℕ) (from to : ℕ) (ones zeros matrix : List ℕ) : Type 0 where
+-- what marking an instance asks, with t its type's record: its type and references are in range, and there is room for its rows and its
+-- output
+pub record InstanceGiven (t : TypeRecord) (references : List ReferenceRecord) (place : ℕ) (rows : List ℕ) (from to : ℕ)
+    (ones zeros matrix : List ℕ) : Type 0 where
   pub sound : TypeGiven t
   pub tied : ReferencesFit references (t .labels)
   pub placed : place < 128

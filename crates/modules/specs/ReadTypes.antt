@@ -1,4 +1,5 @@
--- What the functions that read types and edges promise: the list that was read, how it stands in the record, and that the stage ended there.
+-- What the functions that read types and edges promise: the list that was read, how it stands in the record, and that the stage ended
+-- there.
 use Prim.Native.Nat.{ℕ, _+_, _≤_}
 use mathlib.Core.Path.{_≡_}
 use mathlib.Core.Bool.{Bool, _&&_}

@@ -1,6 +1,6 @@
--- 01, "The report": fields are separated by one space, lines end with byte 10. First line: vectors, faults, classes and found, each word before its number.
--- Row: instance; n for kind 0 or i for kind 1; first; second; class; one digit for each vector, 1 for a mark; number of marks; first marking vector or 0.
--- A refusal: refused N at B.
+-- 01, "The report": fields are separated by one space, lines end with byte 10. First line: vectors, faults, classes and found, each word
+-- before its number. Row: instance; n for kind 0 or i for kind 1; first; second; class; one digit for each vector, 1 for a mark; number of
+-- marks; first marking vector or 0. A refusal: refused N at B.
 use Prim.Native.Nat.{ℕ, zero, suc, _+_}
 use mathlib.Core.List.{List, [], _∷_, _++_}
 use Rattle.words.specs.Tables.{table}
@@ -48,7 +48,8 @@ digitsOfMarks vectors row = table vectors (λ (v : ℕ). 48 + markAt row v)
 
 unfoldable pub rowLine : ℕ → ℕ → ℕ → ℕ → ℕ → ℕ → List ℕ → List ℕ
 rowLine instance kind first second class vectors row =
-    decimal instance ++ space ++ (kindLetter kind ∷ []) ++ space ++ decimal first ++ space ++ decimal second ++ space ++ decimal class ++ space
+    decimal instance ++ space ++ (kindLetter kind ∷ []) ++ space ++ decimal first ++ space ++ decimal second ++ space ++ decimal class
+    ++ space
     ++ digitsOfMarks vectors row ++ space ++ decimal (marksOf row) ++ space ++ decimal (firstMarkOf row) ++ newline
 
 unfoldable pub refusalLine : ℕ → ℕ → List ℕ

@@ -26,7 +26,8 @@ listedCodes n listNumber (b ∷ bs) =
 -- the codes of the rows of the instance at a place, from its choice, its type's h and k, and the bridges' records
 unfoldable pub instanceCodes : ℕ → ℕ → ℕ → ℕ → List BridgeRecord → List ℕ
 instanceCodes place choice h k bridges =
-    cond (eqb choice 255) (map (codeOf (place + 1)) (nodePairs h ++ nodeInputs h k)) (cond (eqb choice 0) [] (listedCodes (place + 1) choice bridges))
+    cond (eqb choice 255) (map (codeOf (place + 1)) (nodePairs h ++ nodeInputs h k))
+    (cond (eqb choice 0) [] (listedCodes (place + 1) choice bridges))
 
 unfoldable pub codesOf : List Row → List ℕ
 codesOf rows = map (λ (r : Row). codeOf (r .number) (r .bridge)) rows

@@ -22,7 +22,8 @@ unfoldable pub closing : Bridge → (ℕ → Value) → List Link
 closing (nodes a b) values = (a, b) ∷ []
 closing (input m l) values = toLabel m (values l)
 
--- a bridge is marked when, with it closed, a path runs from supply to ground. What is on, and the label's value, are those without the bridge
+-- a bridge is marked when, with it closed, a path runs from supply to ground. What is on, and the label's value, are those without the
+-- bridge
 unfoldable pub Marked : ModuleType → (ℕ → Value) → Bridge → Type 0
 Marked t values bridge = Joined (closing bridge values ++ linksOf t values) supply ground
 

@@ -1,5 +1,5 @@
--- Boolean tests that compute: joined, complementary, the output's value, a mark. That they decide what Conduction, Modules and Bridges say is proved in
--- proofs/Deciding and, of the output's value, in proofs/Refinement.
+-- Boolean tests that compute: joined, complementary, the output's value, a mark. That they decide what Conduction, Modules and Bridges say
+-- is proved in proofs/Deciding and, of the output's value, in proofs/Refinement.
 use Prim.Native.Nat.{ℕ, zero, suc, _^_}
 use mathlib.Core.Bool.{Bool, true, cond, _&&_, not, Bool·beq}
 use mathlib.Core.List.{List, [], _∷_, _++_}

@@ -1,5 +1,5 @@
--- What the code of the crate `joining` promises a caller, as lists and records: the rails' words, and the planes of values, 64 vectors to a word.
--- A word has a bit for each of 64 vectors.
+-- What the code of the crate `joining` promises a caller, as lists and records: the rails' words, and the planes of values, 64 vectors to a
+-- word. A word has a bit for each of 64 vectors.
 use Prim.Native.Nat.{ℕ}
 use mathlib.Core.List.{List}
 use Rattle.words.specs.Bits.{bit, ofBool, word}
@@ -12,8 +12,8 @@ use Rattle.switch.specs.Records.{valueOf, valuesAt}
 use Rattle.switch.specs.declared.Rails.{Rails}
 use Rattle.switch.specs.declared.Planes.{Planes}
 
--- bit v of node m's word is 1 exactly when m is joined to the rail under vector v. The 64 positions are alike: those past the last vector have bits
--- too, by what the planes hold there, and only `rowOf` of the crate `words` leaves them out
+-- bit v of node m's word is 1 exactly when m is joined to the rail under vector v. The 64 positions are alike: those past the last vector
+-- have bits too, by what the planes hold there, and only `rowOf` of the crate `words` leaves them out
 unfoldable pub railWords : ModuleType → List ℕ → List ℕ → ℕ → List ℕ
 railWords t ones zeros rail =
     table mostNodes (λ (m : ℕ). word (λ (v : ℕ). ofBool (joins (linksOf t (valuesAt ones zeros v)) m rail)))

@@ -1,4 +1,5 @@
--- The code's records in the words of Conduction and Modules: an edge record, a module type, planes of labels, and what a record must be to be one of 01's.
+-- The code's records in the words of Conduction and Modules: an edge record, a module type, planes of labels, and what a record must be to
+-- be one of 01's.
 use Prim.Native.Nat.{ℕ, zero, suc, _≤_, _<_}
 use mathlib.Core.Path.{_≡_}
 use mathlib.Core.List.{List, [], map}
@@ -59,7 +60,8 @@ pub record EdgesGiven (h o k : ℕ) (rs : List EdgeRecord) : Type 0 where
   pub label-places : T (allOf (λ (e : EdgeRecord). leb (e .count) mostParallel) rs)
   pub ranges : T (inRange (typeWith h o k rs))
 
--- a label's value from its bit in the known-1 plane and in the known-0 plane. No file gives both; taken as 1, every pair of planes has a meaning
+-- a label's value from its bit in the known-1 plane and in the known-0 plane. No file gives both; taken as 1, every pair of planes has a
+-- meaning
 unfoldable pub valueOf : ℕ → ℕ → Value
 valueOf (suc b) zeros = at1
 valueOf zero (suc b) = at0

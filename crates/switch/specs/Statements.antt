@@ -51,10 +51,11 @@ pub record RailsApart : Type 0 where
 -- (a) 01, "Faults, marks and classes": under any values, X among them, the closed bridge makes a path from supply to ground
 -- exactly when one end is joined to supply and the other to ground, or for kind 1 by the label's value
 abbrev pub ClosedPathIsEnds : Type 0
-ClosedPathIsEnds = (t : ModuleType) → Accepted t → (values : ℕ → Value) (bridge : Bridge) → Marked t values bridge ↔ MarkedByEnds t values bridge
+ClosedPathIsEnds =
+    (t : ModuleType) → Accepted t → (values : ℕ → Value) (bridge : Bridge) → Marked t values bridge ↔ MarkedByEnds t values bridge
 
--- values are refined when each label that was X is anything now, and each 0 and 1 is kept. Labels past k are X in every use, so nothing is lost
--- by asking it of all labels
+-- values are refined when each label that was X is anything now, and each 0 and 1 is kept. Labels past k are X in every use, so nothing is
+-- lost by asking it of all labels
 abbrev pub Refines : (ℕ → Value) → (ℕ → Value) → Type 0
 Refines values finer = (l : ℕ) → (values l ≡ atX) ⊎ (finer l ≡ values l)
 

@@ -1,4 +1,5 @@
--- What the crate `words` means: bits and packing, lists made from functions, things with some words each, rows of marks; and the laws on them that other crates rest on.
+-- What the crate `words` means: bits and packing, lists made from functions, things with some words each, rows of marks; and the laws on
+-- them that other crates rest on.
 pub mod Bits
 pub mod Each
 pub mod Rows

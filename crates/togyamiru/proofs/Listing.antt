@@ -11,7 +11,7 @@ use lib.ListN.{length, getD, set, take, length-map}
 use lib.Seq.{paste, paste-suc, length-take-le}
 use Rattle.circuit.specs.Reading.{Reading, accepted, refusal, readingOf}
 use Rattle.circuit.specs.Records.{padded}
-use Rattle.circuit.specs.Refusals.{refusalNumber, refusalPlace, verdictOf}
+use Rattle.circuit.specs.Refusals.{verdictOf}
 use Rattle.circuit.specs.Verdicts.{isRefused}
 use Rattle.circuit.specs.Answers.{Tells}
 use Rattle.circuit.specs.declared.Reading.{Reading as ReadingRecord}
@@ -19,13 +19,16 @@ use Rattle.circuit.specs.declared.Circuit.{Circuit as CircuitRecord}
 use Rattle.circuit.proofs.TypeLaws.{take-padded}
 use Rattle.circuit.proofs.CircuitLaws.{accepted-is-good}
 use Rattle.grading.specs.Rows.{Row, rowsOf}
-use Rattle.grading.specs.Grading.{countsOfCircuit, gradingOfCircuit, afterReading, gradingOf, countsIn, numberIn, placeIn, over}
-use Rattle.grading.specs.Promise.{numberOf, placeOf}
+use Rattle.grading.specs.Grading.{Counts, Grading, countsOfCircuit, gradingOfCircuit, afterReading, gradingOf, countsIn, numberIn, placeIn, over}
+use Rattle.grading.specs.Promise.{numberOf, placeOf, countsMeant, countsOf}
+use Rattle.grading.specs.declared.Counts.{Counts as CountsRecord}
+use Rattle.grading.specs.declared.Answer.{Answer}
+use Rattle.grading.specs.declared.Answer.the-variants.{Graded, Refused, ShortClasses}
 use Rattle.grading.proofs.RowLaws.{few-rows}
 use Rattle.grader.proofs.Assembly.{faults-are}
 use Rattle.grader.proofs.GradingLaws.{refused-meets, Accepted, good-here}
 use Rattle.rows.specs.Model.{codesOf}
-use Rattle.togyamiru.specs.RowsEntry.{listingAfter, threeNumbers, rowsAfterListing, RowsMeets, RowsPromise}
+use Rattle.togyamiru.specs.RowsEntry.{listingAfter, threeNumbers, rowsAfterListing, Lists, Listing, RowsMeets, RowsPromise}
 
 -- ---- codes put at the front of the rows, one more, and the first n
 
@@ -40,25 +43,18 @@ pub put-first : (rows codes : List ℕ) (n : ℕ) → n ≤ length codes → pas
 unfolding over
 put-first rows codes n within = rw (length-take-le n codes within, zero-add n)
 
--- ---- what the function answers
+-- ---- the answer of the code
 
--- three numbers in a row
-abbrev three : ℕ → ℕ → ℕ → List ℕ
-three n p faults = n ∷ p ∷ faults ∷ []
-
-pub refused-rows : (read : Reading) (r : ReadingRecord) → Tells read r → isRefused (verdictOf (r .refusal)) ≡ true → (n p : ℕ)
-    → n ≡ refusalNumber (r .refusal) → p ≡ refusalPlace (r .refusal) → (rows : List ℕ) → RowsMeets (listingAfter read (length rows)) rows (n ∷ p ∷ 0 ∷ []) rows
-unfolding listingAfter threeNumbers rowsAfterListing afterReading numberOf placeOf numberIn placeIn countsIn Tells isRefused verdictOf
-refused-rows (accepted c) r tells e n p is-n is-p rows = absurd (never (sym (ap isRefused (tells .0)) ∙ e))
+pub refused-rows : (read : Reading) (r : ReadingRecord) → Tells read r → isRefused (verdictOf (r .refusal)) ≡ true
+    → (rows : List ℕ) → Lists (listingAfter read (length rows)) (Refused (r .refusal)) rows rows
+unfolding listingAfter rowsAfterListing afterReading numberIn placeIn countsIn Tells isRefused verdictOf
+refused-rows (accepted c) r tells e rows = absurd (never (sym (ap isRefused (tells .0)) ∙ e))
   where
     never : false ≡ true → ⊥
     never z = let y : _≡_ {A = ℕ} 0 1 = cc in absurd (omega arith)
-refused-rows (refusal number place) r tells e n p is-n is-p rows =
+refused-rows (refusal number place) r tells e rows =
     let told = refused-meets (refusal number place) r tells e 0 0 [] [] in
-    record {
-      answer-at-exit = ap (λ (k : ℕ). three k p 0) (is-n ∙ told .number) ∙ ap (λ (q : ℕ). three number q 0) (is-p ∙ told .place);
-      rows-at-exit = refl;
-    }
+    record { number = told .number; place = told .place; faults = ap (λ (counts : Counts). counts .faults) (told .counts); rows-at-exit = refl }
 
 length-codes : (rows : List Row) → length (codesOf rows) ≡ length rows
 unfolding codesOf
@@ -71,26 +67,45 @@ module _ (file : List ℕ) (m : CircuitRecord) (here : Accepted file m) where
   pub faults-few : m .faults ≤ 2048
   faults-few = omega (arith, same-faults, few-rows (here .circuit) (good-here _ _ here))
 
-  pub short-rows : (rows : List ℕ) → length rows < m .faults → RowsPromise file rows (22 ∷ m .faults ∷ 0 ∷ []) rows
-  unfolding listingAfter threeNumbers rowsAfterListing numberIn placeIn countsIn
+  pub short-rows : (rows : List ℕ) → length rows < m .faults → Listing file rows (ShortClasses (m .faults)) rows
+  unfolding listingAfter rowsAfterListing numberIn placeIn countsIn numberOf placeOf countsOf
   short-rows rows short =
       let test = lt-ltb (length rows) (length (rowsOf (here .circuit))) (rw same-faults at short) in
-      rw (here .reads, test, same-faults) record { answer-at-exit = refl; rows-at-exit = refl }
+      rw (here .reads, test, same-faults) record { number = refl; place = refl; faults = refl; rows-at-exit = refl }
 
   pub rows-listed : (rows : List ℕ) → m .faults ≤ length rows → (codes rows′ : List ℕ) → codes ≡ padded 2048 0 (codesOf (rowsOf (here .circuit)))
-      → rows′ ≡ over (take (m .faults) codes) rows → RowsPromise file rows (0 ∷ 0 ∷ m .faults ∷ []) rows′
-  unfolding listingAfter threeNumbers rowsAfterListing numberIn placeIn countsIn countsOfCircuit
+      → rows′ ≡ over (take (m .faults) codes) rows → Listing file rows (Graded record { vectors = 0; faults = m .faults; classes = 0; found = 0 }) rows′
+  unfolding listingAfter rowsAfterListing numberIn placeIn countsIn countsOfCircuit numberOf placeOf countsOf
   rows-listed rows fits codes rows′ are put =
       let c = here .circuit in
       let test = le-ltb (length rows) (length (rowsOf c)) (rw same-faults at fits) in
       let long : length (codesOf (rowsOf c)) ≡ m .faults = length-codes (rowsOf c) ∙ sym same-faults in
       let all : take (m .faults) codes ≡ codesOf (rowsOf c)
-      = ap (take (m .faults)) are ∙ ap (λ (n : ℕ). take n (padded 2048 0 (codesOf (rowsOf c)))) (sym long)
+      = ap (take (m .faults)) are
+      ∙ ap (λ (n : ℕ). take n (padded 2048 0 (codesOf (rowsOf c)))) (sym long)
       ∙ take-padded 0 2048 (codesOf (rowsOf c)) (omega (arith, long, faults-few)) in
       rw (here .reads, test) record {
-        answer-at-exit = ap (three 0 0) same-faults;
+        number = refl;
+        place = refl;
+        faults = same-faults;
         rows-at-exit = put ∙ ap (λ (text : List ℕ). over text rows) all;
       }
+
+-- ---- its three numbers
+
+-- three numbers in a row
+abbrev three : ℕ → ℕ → ℕ → List ℕ
+three n p faults = n ∷ p ∷ faults ∷ []
+
+pub three-numbers : (g : Grading) (answer : Answer) (rows rows′ : List ℕ) (n p : ℕ) (counts : CountsRecord) → Lists g answer rows rows′
+    → n ≡ numberOf answer → p ≡ placeOf answer → countsMeant counts ≡ countsOf answer → RowsMeets g rows (n ∷ p ∷ counts .faults ∷ []) rows′
+unfolding threeNumbers
+three-numbers g answer rows rows′ n p counts lists is-n is-p are = record {
+  answer-at-exit = ap (λ (k : ℕ). three k p (counts .faults)) (is-n ∙ lists .number)
+      ∙ ap (λ (k : ℕ). three (numberIn g) k (counts .faults)) (is-p ∙ lists .place)
+      ∙ ap (three (numberIn g) (placeIn g)) (ap (λ (c : Counts). c .faults) are ∙ lists .faults);
+  rows-at-exit = lists .rows-at-exit;
+}
 
 -- ---- one outcome only
 

@@ -1,9 +1,9 @@
 /*
- * The grader from C, C++ and other languages. Link target/staticlib/libtogyamiru.a, which `rt staticlib togyamiru` proves and writes for x86-64.
- * Of a C library it needs memcpy and memset alone.
+ * The grader from C and C++. Link target/staticlib/libtogyamiru.a, which `rt staticlib togyamiru` proves and writes for x86-64; of the C library it needs memcpy and
+ * memset alone.
  *
- * The functions are thread-safe: a call touches what it is lent and its own stack, and nothing else. There is no heap, no static data, no file.
- * Of stack a call of togyamiru_grade takes at most STACK_OF_GRADE bytes and a call of togyamiru_rows STACK_OF_ROWS, as measured by bench/stack.c; a thread's stack must be larger.
+ * The functions are thread-safe: a call touches what it is lent and its own stack, and nothing else. There is no heap, no static data, no input or output.
+ * A call takes 64,440 bytes of stack, whatever the file holds, as measured by bench/stack.c; TOGYAMIRU_MOST_STACK is enough.
  *
  * What a caller owes: each pointer is not null and is aligned for its type, also where the length is 0; it points to that many elements, which
  * nothing else reads or writes during the call; no two of the buffers and the answer overlap, and none overlaps the file. Nothing checks that.
@@ -51,12 +51,13 @@ enum {
 };
 
 /*
- * The longest file that is graded, and the most faults that a file can have. A matrix of MOST_FAULTS * WORDS_A_FAULT words and a class
- * buffer of MOST_FAULTS entries are long enough for every file, and so is a row buffer of MOST_FAULTS codes.
+ * The longest file that is graded, the most faults that a file can have, the words of the matrix for each, and the bytes of stack that are enough for a call.
+ * MOST_FAULTS * WORDS_A_FAULT words of matrix, MOST_FAULTS classes and MOST_FAULTS rows are enough for every file.
  */
 #define TOGYAMIRU_MOST_BYTES 32768
 #define TOGYAMIRU_MOST_FAULTS 2048
 #define TOGYAMIRU_WORDS_A_FAULT 4
+#define TOGYAMIRU_MOST_STACK 65536
 
 /*
  * Grades a circuit file.
@@ -69,9 +70,9 @@ enum {
  *
  * After a refusal the matrix and the class buffer are as they were.
  *
- * To learn how much a file needs, lend no words and no entries: the answer is then 15 with the words needed, four for each fault; or any
- * other refusal, of the file itself; or 0, of a file without faults, which needs none. With a matrix that is long enough and no entries it is 22
- * with the faults. examples/report.c does it so.
+ * To learn how much a file needs, lend 0 words and 0 entries, by pointers that are not null. The answer is then 15 with the words needed, four for each fault; or
+ * 0 of a file without faults, which needs none; or what the file is refused for. With words enough and 0 entries it is 22 with the faults.
+ * examples/report.c lends so.
  */
 void togyamiru_grade(const uint8_t *file, size_t file_length, uint64_t *matrix, size_t matrix_words, uint16_t *classes,
                      size_t class_entries, uint64_t answer[TOGYAMIRU_NUMBERS]);

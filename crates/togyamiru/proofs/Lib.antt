@@ -1,3 +1,3 @@
 -- The proofs of the entries for C and Rust.
 pub mod Numbers
-pub mod Listing
+pub mod RowsLaws

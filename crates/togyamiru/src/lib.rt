@@ -12,16 +12,14 @@ use reader::read::read_stages;
 use rows::rows_of;
 ghost use Prim.Native.Nat.{_≤_};
 ghost use mathlib.Core.Bool.{true, false};
-ghost use mathlib.Core.List.{List};
 ghost use mathlib.Core.Path.{_≡_};
 ghost use lib.ListN.{length, take};
-ghost use Rattle.circuit.specs.Reading.{readingOf};
-ghost use Rattle.circuit.specs.Answers.{Tells};
 ghost use Rattle.grading.specs.Grading.{over};
 ghost use Rattle.grading.specs.Given.{Read};
 ghost use Rattle.grading.specs.Promise.{Promise};
 ghost use Rattle.togyamiru.specs.Entry.{EntryPromise};
-ghost use Rattle.togyamiru.specs.RowsEntry.{ListingOfRead, Listing, RowsPromise};
+ghost use Rattle.togyamiru.specs.RowsEntry.{RowsPromise};
+ghost use Rattle.togyamiru.specs.RowsModel.{RowsAnswer, RowsAnswerOfRead};
 
 // The first codes, at the front of the rows.
 fn put_rows(codes: [u32; MOST_FAULTS], count: usize, rows: &mut [u32])
@@ -38,7 +36,7 @@ fn put_rows(codes: [u32; MOST_FAULTS], count: usize, rows: &mut [u32])
 // The rows of a file as it was read, with their count alone, or a refusal, with the row buffer as it was.
 fn list_read(reading: Reading, rows: &mut [u32]) -> Answer
     requires { ⌜ Read reading ⌝ }
-    ensures { λ r. ⌜ ListingOfRead reading (now (rows .entry)) r (now (rows .exit)) ⌝ }
+    ensures { λ r. ⌜ RowsAnswerOfRead reading (now (rows .entry)) r (now (rows .exit)) ⌝ }
 {
     let refusal = reading.refusal;
     if refuses(refusal) {
@@ -67,7 +65,7 @@ fn answer_to(
     matrix: &mut [u64],
     classes: &mut [u16],
 ) -> Answer
-    ensures { λ r. ⌜ (lists ≡ true → Listing (now (file .entry)) (now (rows .entry)) r (now (rows .exit))) × (lists ≡ false → Promise (now (file .entry)) (now (matrix .entry)) (now (classes .entry)) r (now (matrix .exit)) (now (classes .exit))) ⌝ }
+    ensures { λ r. ⌜ (lists ≡ true → RowsAnswer (now (file .entry)) (now (rows .entry)) r (now (rows .exit))) × (lists ≡ false → Promise (now (file .entry)) (now (matrix .entry)) (now (classes .entry)) r (now (matrix .exit)) (now (classes .exit))) ⌝ }
 {
     let reading = read_stages(file);
     if lists {
@@ -99,7 +97,7 @@ pub extern "C" fn togyamiru_grade(
     ];
 }
 
-// Lists the rows of a file in a lent buffer, a number each. The answer is three numbers: the refusal's number and its place, 0 and 0 where there is none, and the count of faults.
+// RowsAnswered the rows of a file in a lent buffer, a number each. The answer is three numbers: the refusal's number and its place, 0 and 0 where there is none, and the count of faults.
 #[no_mangle]
 pub extern "C" fn togyamiru_rows(file: &[u8], rows: &mut [u32], answer: &mut [u64; 3])
     ensures { λ _. ⌜ RowsPromise (now (file .entry)) (now (rows .entry)) (now (answer .exit)) (now (rows .exit)) ⌝ }

@@ -8,7 +8,7 @@ use Rattle.circuit.specs.Reading.{readingOf}
 use Rattle.circuit.specs.Answers.{Tells}
 use Rattle.circuit.specs.declared.Reading.{Reading as ReadingRecord}
 use Rattle.grader.proofs.GradingLaws.{Accepted, accepted-here, good-here, given}
-use Rattle.togyamiru.proofs.Listing.{refused-rows, faults-few, short-rows, rows-listed}
+use Rattle.togyamiru.proofs.RowsLaws.{refused-rows, faults-few, short-rows, rows-listed}
 use Rattle.togyamiru.proofs.list_read.Statement.{statement}
 use Rattle.togyamiru.proofs.list_read.Tie as tie
 

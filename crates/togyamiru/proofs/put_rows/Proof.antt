@@ -6,7 +6,7 @@ use native.Mathlib.Omega.{arith}
 use borrow.Author.Needs.{needs}
 use lib.ListN.{length, getD, set, length-set}
 use lib.Seq.{paste}
-use Rattle.togyamiru.proofs.Listing.{one-more, put-first}
+use Rattle.togyamiru.proofs.RowsLaws.{one-more, put-first}
 use Rattle.togyamiru.proofs.put_rows.Statement.{statement}
 use Rattle.togyamiru.proofs.put_rows.Tie as tie
 

@@ -1,7 +1,7 @@
 -- `togyamiru::togyamiru_rows` meets its contract: the numbers of the answer in their order, and the buffer as listing leaves it. Assumes nothing.
 use mathlib.Core.Path.{refl}
 use borrow.Author.Needs.{needs}
-use Rattle.togyamiru.proofs.Listing.{three-numbers}
+use Rattle.togyamiru.proofs.RowsLaws.{three-numbers}
 use Rattle.togyamiru.proofs.togyamiru_rows.Statement.{statement}
 use Rattle.togyamiru.proofs.togyamiru_rows.Tie as tie
 

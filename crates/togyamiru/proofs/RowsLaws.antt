@@ -28,7 +28,8 @@ use Rattle.grading.proofs.RowLaws.{few-rows}
 use Rattle.grader.proofs.Assembly.{faults-are}
 use Rattle.grader.proofs.GradingLaws.{refused-meets, Accepted, good-here}
 use Rattle.rows.specs.Model.{codesOf}
-use Rattle.togyamiru.specs.RowsEntry.{listingAfter, threeNumbers, rowsAfterListing, Lists, Listing, RowsMeets, RowsPromise}
+use Rattle.togyamiru.specs.RowsEntry.{rowsAfterReading, threeNumbers, rowsBufferAfter, RowsMeets, RowsPromise}
+use Rattle.togyamiru.specs.RowsModel.{RowsAnswered, RowsAnswer}
 
 -- ---- codes put at the front of the rows, one more, and the first n
 
@@ -46,8 +47,8 @@ put-first rows codes n within = rw (length-take-le n codes within, zero-add n)
 -- ---- the answer of the code
 
 pub refused-rows : (read : Reading) (r : ReadingRecord) → Tells read r → isRefused (verdictOf (r .refusal)) ≡ true
-    → (rows : List ℕ) → Lists (listingAfter read (length rows)) (Refused (r .refusal)) rows rows
-unfolding listingAfter rowsAfterListing afterReading numberIn placeIn countsIn Tells isRefused verdictOf
+    → (rows : List ℕ) → RowsAnswered (rowsAfterReading read (length rows)) (Refused (r .refusal)) rows rows
+unfolding rowsAfterReading rowsBufferAfter afterReading numberIn placeIn countsIn Tells isRefused verdictOf
 refused-rows (accepted c) r tells e rows = absurd (never (sym (ap isRefused (tells .0)) ∙ e))
   where
     never : false ≡ true → ⊥
@@ -67,15 +68,15 @@ module _ (file : List ℕ) (m : CircuitRecord) (here : Accepted file m) where
   pub faults-few : m .faults ≤ 2048
   faults-few = omega (arith, same-faults, few-rows (here .circuit) (good-here _ _ here))
 
-  pub short-rows : (rows : List ℕ) → length rows < m .faults → Listing file rows (ShortClasses (m .faults)) rows
-  unfolding listingAfter rowsAfterListing numberIn placeIn countsIn numberOf placeOf countsOf
+  pub short-rows : (rows : List ℕ) → length rows < m .faults → RowsAnswer file rows (ShortClasses (m .faults)) rows
+  unfolding rowsAfterReading rowsBufferAfter numberIn placeIn countsIn numberOf placeOf countsOf
   short-rows rows short =
       let test = lt-ltb (length rows) (length (rowsOf (here .circuit))) (rw same-faults at short) in
       rw (here .reads, test, same-faults) record { number = refl; place = refl; faults = refl; rows-at-exit = refl }
 
   pub rows-listed : (rows : List ℕ) → m .faults ≤ length rows → (codes rows′ : List ℕ) → codes ≡ padded 2048 0 (codesOf (rowsOf (here .circuit)))
-      → rows′ ≡ over (take (m .faults) codes) rows → Listing file rows (Graded record { vectors = 0; faults = m .faults; classes = 0; found = 0 }) rows′
-  unfolding listingAfter rowsAfterListing numberIn placeIn countsIn countsOfCircuit numberOf placeOf countsOf
+      → rows′ ≡ over (take (m .faults) codes) rows → RowsAnswer file rows (Graded record { vectors = 0; faults = m .faults; classes = 0; found = 0 }) rows′
+  unfolding rowsAfterReading rowsBufferAfter numberIn placeIn countsIn countsOfCircuit numberOf placeOf countsOf
   rows-listed rows fits codes rows′ are put =
       let c = here .circuit in
       let test = le-ltb (length rows) (length (rowsOf c)) (rw same-faults at fits) in
@@ -97,7 +98,7 @@ module _ (file : List ℕ) (m : CircuitRecord) (here : Accepted file m) where
 abbrev three : ℕ → ℕ → ℕ → List ℕ
 three n p faults = n ∷ p ∷ faults ∷ []
 
-pub three-numbers : (g : Grading) (answer : Answer) (rows rows′ : List ℕ) (n p : ℕ) (counts : CountsRecord) → Lists g answer rows rows′
+pub three-numbers : (g : Grading) (answer : Answer) (rows rows′ : List ℕ) (n p : ℕ) (counts : CountsRecord) → RowsAnswered g answer rows rows′
     → n ≡ numberOf answer → p ≡ placeOf answer → countsMeant counts ≡ countsOf answer → RowsMeets g rows (n ∷ p ∷ counts .faults ∷ []) rows′
 unfolding threeNumbers
 three-numbers g answer rows rows′ n p counts lists is-n is-p are = record {
@@ -115,11 +116,11 @@ rows-once file rows answer answer′ after after′ p q = (p .answer-at-exit ∙
 
 -- ---- what is listed is what is graded: with a matrix for every file, the same refusals, of a row buffer as of a class buffer
 
-pub listed-as-graded : (file : List ℕ) (words entries : ℕ) → 8192 ≤ words → listingAfter (readingOf file) entries ≡ gradingOf file words entries
-unfolding gradingOf afterReading listingAfter gradingOfCircuit
+pub listed-as-graded : (file : List ℕ) (words entries : ℕ) → 8192 ≤ words → rowsAfterReading (readingOf file) entries ≡ gradingOf file words entries
+unfolding gradingOf afterReading rowsAfterReading gradingOfCircuit
 listed-as-graded file words entries room = go (readingOf file) refl
   where
-    go : (read : Reading) → readingOf file ≡ read → listingAfter read entries ≡ afterReading read words entries
+    go : (read : Reading) → readingOf file ≡ read → rowsAfterReading read entries ≡ afterReading read words entries
     go (refusal number place) reads = refl
     go (accepted c) reads =
         let few = few-rows c (accepted-is-good file c reads) in

@@ -34,8 +34,7 @@ returns c =
     let numbered = c .before .before in
     let counted = numbered .before in
     let answered = counted .before .before .before .before .before .before in
-    six-numbers _ _ _ _ _ _ _ _ (counted .counts-of .result) (answered .answer-to .ensures .1 refl) (numbered .number-of .ensures) (c .before .place-of .ensures)
-    (counted .counts-of .ensures)
+    six-numbers _ _ _ _ _ _ _ _ (counted .counts-of .result) (answered .answer-to .ensures .1 refl) (numbered .number-of .ensures) (c .before .place-of .ensures) (counted .counts-of .ensures)
 
 pub togyamiru-grade-spec : {M : Type 1} → statement M
 togyamiru-grade-spec =

@@ -1,4 +1,4 @@
--- `togyamiru::list_read` meets its contract: the file refused, the row buffer too short, or the rows listed; each for every file of which the reading tells.
+-- `togyamiru::answering::list_read` meets its contract: the file refused, the row buffer too short, or the rows listed; each for every file of which the reading tells.
 -- Assumes nothing.
 use mathlib.Core.Path.{sym, _∙_}
 use mathlib.Core.List.{List}
@@ -9,8 +9,8 @@ use Rattle.circuit.specs.Answers.{Tells}
 use Rattle.circuit.specs.declared.Reading.{Reading as ReadingRecord}
 use Rattle.grader.proofs.GradingLaws.{Accepted, accepted-here, good-here, given}
 use Rattle.togyamiru.proofs.RowsLaws.{refused-rows, faults-few, short-rows, rows-listed}
-use Rattle.togyamiru.proofs.list_read.Statement.{statement}
-use Rattle.togyamiru.proofs.list_read.Tie as tie
+use Rattle.togyamiru.proofs.answering.list_read.Statement.{statement}
+use Rattle.togyamiru.proofs.answering.list_read.Tie as tie
 
 refuses-requires : tie.Need-refuses-requires
 refuses-requires c κs = search needs

@@ -1,11 +1,11 @@
--- `togyamiru::answer_to` meets its contract: the reading tells what the file says, and is listed or graded as asked. Assumes nothing.
+-- `togyamiru::answering::answer_to` meets its contract: the reading tells what the file says, and is listed or graded as asked. Assumes nothing.
 use Prim.Native.Nat.{ℕ}
 use mathlib.Core.Bool.{true, false}
 use mathlib.Core.Path.{_≡_, sym, _∙_}
 use native.Mathlib.Omega.{arith}
 use borrow.Author.Needs.{needs}
-use Rattle.togyamiru.proofs.answer_to.Statement.{statement}
-use Rattle.togyamiru.proofs.answer_to.Tie as tie
+use Rattle.togyamiru.proofs.answering.answer_to.Statement.{statement}
+use Rattle.togyamiru.proofs.answering.answer_to.Tie as tie
 
 never : true ≡ false → ⊥
 never z = let y : _≡_ {A = ℕ} 0 1 = cc in absurd (omega arith)

@@ -1,4 +1,4 @@
--- `togyamiru::put_rows` meets its contract. The loop's invariant: the codes passed stand at the front of the rows, and all else there is as it was.
+-- `togyamiru::answering::put_rows` meets its contract. The loop's invariant: the codes passed stand at the front of the rows, and all else there is as it was.
 -- Assumes nothing.
 use mathlib.Core.Path.{_≡_, refl, ap, _∙_}
 use Prim.Native.Nat.{_≤_, _-_}
@@ -7,8 +7,8 @@ use borrow.Author.Needs.{needs}
 use lib.ListN.{length, getD, set, length-set}
 use lib.Seq.{paste}
 use Rattle.togyamiru.proofs.RowsLaws.{one-more, put-first}
-use Rattle.togyamiru.proofs.put_rows.Statement.{statement}
-use Rattle.togyamiru.proofs.put_rows.Tie as tie
+use Rattle.togyamiru.proofs.answering.put_rows.Statement.{statement}
+use Rattle.togyamiru.proofs.answering.put_rows.Tie as tie
 
 abbrev Inv-loop : tie.InvT-loop
 Inv-loop count rows₀ codes i₀ rows i = (i ≤ count) × (rows ≡ paste rows₀ 0 codes i) × (length rows ≡ length rows₀) × (length codes ≡ 2048)

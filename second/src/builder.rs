@@ -5,6 +5,8 @@ pub type EdgeRow<'a> = (u8, u8, &'a [u8]);
 
 pub const INVERTER: &[EdgeRow] = &[(1, 2, &[0]), (0, 2, &[0])];
 pub const NAND: &[EdgeRow] = &[(1, 2, &[0, 1]), (2, 3, &[0]), (3, 0, &[1])];
+/// A NOR, whose inner node is in the p network.
+pub const NOR: &[EdgeRow] = &[(1, 2, &[0]), (2, 3, &[1]), (0, 3, &[0, 1])];
 
 /// The thesis's circuit 3, the complement of an adder's carry.
 pub const CARRY: &[EdgeRow] = &[
@@ -64,6 +66,10 @@ impl FileBuilder {
 
     pub fn nand(self) -> FileBuilder {
         self.module(3, 2, 2, NAND)
+    }
+
+    pub fn nor(self) -> FileBuilder {
+        self.module(3, 3, 2, NOR)
     }
 
     pub fn bridge(self, list: u8, kind: u8, first: u8, second: u8) -> FileBuilder {

@@ -18,8 +18,13 @@ pub fn sample_files() -> Vec<NamedFile> {
         ("reconvergent", reconvergent()),
         ("both_ends", both_ends()),
         ("floating", floating()),
+        ("tied", tied()),
         ("unfixed", unfixed()),
+        ("guessed", guessed()),
         ("outputs", outputs()),
+        ("nor", nor()),
+        ("repeated", repeated()),
+        ("fillings", fillings()),
         ("adder", adder()),
         ("full", full()),
     ];
@@ -52,9 +57,22 @@ fn floating() -> FileBuilder {
     listed_nand(&[(2, 3), (0, 3), (1, 3)], &["10", "00", "01", "00"])
 }
 
-/// The second input is fixed by nobody: each vector as it is, then guessed.
+/// Both labels on one input: they are one class with each node.
+fn tied() -> FileBuilder {
+    FileBuilder::inputs(1)
+        .nand()
+        .instance(1, -1, &[1, 1])
+        .vectors(&["0", "1", "X"])
+}
+
+/// The second input is fixed by nobody.
 fn unfixed() -> FileBuilder {
-    nand_under(&["0X", "00", "1X", "10"])
+    nand_under(&["0X", "1X"])
+}
+
+/// The same with a guess in its place.
+fn guessed() -> FileBuilder {
+    nand_under(&["00", "10"])
 }
 
 /// A short to supply under vectors that have the output at 1 anyway.
@@ -71,6 +89,34 @@ fn listed_nand(bridges: &[(u8, u8)], vectors: &[&str]) -> FileBuilder {
         .fold(file, add)
         .instance(1, 1, &[1, 2])
         .vectors(vectors)
+}
+
+/// The first exercise: node 2 is between the p-channel transistors.
+fn nor() -> FileBuilder {
+    FileBuilder::inputs(2)
+        .nor()
+        .instance(1, -1, &[1, 2])
+        .vectors(&["00", "01", "10", "11"])
+}
+
+/// The second exercise: six rows, some of them again what an earlier one is, in
+/// a NAND whose labels are tied.
+fn repeated() -> FileBuilder {
+    FileBuilder::inputs(1)
+        .nand()
+        .bridge(1, 0, 0, 2)
+        .bridge(1, 0, 2, 0)
+        .bridge(1, 1, 2, 0)
+        .bridge(1, 1, 2, 1)
+        .bridge(1, 0, 2, 3)
+        .bridge(1, 0, 0, 3)
+        .instance(1, 1, &[1, 1])
+        .vectors(&["0", "1"])
+}
+
+/// The third exercise: a vector with an X, then both its fillings.
+fn fillings() -> FileBuilder {
+    nand_under(&["1X", "10", "11"])
 }
 
 /// The thesis's full adder: the carry's complement drives the sum's.

@@ -3,12 +3,13 @@
 
 mod support;
 
-use second::circuit::{Circuit, Kind, Value};
-use second::conduction::{output_value, Graph};
+use second::circuit::{Bridge, Circuit, Edge, Kind, ModuleType, Value};
+use second::conduction::{channel, output_value, Channel, Graph, GROUND, SUPPLY};
 use second::grade::{Graded, Row};
 use second::read::read;
 use second::report::report_of;
-use support::{answer, digits, sample_file};
+use second::starts::nand_under;
+use support::{answer, digits, sample_file, Accepted};
 
 fn first_line(name: &str) -> String {
     let report = report_of(&sample_file(name));
@@ -64,33 +65,161 @@ fn floating() {
     assert_eq!(digits(&graded, 1, Kind::Nodes, 0, 3), "1000");
     assert_eq!(digits(&graded, 1, Kind::Nodes, 2, 3), "0010");
     assert_eq!(digits(&graded, 1, Kind::Nodes, 1, 3), "0010");
+    assert_eq!(held_marks("floating", 0, 3), "1100");
+    assert_eq!(held_marks("floating", 2, 3), "0011");
+    assert_eq!(held_marks("floating", 1, 3), "0011");
 }
 
-/// The odd vectors have X, the even ones the guess: it adds marks, and four of
-/// the found classes are found by it alone.
+/// What a grader marks that lets a floating node keep its last value.
+fn held_marks(name: &str, first: u8, second: u8) -> String {
+    let circuit = circuit(name);
+    let module = &circuit.types[0];
+    let mut held = [Value::X; 32];
+    let mut digits = String::new();
+    for vector in &circuit.vectors {
+        let graph = Graph::of_on_edges(module, vector);
+        for (node, level) in (0..).zip(&mut held) {
+            if graph.joined(node, SUPPLY) {
+                *level = Value::One;
+            } else if graph.joined(node, GROUND) {
+                *level = Value::Zero;
+            }
+        }
+        let levels = [first, second].map(|node| held[usize::from(node)]);
+        let is_marked = levels[0] != levels[1] && !levels.contains(&Value::X);
+        digits.push(if is_marked { '1' } else { '0' });
+    }
+    digits
+}
+
+/// X marks nothing that the guess does not, and four of the classes are found by
+/// the guess alone; two of these are lost if both inputs turn out to be 1.
 #[test]
-fn unfixed() {
-    let line = "vectors 4 faults 14 classes 14 found 9";
+fn unfixed_and_guessed() {
+    let line = "vectors 2 faults 14 classes 14 found 5";
     assert_eq!(first_line("unfixed"), line);
-    let rows = graded("unfixed").rows;
-    let by_x = |row: &Row| row.marks[0] || row.marks[2];
-    let by_guess = |row: &Row| row.marks[1] || row.marks[3];
-    assert!(rows.iter().all(|row| !by_x(row) || by_guess(row)));
-    assert_eq!(rows.iter().filter(|row| by_x(row)).count(), 5);
+    let line = "vectors 2 faults 14 classes 14 found 9";
+    assert_eq!(first_line("guessed"), line);
+    let by_x = graded("unfixed").rows;
+    let by_guess = graded("guessed").rows;
+    let put_zero = |byte| if byte == b'X' { b'0' } else { byte };
+    let zeroed: Vec<u8> = sample_file("unfixed").into_iter().map(put_zero).collect();
+    assert_eq!(zeroed, sample_file("guessed"));
+    let stands = |(x, guess): (&bool, &bool)| !x || *guess;
+    for (x, guess) in by_x.iter().zip(&by_guess) {
+        assert!(x.marks.iter().zip(&guess.marks).all(stands));
+    }
+    let by_ones = nand_under(&["01", "11"]).graded().rows;
+    let is_lost =
+        |(guess, ones): (&Row, &Row)| guess.marks.contains(&true) && !ones.marks.contains(&true);
+    let lost = by_guess.iter().zip(&by_ones).filter(|&pair| is_lost(pair));
+    let lost: Vec<Bridge> = lost.map(|(guess, _)| guess.bridge).collect();
+    let bridge = |kind, first, second| Bridge {
+        kind,
+        first,
+        second,
+    };
+    assert_eq!(lost, [bridge(Kind::Nodes, 0, 3), bridge(Kind::Label, 1, 1)]);
 }
 
-/// The output is at supply under every vector, and the short joins a node to
-/// supply, so no output changes.
+/// Labels 0 and 1 are one class with each of the four nodes.
+#[test]
+fn tied() {
+    let line = "vectors 3 faults 14 classes 10 found 8";
+    assert_eq!(first_line("tied"), line);
+}
+
+/// Each value that the output has with the short closed, by paths that pass no rail.
+fn outputs_with(module: &ModuleType, labels: &[Value], short: [u8; 2]) -> Vec<Value> {
+    let is_on = |edge: &Edge| {
+        let needed = match channel(module.output, edge.ends) {
+            Some(Channel::P) => Value::Zero,
+            _ => Value::One,
+        };
+        let is_needed = |&label: &u8| labels[usize::from(label)] == needed;
+        edge.labels.iter().any(is_needed)
+    };
+    let on_edges = module.edges.iter().filter(|edge| is_on(edge));
+    let mut wires: Vec<[u8; 2]> = on_edges.map(|edge| edge.ends).collect();
+    wires.push(short);
+    let mut reached = vec![module.output];
+    for _ in 0..=module.highest {
+        for [a, b] in wires.iter().flat_map(|&[a, b]| [[a, b], [b, a]]) {
+            if a > SUPPLY && reached.contains(&a) && !reached.contains(&b) {
+                reached.push(b);
+            }
+        }
+    }
+    let rails = [(SUPPLY, Value::One), (GROUND, Value::Zero)];
+    let is_reached = |(rail, _): &(u8, Value)| reached.contains(rail);
+    let values = rails.into_iter().filter(is_reached);
+    values.map(|(_, value)| value).collect()
+}
+
+/// No output changes, and docs/LESSONS.md says so in its table: vector, output
+/// without the short, output with it, leak.
 #[test]
 fn outputs() {
     let line = "vectors 3 faults 1 classes 1 found 1";
     assert_eq!(first_line("outputs"), line);
     let circuit = circuit("outputs");
-    for vector in &circuit.vectors {
-        let module = &circuit.types[0];
-        let graph = Graph::of_on_edges(module, vector);
-        assert_eq!(output_value(module, &graph), Value::One);
+    let module = &circuit.types[0];
+    let marks = &graded("outputs").rows[0].marks;
+    let document = concat!(env!("CARGO_MANIFEST_DIR"), "/../docs/LESSONS.md");
+    let document = std::fs::read_to_string(document).expect("the lessons are there");
+    for (vector, &mark) in circuit.vectors.iter().zip(marks) {
+        let without = output_value(module, &Graph::of_on_edges(module, vector));
+        assert_eq!(outputs_with(module, vector, [1, 3]), [without]);
+        let letters: String = vector.iter().map(|value| value.letter()).collect();
+        let output = without.letter();
+        let leak = if mark { "**yes**" } else { "no" };
+        let row = format!("\n| {letters} | {output} | {output} | {leak} |\n");
+        assert!(document.contains(&row), "no row {row:?}");
     }
+}
+
+/// The first exercise: node 2 floats under 11, and 0-2 leaks under 01 without
+/// a change of the output.
+#[test]
+fn nor() {
+    let line = "vectors 4 faults 14 classes 14 found 14";
+    assert_eq!(first_line("nor"), line);
+    let circuit = circuit("nor");
+    let module = &circuit.types[0];
+    let floats = |labels: &Vec<Value>| {
+        let graph = Graph::of_on_edges(module, labels);
+        !graph.joined(2, SUPPLY) && !graph.joined(2, GROUND)
+    };
+    let floating: Vec<bool> = circuit.vectors.iter().map(floats).collect();
+    assert_eq!(floating, [false, false, false, true]);
+    let at = |vector: usize| outputs_with(module, &circuit.vectors[vector], [0, 2]);
+    assert_eq!(at(0), [Value::One, Value::Zero]);
+    assert_eq!(at(1), [Value::Zero]);
+}
+
+/// The second exercise: four of six rows, but two of four classes.
+#[test]
+fn repeated() {
+    let line = "vectors 2 faults 6 classes 4 found 2";
+    assert_eq!(first_line("repeated"), line);
+    let rows = graded("repeated").rows;
+    let is_marked = |row: &&Row| row.marks.contains(&true);
+    assert_eq!(rows.iter().filter(is_marked).count(), 4);
+}
+
+/// The third exercise: two rows leak under both fillings and not under X.
+#[test]
+fn fillings() {
+    let line = "vectors 3 faults 14 classes 14 found 12";
+    assert_eq!(first_line("fillings"), line);
+    let rows = graded("fillings").rows;
+    let is_silent = |row: &&Row| row.marks == [false, true, true];
+    let silent: Vec<(u8, u8)> = rows
+        .iter()
+        .filter(is_silent)
+        .map(|row| (row.bridge.first, row.bridge.second))
+        .collect();
+    assert_eq!(silent, [(2, 1), (3, 1)]);
 }
 
 #[test]

@@ -141,7 +141,7 @@ module _ {file : List ℕ} {from : ℕ} {all : List BridgeRecord} {count at : �
   }
 
   pub bridges-stop : NextIs file at 4 Other → BridgesRead file from (record { refusal = Nothing; at = at; count = count; all = all })
-  unfolding stageOf verdictOf numberedVerdict refusalNumber refusalPlace
+  unfolding verdictOf numberedVerdict refusalNumber refusalPlace
   bridges-stop other = bridges-read Nothing (stops (sofar .so) other)
 
   module _ (f : FieldRecord) (here : FieldAt file at f) (own : f .tag ≡ 4) (r : Refusal)

@@ -21,7 +21,8 @@ use Rattle.circuit.specs.Known.{typeIn, edgeIn, listedIn, instanceIn, ve
 use Rattle.circuit.specs.Table.{Test, Verdict, passes, refusedAt, firstOf, notComplementary, isEmpty, isUnknown, inputsTests, typeTests, edgeTests, bridgeTests, instanceTests, vectorTests}
 use Rattle.circuit.specs.Reading.{Reading, accepted, refusal, unless}
 use Rattle.circuit.specs.Records.{emptyCircuit}
-use Rattle.circuit.specs.Stages.{Stage, stopped, ifPasses, section, failingBefore, failingVerdict, judged, typeStage, readTo, endedVerdict, pastVerdict, endingVerdict, afterStage, afterInputs, fromStart, staged}
+use Rattle.circuit.specs.Stages.{Stage, stopped, ifPasses, section, failingBefore, failingVerdict, judged, typeStage, readTo, endedVerdict, pastVerdict, endingVerdict, afterStage, afterInputs, fromStart, staged, fieldPlace}
+use Rattle.circuit.specs.Before.{typesBefore}
 use Rattle.circuit.specs.Laws.{Each, TypeSound, TypeGood, ListedGood, InstanceGood, CircuitGood, RefusalGood, AcceptedIsGood, RefusalIsGood}
 use Rattle.circuit.proofs.StageLaws.{staged-is-reading}
 use Rattle.circuit.proofs.Tested.{VerdictGood, TestsGood, first-good, inputs-refuse, types-refuse, edges-refuse, bridges-refuse, instances-refuse, vectors-refuse, inputs-pass, type-pass, edge-pass, bridge-pass, faults-snoc, instance-pass, vector-pass, holds, length-snoc, each-none, each-snoc, never-passes}
@@ -62,11 +63,11 @@ unfolding unless
 unless-good size passes r g later = later refl
 unless-good size (refusedAt n p) r g later = g
 
-stage-good : {A : Type 0} (size : ℕ) (v : Verdict) (s : Stage A) (next : A → Cut → Reading)
-    → VerdictGood size v → (v ≡ passes → ReadingGood size (afterStage s next)) → ReadingGood size (afterStage (ifPasses v s) next)
-unfolding ifPasses afterStage
-stage-good size passes s next g later = later refl
-stage-good size (refusedAt n p) s next g later = g
+stage-good : {A : Type 0} (size : ℕ) (v : Verdict) (a : A) (cut : Cut) (s : Stage A) (next : A → Cut → Reading)
+    → VerdictGood size v → (v ≡ passes → ReadingGood size (afterStage s next)) → ReadingGood size (afterStage (ifPasses v a cut s) next)
+unfolding ifPasses afterStage unless
+stage-good size passes a cut s next g later = later refl
+stage-good size (refusedAt n p) a cut s next g later = g
 
 -- ---- a stage of one tag keeps what each of its fields keeps
 
@@ -75,16 +76,16 @@ module _ (size n : ℕ) {A : Type 0} (tests : A → ℕ → List ℕ → List Te
     (keeps : (a : A) (at : ℕ) (body : List ℕ) → Holds a → firstOf (tests a at body) ≡ passes → Holds (add a body))
     (next : A → Cut → Reading) (goes-on : (a : A) (cut : Cut) → Holds a → Placed size cut → ReadingGood size (next a cut)) where
   section-good : (a : A) (cut : Cut) → Holds a → Placed size cut → ReadingGood size (afterStage (section n tests add a cut) next)
-  unfolding section afterStage
+  unfolding section afterStage unless
   section-good a clean h p = goes-on a clean h p
   section-good a (broken at) h p = goes-on a (broken at) h p
   section-good a (field f rest) h p = go (eqb (f .tag) n) (λ k. section-good (add a (f .body)) rest k (p .1))
     where
       go : (b : Bool) → (Holds (add a (f .body)) → ReadingGood size (afterStage (section n tests add (add a (f .body)) rest) next))
           → ReadingGood size
-          (afterStage (cond b (ifPasses (firstOf (tests a (f .at) (f .body))) (section n tests add (add a (f .body)) rest)) (stopped a (field f rest))) next)
+          (afterStage (cond b (ifPasses (firstOf (tests a (f .at) (f .body))) a (field f rest) (section n tests add (add a (f .body)) rest)) (stopped a (field f rest))) next)
       go true more =
-          stage-good size (firstOf (tests a (f .at) (f .body))) (section n tests add (add a (f .body)) rest) next
+          stage-good size (firstOf (tests a (f .at) (f .body))) a (field f rest) (section n tests add (add a (f .body)) rest) next
           (first-good size (tests a (f .at) (f .body)) (refuses-well a (f .at) (f .body) (p .0)))
           (λ e. more (keeps a (f .at) (f .body) h e))
       go false more = goes-on a (field f rest) h p
@@ -203,55 +204,55 @@ module _ (size : ℕ) (next : List ModuleType → Cut → Reading)
       go false true = failing-good typeAt cut h p
       go false false = tt
 
-  types-good : (types : List ModuleType) (typeAt : ℕ) (cut : Cut) → TypesSound types → typeAt ≤ size → Placed size cut
-      → ReadingGood size (afterStage (typeStage types typeAt cut) next)
-  unfolding typeStage afterStage edgeAdded
-  types-good types typeAt clean s h p =
-      stage-good size (judged types typeAt clean) (stopped types clean) next (judged-good types typeAt clean h p)
-      (λ e. goes-on types clean (judged-types types typeAt clean s e) p)
-  types-good types typeAt (broken at) s h p =
-      stage-good size (judged types typeAt (broken at)) (stopped types (broken at)) next (judged-good types typeAt (broken at) h p)
-      (λ e. goes-on types (broken at) (judged-types types typeAt (broken at) s e) p)
-  types-good types typeAt (field f rest) s h p =
+  types-good : (types : List ModuleType) (from cut : Cut) → TypesSound types → fieldPlace from ≤ size → Placed size cut
+      → ReadingGood size (afterStage (typeStage types from cut) next)
+  unfolding typeStage afterStage edgeAdded unless fieldPlace
+  types-good types from clean s h p =
+      stage-good size (judged types (fieldPlace from) clean) (typesBefore types) from (stopped types clean) next (judged-good types (fieldPlace from) clean h p)
+      (λ e. goes-on types clean (judged-types types (fieldPlace from) clean s e) p)
+  types-good types from (broken at) s h p =
+      stage-good size (judged types (fieldPlace from) (broken at)) (typesBefore types) from (stopped types (broken at)) next (judged-good types (fieldPlace from) (broken at) h p)
+      (λ e. goes-on types (broken at) (judged-types types (fieldPlace from) (broken at) s e) p)
+  types-good types from (field f rest) s h p =
       go (eqb (f .tag) 3) (isEmpty types) refl
-      (λ k. types-good (edgeAdded types (edgeIn (f .body))) typeAt rest k h (p .1))
-      (λ k. types-good (types ++ (typeIn (f .body) ∷ [])) (f .at) rest k (p .0) (p .1))
+      (λ k. types-good (edgeAdded types (edgeIn (f .body))) from rest k h (p .1))
+      (λ k. types-good (types ++ (typeIn (f .body) ∷ [])) (field f rest) rest k (p .0) (p .1))
     where
       more-edges : Stage (List ModuleType)
-      more-edges = typeStage (edgeAdded types (edgeIn (f .body))) typeAt rest
+      more-edges = typeStage (edgeAdded types (edgeIn (f .body))) from rest
 
       more-types : Stage (List ModuleType)
-      more-types = typeStage (types ++ (typeIn (f .body) ∷ [])) (f .at) rest
+      more-types = typeStage (types ++ (typeIn (f .body) ∷ [])) (field f rest) rest
 
       edge : Stage (List ModuleType)
-      edge = ifPasses (firstOf (edgeTests (latest types) (f .at) (f .body))) more-edges
+      edge = ifPasses (firstOf (edgeTests (latest types) (f .at) (f .body))) (typesBefore types) from more-edges
 
       type : Stage (List ModuleType)
-      type = ifPasses (firstOf (typeTests (length types) (f .at) (f .body))) more-types
+      type = ifPasses (firstOf (typeTests (length types) (f .at) (f .body))) types (field f rest) more-types
 
       as-type : (two : Bool) → TypesGood types → (TypesSound (types ++ (typeIn (f .body) ∷ [])) → ReadingGood size (afterStage more-types next))
           → ReadingGood size (afterStage (cond two type (stopped types (field f rest))) next)
       as-type true g more =
-          stage-good size (firstOf (typeTests (length types) (f .at) (f .body))) more-types next
+          stage-good size (firstOf (typeTests (length types) (f .at) (f .body))) types (field f rest) more-types next
           (first-good size (typeTests (length types) (f .at) (f .body)) (types-refuse size (f .at) (p .0) (f .body) (length types)))
           (λ e. let new = type-pass (length types) (f .at) (f .body) e in more (type-keeps types (typeIn (f .body)) g (new .0) (new .1)))
       as-type false g more = goes-on types (field f rest) g p
 
       other : (TypesSound (types ++ (typeIn (f .body) ∷ [])) → ReadingGood size (afterStage more-types next))
-          → ReadingGood size (afterStage (ifPasses (judged types typeAt (field f rest)) (cond (eqb (f .tag) 2) type (stopped types (field f rest)))) next)
+          → ReadingGood size (afterStage (ifPasses (judged types (fieldPlace from) (field f rest)) (typesBefore types) from (cond (eqb (f .tag) 2) type (stopped types (field f rest)))) next)
       other more =
-          stage-good size (judged types typeAt (field f rest)) (cond (eqb (f .tag) 2) type (stopped types (field f rest))) next
-          (judged-good types typeAt (field f rest) h p)
-          (λ e. as-type (eqb (f .tag) 2) (judged-types types typeAt (field f rest) s e) more)
+          stage-good size (judged types (fieldPlace from) (field f rest)) (typesBefore types) from (cond (eqb (f .tag) 2) type (stopped types (field f rest))) next
+          (judged-good types (fieldPlace from) (field f rest) h p)
+          (λ e. as-type (eqb (f .tag) 2) (judged-types types (fieldPlace from) (field f rest) s e) more)
 
       go : (three em : Bool) → isEmpty types ≡ em
           → (TypesSound (edgeAdded types (edgeIn (f .body))) → ReadingGood size (afterStage more-edges next))
           → (TypesSound (types ++ (typeIn (f .body) ∷ [])) → ReadingGood size (afterStage more-types next))
           → ReadingGood size (afterStage (cond (three && not em) edge
-          (ifPasses (judged types typeAt (field f rest)) (cond (eqb (f .tag) 2) type (stopped types (field f rest))))) next)
+          (ifPasses (judged types (fieldPlace from) (field f rest)) (typesBefore types) from (cond (eqb (f .tag) 2) type (stopped types (field f rest))))) next)
       go true true em edges types′ = other types′
       go true false em edges types′ =
-          stage-good size (firstOf (edgeTests (latest types) (f .at) (f .body))) more-edges next
+          stage-good size (firstOf (edgeTests (latest types) (f .at) (f .body))) (typesBefore types) from more-edges next
           (first-good size (edgeTests (latest types) (f .at) (f .body)) (edges-refuse size (f .at) (p .0) (f .body) (latest types)))
           (λ e. edges (edge-keeps types (withEdge (latest types) (edgeIn (f .body))) em s
           (edge-pass (latest types) (f .at) (f .body) e (latest-sound types em s))))
@@ -355,7 +356,7 @@ ending-some size instances vectors (broken at) e = absurd (never-passes e)
 ending-some size instances vectors (field f rest) e = absurd (past-refuses (f .tag) (f .at) e)
 
 after-inputs-good : (size P : ℕ) (cut : Cut) → (1 ≤ P) × (P ≤ 64) → Placed size cut → ReadingGood size (afterInputs size P cut)
-unfolding afterInputs faultCount
+unfolding afterInputs faultCount fieldPlace
 after-inputs-good size P cut some p =
     types-good size _ (λ types cut₂ t p₂.
     section-good size 4 _ _ BridgesGood (λ bs at body h. bridges-refuse size at h body (length bs)) bridge-keeps _ (λ bridges cut₃ b p₃.
@@ -382,7 +383,7 @@ after-inputs-good size P cut some p =
     [] cut₄ (record { few = omega arith; each = each-none _ }) p₄)
     [] cut₃ (record { few = omega arith; each = each-none _; faults = omega arith }) p₃)
     [] cut₂ (record { few = omega arith; each = each-none _ }) p₂)
-    [] 0 cut no-types (omega arith) p
+    [] clean cut no-types (omega arith) p
 
 start-good : (size : ℕ) (cut : Cut) → Placed size cut → ReadingGood size (fromStart size cut)
 unfolding fromStart

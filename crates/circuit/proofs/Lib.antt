@@ -1,11 +1,12 @@
 -- The laws of reading.
---   StageLaws, CircuitLaws, FaultLaws, AnswerLaws   the theorems of specs/Laws
---   Examples                                        01's examples, computed
---   the others                                      what the crates that read cite
+--   StageLaws, GatheredLaws, CircuitLaws, FaultLaws, AnswerLaws   the theorems of specs/Laws
+--   Examples                                                      01's examples, computed
+--   the others                                                    what the crates that read cite
 pub mod AnswerLaws
 pub mod CircuitLaws
 mod Examples
 pub mod FaultLaws
+pub mod GatheredLaws
 pub mod Padding
 pub mod RangeLaws
 pub mod StageLaws

@@ -1,4 +1,5 @@
--- What holds of reading, whatever the file: theorems, each with its name. Their proofs are in proofs/: StageLaws, CircuitLaws, FaultLaws, AnswerLaws.
+-- What holds of reading, whatever the file: theorems, each with its name.
+-- Their proofs are in proofs/: StageLaws, GatheredLaws, CircuitLaws, FaultLaws, AnswerLaws.
 use Prim.Native.Nat.{ℕ, _≤_, _<_}
 use mathlib.Core.Path.{_≡_}
 use mathlib.Core.Bool.{Bool, true, false, not, _&&_}
@@ -15,7 +16,8 @@ use Rattle.circuit.specs.Numbers.{referenceGood}
 use Rattle.circuit.specs.Table.{listUnsuited, listEmpty}
 use Rattle.circuit.specs.Reading.{Reading, accepted, refusal, readingOf}
 use Rattle.circuit.specs.Answers.{Answers}
-use Rattle.circuit.specs.Stages.{staged}
+use Rattle.circuit.specs.Before.{readBefore}
+use Rattle.circuit.specs.Stages.{staged, gatheredOf}
 use Rattle.circuit.specs.declared.Reading.{Reading as ReadingRecord}
 
 -- ---- what holds of a circuit that was accepted
@@ -110,6 +112,14 @@ CountIsRows =
 -- reading stage by stage is reading field by field
 abbrev pub StagedIsReading : Type 0
 StagedIsReading = (file : List ℕ) → staged file ≡ readingOf file
+
+-- what the stages gather is what was read before the refused field
+abbrev pub GatheredIsBefore : Type 0
+GatheredIsBefore = (file : List ℕ) → gatheredOf file ≡ readBefore file
+
+-- and of an accepted file it is the circuit
+abbrev pub BeforeIsCircuit : Type 0
+BeforeIsCircuit = (file : List ℕ) (c : Circuit) → readingOf file ≡ accepted c → readBefore file ≡ c
 
 -- the promise of `read` is met by one answer only
 abbrev pub AnswersUnique : Type 0

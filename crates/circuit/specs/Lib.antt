@@ -3,10 +3,10 @@
 --   Known                              what is known part of the way through a file, and what a field adds
 --   Table                              the refusal table, a list of numbered tests for each field and for the end of the file
 --   Reading                            a file's circuit or refusal: the fields in file order against the table
---   Records, Refusals, Verdicts        the code's records and refusals in those words, and what it does with verdicts
---   Answers                            the promises of `read_stages` and `read`
+--   Records, Answers                   the code's records and answers in those words; the promise of `read`
+--   Before                             what was read of a file before the field by which it is refused
 --   Laws                               theorems on reading, each with its name
---   Stages                             how the code reads, stage by stage
+--   Stages                             how the code reads, stage by stage, and what it has gathered where it ends
 pub mod Limits
 pub mod Fields
 pub mod Circuit
@@ -18,5 +18,6 @@ pub mod Records
 pub mod Refusals
 pub mod Verdicts
 pub mod Answers
+pub mod Before
 pub mod Laws
 pub mod Stages

@@ -1,6 +1,6 @@
 -- How the code reads: types with their edges, then bridges, instances and vectors, a stage each, and then the ending.
--- That this order of work gives what Reading says is proved in proofs/StageLaws.
-use Prim.Native.Nat.{ℕ, _+_}
+-- That this order of work gives what Reading and Before say is proved in proofs/StageLaws and proofs/GatheredLaws.
+use Prim.Native.Nat.{ℕ}
 use mathlib.Core.Bool.{cond, not, _&&_}
 use mathlib.Core.List.{List, [], _∷_, _++_}
 use lib.Dec.{eqb, ltb}
@@ -14,22 +14,28 @@ use Rattle.circuit.specs.Known.{typeIn, edgeIn, listedIn, instanceIn, ve
 use Rattle.circuit.specs.Table.{Test, Verdict, passes, refusedAt, firstOf, notComplementary, isEmpty, isUnknown, inputsTests, typeTests, edgeTests, bridgeTests, instanceTests, vectorTests}
 use Rattle.circuit.specs.Reading.{Reading, accepted, refusal, unless}
 use Rattle.circuit.specs.Records.{emptyCircuit}
+use Rattle.circuit.specs.Verdicts.{isRefused}
+use Rattle.circuit.specs.Before.{typesBefore}
 
 -- ---- a stage
 
--- a stage stops at the first field that is not its own, or fails by a test of the table
-pub data Stage (A : Type 0) : Type 0 where
-  stopped : A → Cut → Stage A
-  failed : ℕ → ℕ → Stage A
+-- how a stage ends: its verdict, what it has gathered, and the rest of the file from where it stands. It stops at the first field that
+-- is not its own, or is refused at a field by a test of the table; what it has gathered then is what stands before that field
+pub record Stage (A : Type 0) : Type 0 where
+  pub verdict : Verdict
+  pub gathered : A
+  pub rest : Cut
 
-unfoldable pub ifPasses : {A : Type 0} → Verdict → Stage A → Stage A
-ifPasses passes stage = stage
-ifPasses (refusedAt number place) stage = failed number place
+abbrev pub stageOf : {A : Type 0} → Verdict → A → Cut → Stage A
+stageOf verdict a cut = record { verdict = verdict; gathered = a; rest = cut }
 
--- what a stage gives that has stopped with a verdict and what it has gathered
-unfoldable pub stageOf : {A : Type 0} → Verdict → A → Cut → Stage A
-stageOf passes a cut = stopped a cut
-stageOf (refusedAt number place) a cut = failed number place
+abbrev pub stopped : {A : Type 0} → A → Cut → Stage A
+stopped a cut = stageOf passes a cut
+
+-- a verdict that refuses ends a stage with what it has gathered and where it stands; else it goes on
+unfoldable pub ifPasses : {A : Type 0} → Verdict → A → Cut → Stage A → Stage A
+ifPasses passes a cut stage = stage
+ifPasses (refusedAt number place) a cut stage = stageOf (refusedAt number place) a cut
 
 -- the fields with one tag, each tested against what was gathered from those before it
 unfoldable pub section : {A : Type 0} → ℕ → (A → ℕ → List ℕ → List Test) → (A → List ℕ → A) → A → Cut → Stage A
@@ -37,7 +43,7 @@ section tag tests add sofar clean = stopped sofar clean
 section tag tests add sofar (broken at) = stopped sofar (broken at)
 section tag tests add sofar (field f rest) =
     let more = section tag tests add (add sofar (f .body)) rest in
-    let tested = ifPasses (firstOf (tests sofar (f .at) (f .body))) more in
+    let tested = ifPasses (firstOf (tests sofar (f .at) (f .body))) sofar (field f rest) more in
     cond (eqb (f .tag) tag) tested (stopped sofar (field f rest))
 
 abbrev pub edgeStage : ModuleType → Cut → Stage ModuleType
@@ -76,13 +82,25 @@ failingVerdict typeAt (field f rest) = failingBefore (f .tag) (f .at) typeAt
 unfoldable pub judged : List ModuleType → ℕ → Cut → Verdict
 judged types typeAt cut = cond (isEmpty types) passes (cond (notComplementary types) (failingVerdict typeAt cut) passes)
 
-unfoldable pub typeStage : List ModuleType → ℕ → Cut → Stage (List ModuleType)
-typeStage types typeAt clean = ifPasses (judged types typeAt clean) (stopped types clean)
-typeStage types typeAt (broken at) = ifPasses (judged types typeAt (broken at)) (stopped types (broken at))
-typeStage types typeAt (field f rest) =
-    let edge = ifPasses (firstOf (edgeTests (latest types) (f .at) (f .body))) (typeStage (edgeAdded types (edgeIn (f .body))) typeAt rest) in
-    let type = ifPasses (firstOf (typeTests (length types) (f .at) (f .body))) (typeStage (types ++ (typeIn (f .body) ∷ [])) (f .at) rest) in
-    let other = ifPasses (judged types typeAt (field f rest)) (cond (eqb (f .tag) 2) type (stopped types (field f rest))) in
+-- the offset of the field that a cut begins with, 0 where it begins with none
+unfoldable pub fieldPlace : Cut → ℕ
+fieldPlace clean = 0
+fieldPlace (broken at) = 0
+fieldPlace (field f rest) = f .at
+
+-- `from` is the file from the latest type's field on. Where an edge of that type is refused, or the type when it is judged, the stage ends
+-- there, with the types before it
+unfoldable pub typeStage : List ModuleType → Cut → Cut → Stage (List ModuleType)
+typeStage types from clean = ifPasses (judged types (fieldPlace from) clean) (typesBefore types) from (stopped types clean)
+typeStage types from (broken at) =
+    ifPasses (judged types (fieldPlace from) (broken at)) (typesBefore types) from (stopped types (broken at))
+typeStage types from (field f rest) =
+    let moreEdges = typeStage (edgeAdded types (edgeIn (f .body))) from rest in
+    let moreTypes = typeStage (types ++ (typeIn (f .body) ∷ [])) (field f rest) rest in
+    let edge = ifPasses (firstOf (edgeTests (latest types) (f .at) (f .body))) (typesBefore types) from moreEdges in
+    let type = ifPasses (firstOf (typeTests (length types) (f .at) (f .body))) types (field f rest) moreTypes in
+    let next = cond (eqb (f .tag) 2) type (stopped types (field f rest)) in
+    let other = ifPasses (judged types (fieldPlace from) (field f rest)) (typesBefore types) from next in
     cond (eqb (f .tag) 3 && not (isEmpty types)) edge other
 
 -- ---- the ending, and the whole
@@ -100,12 +118,11 @@ endingVerdict size instances vectors (broken at) = refusedAt 2 at
 endingVerdict size instances vectors (field f rest) = pastVerdict (f .tag) (f .at)
 
 unfoldable pub afterStage : {A : Type 0} → Stage A → (A → Cut → Reading) → Reading
-afterStage (stopped a cut) next = next a cut
-afterStage (failed number place) next = refusal number place
+afterStage s next = unless (s .verdict) (next (s .gathered) (s .rest))
 
 unfoldable pub afterInputs : ℕ → ℕ → Cut → Reading
 afterInputs size P cut =
-    afterStage (typeStage [] 0 cut) λ (types : List ModuleType) (cut₂ : Cut).
+    afterStage (typeStage [] clean cut) λ (types : List ModuleType) (cut₂ : Cut).
     afterStage (bridgeStage [] cut₂) λ (bridges : List Listed) (cut₃ : Cut).
     afterStage (instanceStage P types bridges [] cut₃) λ (instances : List Instance) (cut₄ : Cut).
     afterStage (vectorStage P [] cut₄) λ (vectors : List (List Value)) (cut₅ : Cut).
@@ -123,3 +140,34 @@ fromStart size (field f rest) =
 
 unfoldable pub staged : List ℕ → Reading
 staged file = let whole = fromStart (length file) (cutFrom file 0) in cond (ltb mostBytes (length file)) (refusal 1 0) whole
+
+-- ---- what was read, also where the file is refused
+
+-- what the stages after the inputs field have gathered, each from where the one before it ended. A stage that refuses ends at a field of
+-- its own tag, where the later ones find no field of theirs
+unfoldable pub gatheredFrom : ℕ → Cut → Circuit
+gatheredFrom P cut =
+    let types = typeStage [] clean cut in
+    let bridges = bridgeStage [] (types .rest) in
+    let instances = instanceStage P (types .gathered) (bridges .gathered) [] (bridges .rest) in
+    let vectors = vectorStage P [] (instances .rest) in
+    record {
+      inputs = P;
+      types = types .gathered;
+      bridges = bridges .gathered;
+      instances = instances .gathered;
+      vectors = vectors .gathered;
+    }
+
+-- nothing, where the first field is refused
+unfoldable pub gatheredAtStart : Cut → Circuit
+gatheredAtStart clean = emptyCircuit
+gatheredAtStart (broken at) = emptyCircuit
+gatheredAtStart (field f rest) =
+    let after = gatheredFrom (twoBytes (f .body) 0) rest in
+    let first = cond (isRefused (firstOf (inputsTests (f .at) (f .body)))) emptyCircuit after in
+    cond (eqb (f .tag) 1) first emptyCircuit
+
+-- or where the file is too long
+unfoldable pub gatheredOf : List ℕ → Circuit
+gatheredOf file = let short = gatheredAtStart (cutFrom file 0) in cond (ltb mostBytes (length file)) emptyCircuit short

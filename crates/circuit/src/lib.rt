@@ -51,7 +51,7 @@ pub struct Circuit {
     pub vectors: [Vector; MOST_VECTORS],
 }
 
-// What reading answers: why the file is refused, or `Nothing` and its circuit. Beside a refusal `read` gives an empty circuit, and `read_stages` leaves it open.
+// What reading answers: why the file is refused, or `Nothing` and its circuit. Beside a refusal `read` gives an empty circuit, and `read_stages` what was read before it.
 pub struct Reading {
     pub refusal: Refusal,
     pub circuit: Circuit,

@@ -6,7 +6,7 @@ use Rattle.text.specs.Decimal.{digitsOf, lengthIn, decimal}
 use Rattle.grading.specs.Codes.{codeOf}
 use Rattle.report.specs.Lines.{firstLine, kindLetter, digitsOfMarks, rowLine, refusalLine}
 use Rattle.demands.specs.Calls.{cellAt}
-use Rattle.demands.specs.Report.{kindOf, firstOf, secondOf, lineOf, linesOf, countsLine, reportOf}
+use Rattle.report.specs.Report.{kindOf, firstEnd, secondEnd, lineOf, rowLines, countsLine, reportLines, reportOf}
 use Rattle.demands.specs.Claims.{marksFrom, marksIn, floatsUnder, floatsOf, floatsIn, Holds, no-more, _and_}
 use Rattle.demands.specs.KnownResults.{AllKnown}
 use Rattle.demands.proofs.Computing.{computing}
@@ -14,7 +14,7 @@ use Rattle.demands.proofs.Computing.{computing}
 pub all-known : AllKnown
 unfolding computing codeOf cellAt marksFrom marksIn floatsUnder floatsOf floatsIn Holds
     firstTo markAt marksOf firstMarkOf digitsOf lengthIn decimal firstLine kindLetter digitsOfMarks rowLine refusalLine
-    kindOf firstOf secondOf lineOf linesOf countsLine reportOf
+    kindOf firstEnd secondEnd lineOf rowLines countsLine reportLines reportOf
 all-known =
     refl and refl and refl and refl and refl and refl and refl and refl and refl and refl and refl and refl and refl and refl and refl and refl and refl and refl and refl and refl
     and refl and refl and refl and refl and refl and refl and refl and refl and refl and refl and refl and refl and refl and refl and refl and refl and refl and refl and refl and refl

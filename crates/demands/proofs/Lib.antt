@@ -4,7 +4,9 @@
 --   demand 2      SettledValues, Cells, Floating, Columns, RowFaults, OneClass, FoundClasses, ClassCounts, ClassesCarried, NamedAgain
 --   demand 3      Refining, RefinedMarks, NoConverseProof
 --   of two files  WholeFields, AlikeFilesProof, FileSplits, OtherVectors, Fillings, AlikeFilesExamples
---   one outcome   CellsAgree, ClassesAgree, Determines, of the demands; StepsOnce, UniqueProof, of the promises
+--   one outcome   CellsAgree, ClassesAgree, Determines
+--   contracts     ContractsProof, StepsOnce, CanBeMet, UniqueProof
+--   all of them   AllProofs
 --   by computing  KnownProof, WrongProof, BreaksProof; MeetsProof, what the demands do not break
 pub mod Gave
 pub mod Verdicts
@@ -40,4 +42,7 @@ pub mod CellsAgree
 pub mod ClassesAgree
 pub mod Determines
 pub mod StepsOnce
+pub mod CanBeMet
 pub mod UniqueProof
+pub mod ContractsProof
+pub mod AllProofs

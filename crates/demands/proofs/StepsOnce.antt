@@ -1,13 +1,10 @@
 -- One step only stands at an offset. The cut of a file from an offset tells that offset; so where two fields have the same cut, they end at the same offset too.
-use Prim.Native.Nat.{ℕ, _+_, _≤_}
+use Prim.Native.Nat.{ℕ, _+_}
 use mathlib.Core.Path.{_≡_, refl, sym, ap, _∙_}
-use mathlib.Core.Bool.{Bool, true, false, cond}
 use mathlib.Core.List.{List}
 use native.Mathlib.Omega.{arith}
-use borrow.Author.Tests.{eqb-true}
-use lib.Dec.{eqb, ltb}
 use lib.ListN.{length}
-use Rattle.circuit.specs.Fields.{Field, Cut, clean, broken, field, cutFrom}
+use Rattle.circuit.specs.Fields.{Field, clean, broken, field, cutFrom}
 use Rattle.fields.specs.Steps.{fieldIn, FieldAt, StepIs, NextIs}
 use Rattle.fields.specs.declared.Field.{Field as FieldRecord}
 use Rattle.fields.specs.declared.Step.{Step}
@@ -15,32 +12,9 @@ use Rattle.fields.specs.declared.Step.the-variants.{Whole, Broken, End}
 use Rattle.fields.specs.declared.Next.{Next}
 use Rattle.fields.specs.declared.Next.the-variants.{Found, Other}
 use Rattle.fields.proofs.Bodies.{length-body}
-use Rattle.fields.proofs.Cuts.{behind, standing, cut-step}
-use Rattle.demands.specs.Unique.{One}
-
--- the offset that a cut begins at, in a file of a size
-startOf : ℕ → Cut → ℕ
-startOf size clean = size
-startOf size (broken at) = at
-startOf size (field f rest) = f .at
+use Rattle.fields.proofs.Places.{cut-tells}
 
 module _ (file : List ℕ) where
-  start-is : (at : ℕ) → at ≤ length file → startOf (length file) (cutFrom file at) ≡ at
-  unfolding startOf
-  start-is at h =
-      ap (startOf (length file)) (cut-step file at h)
-      ∙ go (eqb at (length file)) (ltb (length file) (at + 3)) (ltb (length file) (behind file at)) refl
-    where
-      rest : Cut
-      rest = cutFrom file (behind file at)
-
-      go : (b c d : Bool) → eqb at (length file) ≡ b
-          → startOf (length file) (cond b clean (cond c (broken at) (cond d (broken at) (field (standing file at) rest)))) ≡ at
-      go true c d e = sym (eqb-true at (length file) e)
-      go false true d e = refl
-      go false false true e = refl
-      go false false false e = refl
-
   module _ (at : ℕ) where
     same-field : (f g : FieldRecord) → FieldAt file at f → FieldAt file at g → f ≡ g
     unfolding fieldIn
@@ -66,8 +40,7 @@ module _ (file : List ℕ) where
             sym (length-body file f (one .inside)) ∙ ap (λ (x : Field). length (x .body)) fields ∙ length-body file g (other .inside)
 
         ends : f .body + f .len ≡ g .body + g .len
-        ends =
-            sym (start-is (f .body + f .len) (one .inside)) ∙ ap (startOf (length file)) rests ∙ start-is (g .body + g .len) (other .inside)
+        ends = cut-tells file (f .body + f .len) (g .body + g .len) (one .inside) (other .inside) rests
 
         body : f .body ≡ g .body
         body = omega (arith, len, ends)
@@ -82,7 +55,7 @@ module _ (file : List ℕ) where
     not-both : (p : ℕ) → cutFrom file at ≡ broken p → cutFrom file at ≡ clean → ⊥
     not-both p e e′ = let z : _≡_ {A = ℕ} 0 1 = cc in omega arith
 
-    pub step-once : One (λ (r : Step). StepIs file at r)
+    pub step-once : (r s : Step) → StepIs file at r → StepIs file at s → r ≡ s
     unfolding StepIs
     step-once (Whole f) (Whole g) p q = ap Whole (same-field f g p q)
     step-once (Whole f) Broken p q = absurd (not-broken f at p q)
@@ -94,7 +67,7 @@ module _ (file : List ℕ) where
     step-once End Broken p q = absurd (not-both at q p)
     step-once End End p q = refl
 
-    pub next-once : (tag : ℕ) → One (λ (r : Next). NextIs file at tag r)
+    pub next-once : (tag : ℕ) (r s : Next) → NextIs file at tag r → NextIs file at tag s → r ≡ s
     unfolding NextIs fieldIn
     next-once tag (Found f) (Found g) (p, t) (q, t′) = ap Found (same-field f g p q)
     next-once tag (Found f) Other (p, t) q = absurd (q (fieldIn file f) (cutFrom file (f .body + f .len)) (p .cut) t)

@@ -1,73 +1,50 @@
--- No two outcomes meet the promise of a public function: `unique`. Most promises are equations; the others are taken apart below.
+-- No two outcomes meet the contract of a public function: `unique`. Most contracts tell by equations; the others are taken apart.
 use Prim.Native.Nat.{ℕ}
-use mathlib.Core.Path.{_≡_, refl, sym, _∙_}
-use mathlib.Core.List.{List}
-use Rattle.switch.specs.declared.ModuleType.{ModuleType}
-use Rattle.circuit.specs.Refusals.{verdictOf}
+use mathlib.Core.Path.{_≡_, refl, sym, ap, _∙_}
+use mathlib.Core.List.{List, [], _∷_}
+use native.Mathlib.Omega.{arith}
+use lib.ListN.{take, replicate}
+use denote.Ref.{now}
+use Rattle.switch.specs.Deciding.{isComplementary}
+use Rattle.switch.specs.Promises.{railsOf}
+use Rattle.switch.specs.Records.{typeWith, EdgesGiven}
 use Rattle.circuit.specs.Reading.{readingOf}
-use Rattle.circuit.specs.Table.{Verdict}
-use Rattle.circuit.specs.declared.Reading.{Reading}
-use Rattle.circuit.specs.declared.Reference.{Reference}
-use Rattle.circuit.specs.declared.refusal.Refusal.{Refusal}
+use Rattle.circuit.specs.Records.{unusedInstance, unusedVector}
 use Rattle.circuit.proofs.AnswerLaws.{verdict-tells, answers-unique}
-use Rattle.grading.specs.Grading.{Grading, Counts as CountsMeant}
-use Rattle.grading.specs.Given.{Read}
-use Rattle.grading.specs.Promise.{countsMeant, Promise, PromiseOfRead}
+use Rattle.grading.specs.Grading.{Grading}
+use Rattle.grading.specs.Promise.{Promise}
 use Rattle.grading.specs.declared.Answer.{Answer}
-use Rattle.grading.specs.declared.Counts.{Counts}
-use Rattle.rows.specs.Model.{RowsListed}
-use Rattle.marks.specs.Model.{InstanceMarked}
-use Rattle.classes.specs.Model.{InstanceClassed}
-use Rattle.classes.specs.declared.Classed.{Classed}
-use Rattle.report.specs.Given.{LineGiven}
+use Rattle.text.specs.Given.{LineGiven}
+use Rattle.text.proofs.PieceLaws.{one-piece}
 use Rattle.togyamiru.specs.Entry.{EntryMeets}
-use Rattle.demands.specs.Unique.{Unique, One, OneAndBuffer, OneAndBuffers}
+use Rattle.demands.specs.Unique.{Unique}
+use Rattle.modules.proofs.TypesOnce.{types-once}
+use Rattle.bridges.proofs.BridgesOnce.{bridges-once}
+use Rattle.instances.proofs.InstancesOnce.{instances-once}
+use Rattle.vectors.proofs.VectorsOnce.{vectors-once}
+use Rattle.reader.proofs.StagesOnce.{stages-once}
+use Rattle.grading.specs.declared.Answer.the-variants.{ShortMatrix}
 use Rattle.demands.proofs.Outcomes.{same-counts, one-outcome-only}
 use Rattle.demands.proofs.StepsOnce.{step-once, next-once}
+use Rattle.demands.proofs.CanBeMet.{lent, emptyField, bareType, edges-given, type-given, noBridges, bridges-listed, codes-fit, codes-of-none}
+use Rattle.demands.proofs.CanBeMet.{rows-held, noTypes, noLists, held-to-none, firstInput, instance-given, readingOfNone, none-read, circuit-given}
 
--- ---- promises that are equations
+both : {A B : Type 0} {one other : A × B} → one .0 ≡ other .0 → one .1 ≡ other .1 → one ≡ other
+both p q i = (p i, q i)
 
-by-equation : {A : Type 0} {a : A} → One (λ (r : A). r ≡ a)
-by-equation r s p q = p ∙ sym q
+-- lines given into a buffer: a count, and the buffer at exit
+given-once : {line out x y : List ℕ} {r s : ℕ} → LineGiven line out r x → LineGiven line out s y → (r ≡ s) × (x ≡ y)
+given-once g h = (g .count-is ∙ sym (h .count-is), g .after-is ∙ sym (h .after-is))
 
-by-equations : {A B : Type 0} {a : A} {b : B} → OneAndBuffer (λ (r : A) (x : B). (r ≡ a) × (x ≡ b))
-by-equations r s x y (p, q) (p′, q′) = (p ∙ sym p′, q ∙ sym q′)
-
--- equations of what tells the answer
-by-verdict : {v : Verdict} → One (λ (r : Refusal). verdictOf r ≡ v)
-by-verdict r s p q = verdict-tells r s (p ∙ sym q)
-
-by-counts : {c : CountsMeant} → One (λ (r : Counts). countsMeant r ≡ c)
-by-counts r s p q = same-counts r s (p ∙ sym q)
-
--- ---- promises that are records of equations
-
-given-once : {line out : List ℕ} → OneAndBuffer (λ (r : ℕ) (out′ : List ℕ). LineGiven line out r out′)
-given-once r s x y g h = (g .count-is ∙ sym (h .count-is), g .after-is ∙ sym (h .after-is))
-
-listed-once : {codes new : List ℕ} {from : ℕ} → OneAndBuffer (λ (r : ℕ) (codes′ : List ℕ). RowsListed codes from new r codes′)
-listed-once r s x y g h = (g .end ∙ sym (h .end), g .listed ∙ sym (h .listed))
-
-marked-once : {t : ModuleType} {references : List Reference} {place vectors from to : ℕ} {rows ones zeros matrix : List ℕ}
-    → OneAndBuffers (λ (ones′ zeros′ matrix′ : List ℕ). InstanceMarked t references place vectors rows from to ones zeros matrix ones′ zeros′ matrix′)
-marked-once r s x y u v g h = (g .ones-are ∙ sym (h .ones-are), g .zeros-are ∙ sym (h .zeros-are), g .rows-are ∙ sym (h .rows-are))
-
-classed-once : {rows matrix classes : List ℕ} {references : List Reference} {from to count : ℕ}
-    → OneAndBuffers (λ (r : Classed) (rows′ classes′ : List ℕ). InstanceClassed rows references from to count matrix classes r rows′ classes′)
-classed-once r s x y u v g h =
-    let classes : u ≡ v = g .classes-are ∙ sym (h .classes-are) in
-    let found : r .found ≡ s .found = g .found-is ∙ rw classes (sym (h .found-is)) in
-    ((λ i. record { count = (g .count-is ∙ sym (h .count-is)) i; found = found i }), g .keys-are ∙ sym (h .keys-are), classes)
-
-entry-once : {g : Grading} {matrix classes : List ℕ}
-    → OneAndBuffers (λ (answer′ matrix′ classes′ : List ℕ). EntryMeets g matrix classes answer′ matrix′ classes′)
-entry-once r s x y u v g h =
+-- outcomes of the entry for C: six numbers, and both buffers at exit
+entry-once : {g : Grading} {matrix classes r s x y u v : List ℕ}
+    → EntryMeets g matrix classes r x u → EntryMeets g matrix classes s y v → (r ≡ s) × (x ≡ y) × (u ≡ v)
+entry-once g h =
     (g .answer-at-exit ∙ sym (h .answer-at-exit), g .matrix-at-exit ∙ sym (h .matrix-at-exit), g .classes-at-exit ∙ sym (h .classes-at-exit))
 
--- ---- grading
-
-grade-once : (file matrix classes : List ℕ)
-    → OneAndBuffers (λ (r : Answer) (matrix′ classes′ : List ℕ). Promise file matrix classes r matrix′ classes′)
+-- outcomes of a grading: an answer, and both buffers at exit
+grade-once : (file matrix classes : List ℕ) (r s : Answer) (x y u v : List ℕ)
+    → Promise file matrix classes r x u → Promise file matrix classes s y v → (r ≡ s) × (x ≡ y) × (u ≡ v)
 grade-once file matrix classes r s x y u v kept kept′ =
     let same =
     one-outcome-only (record { file = file; matrix = matrix; classes = classes; answer = r; matrix-after = x; classes-after = u })
@@ -75,56 +52,156 @@ grade-once file matrix classes r s x y u v kept kept′ =
     in
     (same .answer, same .matrix, same .classes)
 
-grade-read-once : (reading : Reading) (matrix classes : List ℕ) → Read reading
-    → OneAndBuffers (λ (r : Answer) (matrix′ classes′ : List ℕ). PromiseOfRead reading matrix classes r matrix′ classes′)
-grade-read-once reading matrix classes from r s x y u v kept kept′ =
-    grade-once (from .file) matrix classes r s x y u v (kept (from .file) (from .tells)) (kept′ (from .file) (from .tells))
-
--- ---- all of them
-
 pub unique : Unique
 unique = record {
-  words-marks = λ row. by-equation;
-  words-first-mark = λ row. by-equation;
-  words-first-ones = λ n. by-equation;
-  text-put-byte = λ out at b. by-equations;
-  text-put-bytes = λ out at bytes. by-equations;
-  text-put-number = λ out at n. by-equations;
-  joining-complementary = λ edges highest output labels. by-equation;
-  joining-check-type = λ t. by-equation;
-  joining-joining = λ edges highest output labels ones zeros. by-equation;
-  joining-joining-of = λ t ones zeros. by-equation;
-  joining-join-type = λ t ones zeros. by-equation;
-  joining-output-planes = λ supply ground. by-equation;
-  fields-step-at = λ file at h. step-once file at;
-  fields-field-of = λ file at tag h. next-once file at tag;
-  fields-byte = λ file f i. by-equation;
-  fields-two-bytes = λ file f i. by-equation;
-  circuit-is-between = λ low high m. by-equation;
-  circuit-refuses = λ r. by-equation;
-  circuit-or-if = λ before test this. by-verdict;
-  circuit-number-of = λ r. by-equation;
-  circuit-place-of = λ r. by-equation;
-  modules-no-type = by-equation;
-  bridges-no-bridge = by-equation;
-  instances-no-instance = by-equation;
-  bridges-lists-of = λ bridges count listed r s p q.
-      by-equation r s (p (listed .bridges) (listed .counted) (listed .within) (listed .ranges) (listed .is))
-      (q (listed .bridges) (listed .counted) (listed .within) (listed .ranges) (listed .is));
-  vectors-no-vector = by-equation;
-  reader-read = λ file. answers-unique (readingOf file);
-  grading-number-of = λ answer. by-equation;
-  grading-place-of = λ answer. by-equation;
-  grading-counts-of = λ answer. by-counts;
-  rows-list-rows = λ one t bridges count place codes from. listed-once;
-  rows-rows-of = λ c given r s p q. p (given .circuit) (given .is) (given .good) ∙ sym (q (given .circuit) (given .is) (given .good));
-  signals-put-signals = λ vectors words. by-equations;
-  marks-mark-instance = λ t one place vectors rows from to ones zeros matrix. marked-once;
-  classes-class-instance = λ rows from to one matrix classes count. classed-once;
-  grader-grade-read = grade-read-once;
-  grader-grade = grade-once;
-  report-first-line = λ vectors faults classes found out. given-once;
-  report-refusal-line = λ number place out. given-once;
-  report-row-line = λ head vectors row out. given-once;
-  togyamiru-grade = λ file matrix classes. entry-once;
+  words-marks = record { asks-nothing = λ κs a. tt; one-outcome = λ κs a asked one other p q. both (p ∙ sym q) refl };
+  words-first-mark = record { asks-nothing = λ κs a. tt; one-outcome = λ κs a asked one other p q. both (p ∙ sym q) refl };
+  words-first-ones = record { asks-nothing = λ κs a. tt; one-outcome = λ κs a asked one other p q. both (p ∙ sym q) refl };
+  text-put-byte = record { can-be-met = λ κs. ((lent (0 ∷ []), (0, (0, tt))), omega arith); one-outcome = λ κs a asked one other p q. both (p .0 ∙ sym (q .0)) (ap (λ x. (x, (tt, (tt, tt)))) (p .1 ∙ sym (q .1))) };
+  text-put-bytes = record { can-be-met = λ κs. ((lent [], (0, (lent [], tt))), omega arith); one-outcome = λ κs a asked one other p q. both (p .0 ∙ sym (q .0)) (ap (λ x. (x, (tt, (tt, tt)))) (p .1 ∙ sym (q .1))) };
+  text-put-number = record { can-be-met = λ κs. ((lent (replicate 20 0), (0, (0, tt))), omega arith); one-outcome = λ κs a asked one other p q. both (p .0 ∙ sym (q .0)) (ap (λ x. (x, (tt, (tt, tt)))) (p .1 ∙ sym (q .1))) };
+  text-give = record {
+    asks-nothing = λ κs a. tt;
+    one-outcome = λ κs a asked one other p q. let same = given-once p q in both (same .0) (λ i. (tt, (same .1 i, tt)));
+  };
+  joining-complementary = record {
+    Asked = λ κs a. EdgesGiven (a .1 .0) (a .1 .1 .0) (a .1 .1 .1 .0) (now (a .0));
+    Told = λ κs a r s. r ≡ isComplementary (typeWith (a .1 .0) (a .1 .1 .0) (a .1 .1 .1 .0) (now (a .0)));
+    asks = λ M 𝓤 H A mem run κs a g. refl;
+    tells = λ M 𝓤 H A mem run κs a g r s. refl;
+    sole = record { can-be-met = λ κs. ((lent [], (2, (2, (1, tt)))), edges-given); one-outcome = λ κs a asked one other p q. both (p ∙ sym q) refl };
+  };
+  joining-check-type = record { can-be-met = λ κs. ((bareType, tt), type-given); one-outcome = λ κs a asked one other p q. both (p ∙ sym q) refl };
+  joining-joining = record {
+    Asked = λ κs a. EdgesGiven (a .1 .0) (a .1 .1 .0) (a .1 .1 .1 .0) (now (a .0));
+    Told = λ κs a r s. r ≡ railsOf (typeWith (a .1 .0) (a .1 .1 .0) (a .1 .1 .1 .0) (now (a .0))) (now (a .1 .1 .1 .1 .0)) (now (a .1 .1 .1 .1 .1 .0));
+    asks = λ M 𝓤 H A mem run κs a g. refl;
+    tells = λ M 𝓤 H A mem run κs a g r s. refl;
+    sole = record { can-be-met = λ κs. ((lent [], (2, (2, (1, (lent (replicate 48 0), (lent (replicate 48 0), tt)))))), edges-given); one-outcome = λ κs a asked one other p q. both (p ∙ sym q) refl };
+  };
+  joining-joining-of = record { can-be-met = λ κs. ((bareType, (lent (replicate 48 0), (lent (replicate 48 0), tt))), type-given); one-outcome = λ κs a asked one other p q. both (p ∙ sym q) refl };
+  joining-join-type = record { can-be-met = λ κs. ((bareType, (lent (replicate 48 0), (lent (replicate 48 0), tt))), type-given); one-outcome = λ κs a asked one other p q. both (p ∙ sym q) refl };
+  joining-output-planes = record { asks-nothing = λ κs a. tt; one-outcome = λ κs a asked one other p q. both (p ∙ sym q) refl };
+  circuit-is-between = record { asks-nothing = λ κs a. tt; one-outcome = λ κs a asked one other p q. both (p ∙ sym q) refl };
+  circuit-refuses = record { asks-nothing = λ κs a. tt; one-outcome = λ κs a asked one other p q. both (p ∙ sym q) refl };
+  circuit-or-if = record { asks-nothing = λ κs a. tt; one-outcome = λ κs a asked one other p q. both (verdict-tells (one .0) (other .0) (p ∙ sym q)) refl };
+  circuit-number-of = record { asks-nothing = λ κs a. tt; one-outcome = λ κs a asked one other p q. both (p ∙ sym q) refl };
+  circuit-place-of = record { asks-nothing = λ κs a. tt; one-outcome = λ κs a asked one other p q. both (p ∙ sym q) refl };
+  fields-step-at = record { can-be-met = λ κs. ((lent [], (0, tt)), omega arith); one-outcome = λ κs a asked one other p q. both (step-once (now (a .0)) (a .1 .0) (one .0) (other .0) p q) refl };
+  fields-field-of = record { can-be-met = λ κs. ((lent [], (0, (0, tt))), omega arith); one-outcome = λ κs a asked one other p q. both (next-once (now (a .0)) (a .1 .0) (a .1 .1 .0) (one .0) (other .0) p q) refl };
+  fields-byte = record { can-be-met = λ κs. ((lent [], (emptyField, (0, tt))), omega arith); one-outcome = λ κs a asked one other p q. both (p ∙ sym q) refl };
+  fields-two-bytes = record { can-be-met = λ κs. ((lent [], (emptyField, (0, tt))), (omega arith, omega arith)); one-outcome = λ κs a asked one other p q. both (p ∙ sym q) refl };
+  modules-no-type = record { asks-nothing = λ κs a. tt; one-outcome = λ κs a asked one other p q. both (p ∙ sym q) refl };
+  modules-read-types = record { can-be-met = λ κs. ((lent [], (0, tt)), omega arith); one-outcome = λ κs a asked one other p q. both (types-once (now (a .0)) (a .1 .0) (one .0) (other .0) p q) refl };
+  bridges-no-bridge = record { asks-nothing = λ κs a. tt; one-outcome = λ κs a asked one other p q. both (p ∙ sym q) refl };
+  bridges-lists-of = record {
+    can-be-met = λ κs. ((noBridges, (0, tt)), bridges-listed);
+    one-outcome = λ κs a listed one other p q.
+        both (p (listed .bridges) (listed .counted) (listed .within) (listed .ranges) (listed .is)
+        ∙ sym (q (listed .bridges) (listed .counted) (listed .within) (listed .ranges) (listed .is))) refl;
+  };
+  bridges-read-bridges = record { can-be-met = λ κs. ((lent [], (0, tt)), omega arith); one-outcome = λ κs a asked one other p q. both (bridges-once (now (a .0)) (a .1 .0) (one .0) (other .0) p q) refl };
+  instances-no-instance = record { asks-nothing = λ κs a. tt; one-outcome = λ κs a asked one other p q. both (p ∙ sym q) refl };
+  instances-read-instances = record {
+    can-be-met = λ κs. ((lent [], (0, (0, (0, (noTypes, (noLists, tt)))))), (omega arith, (omega arith, held-to-none)));
+    one-outcome = λ κs a asked one other p q.
+        both (instances-once (now (a .0)) (a .1 .0) (a .1 .1 .0) (a .1 .1 .1 .0) (a .1 .1 .1 .1 .0) (a .1 .1 .1 .1 .1 .0) (asked .1 .1) (one .0) (other .0) p q) refl;
+  };
+  vectors-no-vector = record { asks-nothing = λ κs a. tt; one-outcome = λ κs a asked one other p q. both (p ∙ sym q) refl };
+  vectors-read-vectors = record { can-be-met = λ κs. ((lent [], (0, (0, tt))), (omega arith, omega arith)); one-outcome = λ κs a asked one other p q. both (vectors-once (now (a .0)) (a .1 .0) (a .1 .1 .0) (one .0) (other .0) p q) refl };
+  reader-read-stages = record { asks-nothing = λ κs a. tt; one-outcome = λ κs a asked one other p q. both (stages-once (now (a .0)) (one .0) (other .0) p q) refl };
+  reader-read = record { asks-nothing = λ κs a. tt; one-outcome = λ κs a asked one other p q. both (answers-unique (readingOf (now (a .0))) (one .0) (other .0) p q) refl };
+  grading-number-of = record { asks-nothing = λ κs a. tt; one-outcome = λ κs a asked one other p q. both (p ∙ sym q) refl };
+  grading-place-of = record { asks-nothing = λ κs a. tt; one-outcome = λ κs a asked one other p q. both (p ∙ sym q) refl };
+  grading-counts-of = record { asks-nothing = λ κs a. tt; one-outcome = λ κs a asked one other p q. both (same-counts (one .0) (other .0) (p ∙ sym q)) refl };
+  rows-list-rows = record { can-be-met = λ κs. ((unusedInstance, (bareType, (noBridges, (0, (0, (lent [], (0, tt))))))), ((omega arith, omega arith, omega arith, omega arith), omega (arith, codes-of-none 2 1 (take 0 noBridges)))); one-outcome = λ κs a asked one other p q. both (p .end ∙ sym (q .end)) (ap (λ x. (tt, (tt, (tt, (tt, (tt, (x, (tt, tt)))))))) (p .listed ∙ sym (q .listed))) };
+  rows-rows-of = record { can-be-met = λ κs. ((circuit-given .0, tt), circuit-given .1); one-outcome = λ κs a given one other p q. both (p (given .circuit) (given .is) (given .good) ∙ sym (q (given .circuit) (given .is) (given .good))) refl };
+  signals-put-signals = record { can-be-met = λ κs. ((replicate 256 unusedVector, (0, (lent (replicate 768 0), (lent (replicate 768 0), tt)))), (omega arith, (refl, refl))); one-outcome = λ κs a asked one other p q. both refl (λ i. (tt, (tt, ((p .0 ∙ sym (q .0)) i, ((p .1 ∙ sym (q .1)) i, tt))))) };
+  marks-mark-instance = record {
+    can-be-met = λ κs. ((bareType, (record { «type_number» = 0; choice = 0; references = firstInput }, (0, (0, (lent (replicate 2048 0), (0, (0, (lent (replicate 768 0), (lent (replicate 768 0), (lent [], tt)))))))))), instance-given);
+    one-outcome = λ κs a asked one other p q.
+        both refl (λ i. (
+          tt,
+          (
+            tt,
+            (
+              tt,
+              (
+                tt,
+                (
+                  tt,
+                  (
+                    tt,
+                    (
+                      tt,
+                      ((p .ones-are ∙ sym (q .ones-are)) i, ((p .zeros-are ∙ sym (q .zeros-are)) i, ((p .rows-are ∙ sym (q .rows-are)) i, tt))),
+                    ),
+                  ),
+                ),
+              ),
+            ),
+          ),
+        ));
+  };
+  classes-class-instance = record {
+    can-be-met = λ κs. ((lent (replicate 2048 0), (0, (0, (unusedInstance, (lent [], (lent [], (0, tt))))))), ((omega arith, omega arith, omega arith), (codes-fit (replicate 2048 0), (omega arith, omega arith, refl))));
+    one-outcome = λ κs a asked one other p q.
+        let classes = p .classes-are ∙ sym (q .classes-are) in
+        let found : one .0 .found ≡ other .0 .found = p .found-is ∙ rw classes (sym (q .found-is)) in
+        both (λ i. record { count = (p .count-is ∙ sym (q .count-is)) i; found = found i })
+        (λ i. ((p .keys-are ∙ sym (q .keys-are)) i, (tt, (tt, (tt, (tt, (classes i, (tt, tt))))))));
+  };
+  grader-grade-read = record {
+    can-be-met = λ κs. ((readingOfNone, (lent [], (lent [], tt))), none-read);
+    one-outcome = λ κs a read one other p q.
+        let same =
+        grade-once (read .file) (now (a .1 .0)) (now (a .1 .1 .0)) (one .0) (other .0) (one .1 .1 .0) (other .1 .1 .0) (one .1 .1 .1 .0) (other .1 .1 .1 .0)
+        (p (read .file) (read .tells)) (q (read .file) (read .tells))
+        in
+        both (same .0) (λ i. (tt, (same .1 i, (same .2 i, tt))));
+  };
+  grader-grade = record {
+    asks-nothing = λ κs a. tt;
+    one-outcome = λ κs a asked one other p q.
+        let same =
+        grade-once (now (a .0)) (now (a .1 .0)) (now (a .1 .1 .0)) (one .0) (other .0) (one .1 .1 .0) (other .1 .1 .0) (one .1 .1 .1 .0) (other .1 .1 .1 .0) p q
+        in
+        both (same .0) (λ i. (tt, (same .1 i, (same .2 i, tt))));
+  };
+  report-first-line = record {
+    asks-nothing = λ κs a. tt;
+    one-outcome = λ κs a asked one other p q. let same = given-once p q in both (same .0) (λ i. (tt, (tt, (tt, (tt, (same .1 i, tt))))));
+  };
+  report-refusal-line = record {
+    asks-nothing = λ κs a. tt;
+    one-outcome = λ κs a asked one other p q. let same = given-once p q in both (same .0) (λ i. (tt, (tt, (same .1 i, tt))));
+  };
+  report-row-line = record {
+    asks-nothing = λ κs a. tt;
+    one-outcome = λ κs a asked one other p q. let same = given-once p q in both (same .0) (λ i. (tt, (tt, (tt, (same .1 i, tt)))));
+  };
+  report-report-piece = record {
+    can-be-met = λ κs. ((ShortMatrix 0, (lent [], (lent [], (lent [], (0, (lent [], tt)))))), rows-held);
+    one-outcome = λ κs a asked one other p q.
+        let same = one-piece _ _ _ _ _ _ _ _ (p .of-held) (q .of-held) in both (same .0) (λ i. (tt, (tt, (tt, (tt, (tt, (same .1 i, tt)))))));
+  };
+  listing-show-piece = record {
+    asks-nothing = λ κs a. tt;
+    one-outcome = λ κs a asked one other p q.
+        let same = one-piece _ _ _ _ _ _ _ _ (p .given) (q .given) in both (same .0) (λ i. (tt, (tt, (same .1 i, tt))));
+  };
+  files-unread = record {
+    asks-nothing = λ κs a. tt;
+    one-outcome = λ κs a asked one other p q.
+        both (λ i. record { «is_read» = (p .0 ∙ sym (q .0)) i; count = (p .1 ∙ sym (q .1)) i }) refl;
+  };
+  files-nothing = record {
+    asks-nothing = λ κs a. tt;
+    one-outcome = λ κs a asked one other p q.
+        both (λ i. record { «is_lost» = (p .0 ∙ sym (q .0)) i; «has_report» = (p .1 ∙ sym (q .1)) i }) refl;
+  };
+  togyamiru-grade = record {
+    asks-nothing = λ κs a. tt;
+    one-outcome = λ κs a asked one other p q. let same = entry-once p q in both refl (λ i. (tt, (same .1 i, (same .2 i, (same .0 i, tt)))));
+  };
 }

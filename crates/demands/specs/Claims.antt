@@ -19,7 +19,7 @@ use Rattle.grading.specs.Rows.{Row, rowsOf}
 use Rattle.grading.specs.Grading.{Counts, Grading, graded, refused, gradingOf, countsIn, numberIn, placeIn, matrixAfter, classesAfterGrading}
 use Rattle.grading.specs.Codes.{codeOf}
 use Rattle.demands.specs.Calls.{cellAt}
-use Rattle.demands.specs.Report.{reportOf}
+use Rattle.report.specs.Report.{reportOf}
 
 -- ---- what a claim speaks of
 

@@ -1,18 +1,18 @@
 -- The three demands on the grader. Calls says what they speak of; One, Two and Three state them; their proofs are in proofs/.
 --   Files                   small circuit files, put together field by field
---   Report                  the whole report of a grading, as bytes
 --   Claims, KnownResults    the table of known results, and what its lines claim
 --   AlikeFiles, SplitFiles  demand 3 and the column clause of two files, byte by byte; why files are split as they are there
 --   NoConverse              demand 3 has no converse
 --   Determined              the demands leave one outcome only, which is the promise's
---   Unique                  promises of public functions that leave one outcome only
+--   Contracts               contracts as terms; those of `grade` and of the entry for C
+--   Unique                  contracts of public functions that leave one outcome only
 --   Graders, Wrong, Breaks  a right grader and wrong ones; none of these meets the promise, and which demand each of them breaks
+--   Proved                  all of these statements in one record
 pub mod Calls
 pub mod One
 pub mod Two
 pub mod Three
 pub mod Files
-pub mod Report
 pub mod Claims
 pub mod KnownResults
 pub mod AlikeFiles
@@ -22,4 +22,6 @@ pub mod Determined
 pub mod Graders
 pub mod Wrong
 pub mod Breaks
+pub mod Contracts
 pub mod Unique
+pub mod Proved

@@ -74,8 +74,8 @@ pub record One (call : Call) : Type 0 where
 abbrev pub OneHolds : Type 0
 OneHolds = (call : Call) → Kept call → One call
 
--- for every file and every pair of buffers there is an outcome that keeps the promise, and only one. That `grade` always gives it is its
--- contract, which has no `requires`
+-- for every file and every pair of buffers there is an outcome that keeps the promise, and only one. That the code of `grade` always
+-- gives one is `GradeIsKept` (Contracts)
 pub record CanBeMet (file matrix classes : List ℕ) : Type 0 where
   pub call : Call
   pub of-file : call .file ≡ file

@@ -80,7 +80,8 @@ module _ {A : Type 0} (tag : ℕ) (tests : A → ℕ → List ℕ → List Test)
   -- a stage at a field of its tag
   pub section-step : (f : FieldRecord) → FieldAt file at f → f .tag ≡ tag
       → section tag tests add sofar (cutFrom file at)
-      ≡ ifPasses (firstOf (tests sofar (f .at) (bodyOf file f))) (section tag tests add (add sofar (bodyOf file f)) (cutFrom file (f .body + f .len)))
+      ≡ ifPasses (firstOf (tests sofar (f .at) (bodyOf file f))) sofar (cutFrom file at)
+      (section tag tests add (add sofar (bodyOf file f)) (cutFrom file (f .body + f .len)))
   unfolding section fieldIn
   section-step f here own = rw (here .cut, eq-eqb (f .tag) tag own)
 

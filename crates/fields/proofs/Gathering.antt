@@ -17,8 +17,8 @@ use Rattle.fields.specs.declared.Next.the-variants.{Other}
 use Rattle.circuit.proofs.Padding.{padded-nil, padded-snoc}
 use Rattle.fields.proofs.Cuts.{section-step, section-stop}
 
-refused-here : {A : Type 0} (v : Verdict) (a : A) (cut : Cut) (more : Stage A) → isRefused v ≡ true → ifPasses v more ≡ stageOf v a cut
-unfolding isRefused ifPasses stageOf
+refused-here : {A : Type 0} (v : Verdict) (a : A) (cut : Cut) (more : Stage A) → isRefused v ≡ true → ifPasses v a cut more ≡ stageOf v a cut
+unfolding isRefused ifPasses
 refused-here passes a cut more e = cc
 refused-here (refusedAt n p) a cut more e = refl
 
@@ -55,7 +55,8 @@ module _ {A R : Type 0} {tag most : ℕ} {tests : List A → ℕ → List ℕ �
 
   module _ (f : FieldRecord) (here : FieldAt file at f) (own : f .tag ≡ tag) (v : Verdict)
       (verdict : v ≡ firstOf (tests as′ (f .at) (bodyOf file f))) where
-    stepped : section tag tests add [] (cutFrom file from) ≡ ifPasses v (section tag tests add (add as′ (bodyOf file f)) (cutFrom file (f .body + f .len)))
+    stepped : section tag tests add [] (cutFrom file from)
+        ≡ ifPasses v as′ (cutFrom file at) (section tag tests add (add as′ (bodyOf file f)) (cutFrom file (f .body + f .len)))
     stepped = so .stage ∙ section-step tag tests add as′ file at f here own ∙ rw (← verdict)
 
     pub fails : isRefused v ≡ true → section tag tests add [] (cutFrom file from) ≡ stageOf v as′ (cutFrom file at)

@@ -1,7 +1,7 @@
 // The inputs of a program, numbered from 1: the files that its arguments name, in their order, or standard input where there are none.
 ghost use Prim.Native.Nat.{_≤_};
 ghost use lib.ListN.{length};
-ghost use Rattle.io.specs.Counts.{Counts};
+ghost use Rattle.files.specs.Inputs.{InputRead, InputHeaded};
 use crate::input::Input;
 use crate::input::read_named;
 use crate::input::read_standard;
@@ -22,7 +22,7 @@ pub fn input_count() -> usize
 
 // Reads an input. One that cannot be read is told of on standard error, by its name and the reason.
 pub fn read_input(number: usize, buf: &mut [u8]) -> Input
-    ensures { λ r. ⌜ Counts (r .count) (now (buf .exit)) ⌝ }
+    ensures { λ r. ⌜ InputRead (now (buf .entry)) r (now (buf .exit)) ⌝ }
 {
     if os::arg_count() < 2 {
         return read_standard(buf);
@@ -37,11 +37,10 @@ pub fn read_input(number: usize, buf: &mut [u8]) -> Input
     read_named(&name[..n], buf)
 }
 
-// The heading of an input, where there are several. The buffer has room for the longest name, 4,096 bytes.
+// The heading of an input, where there are several, put into a buffer and written. The buffer has room for the longest name, 4,096 bytes.
 pub fn head_input(out: &mut [u8], output: Output, number: usize) -> Output
-    requires { ⌜ output .at ≤ length (now out) ⌝ }
     requires { ⌜ 4106 ≤ length (now out) ⌝ }
-    ensures { λ r. ⌜ r .at ≤ length (now (out .exit)) ⌝ }
+    ensures { λ r. ⌜ InputHeaded output (now (out .entry)) r (now (out .exit)) ⌝ }
 {
     if os::arg_count() < 3 {
         return output;

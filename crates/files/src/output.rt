@@ -1,24 +1,24 @@
-// Text gathered in a lent buffer, and written to standard output in large pieces.
+// Text written to standard output, and the headings between reports.
 ghost use mathlib.Core.Path.{_≡_};
 ghost use mathlib.Core.Bool.{false};
 ghost use Prim.Native.Nat.{_+_, _<_, _≤_};
 ghost use lib.ListN.{length};
+ghost use Rattle.words.specs.Written.{written};
+ghost use Rattle.files.specs.Outputs.{TextWritten, blankLine, Headed};
 use text::put_byte;
 use text::put_bytes;
 
-// How much text waits at the start of the buffer, whether a write has failed, and whether a report has begun.
+// Whether a write has failed, and whether a report has begun.
 pub struct Output {
-    pub at: usize,
     pub is_lost: bool,
     pub has_report: bool,
 }
 
-// No text yet.
+// Nothing written yet.
 pub fn nothing() -> Output
-    ensures { λ r. ⌜ (r .at ≡ 0) × (r .«is_lost» ≡ false) × (r .«has_report» ≡ false) ⌝ }
+    ensures { λ r. ⌜ (r .«is_lost» ≡ false) × (r .«has_report» ≡ false) ⌝ }
 {
     Output {
-        at: 0,
         is_lost: false,
         has_report: false,
     }
@@ -33,71 +33,42 @@ fn is_written(text: &[u8]) -> bool {
     false
 }
 
-// Writes what waits. After a write that failed nothing is written any more, so that the failure is told once.
-pub fn flush(out: &[u8], output: Output) -> Output
-    requires { ⌜ output .at ≤ length (now out) ⌝ }
-    ensures { λ r. ⌜ r .at ≡ 0 ⌝ }
+// Writes a text. After a write that failed nothing is written any more, so that the failure is told once.
+pub fn write_text(output: Output, text: &[u8]) -> Output
+    ensures { λ r. ⌜ TextWritten output r ⌝ }
 {
-    let at = output.at;
-    let mut is_lost = output.is_lost;
-    if !is_lost {
-        is_lost = !is_written(&out[..at]);
+    if output.is_lost {
+        return output;
     }
     Output {
-        at: 0,
-        is_lost,
+        is_lost: !is_written(text),
         has_report: output.has_report,
     }
 }
 
-// Room for so many bytes more: what waits is written first where they might not fit behind it.
-pub fn room(out: &[u8], output: Output, most: usize) -> Output
-    requires { ⌜ output .at ≤ length (now out) ⌝ }
-    requires { ⌜ most ≤ length (now out) ⌝ }
-    ensures { λ r. ⌜ r .at + most ≤ length (now (out .entry)) ⌝ }
-{
-    if out.len() - output.at < most {
-        return flush(out, output);
-    }
-    output
-}
-
-// The output with its text up to here.
-pub fn up_to(output: Output, at: usize) -> Output
-    ensures { λ r. ⌜ (r .at ≡ at) × (r .«is_lost» ≡ output .«is_lost») × (r .«has_report» ≡ output .«has_report») ⌝ }
-{
-    Output {
-        at,
-        is_lost: output.is_lost,
-        has_report: output.has_report,
-    }
-}
-
-// A blank line, where one is wanted.
-fn blank_line(out: &mut [u8], at: usize, is_wanted: bool) -> usize
-    requires { ⌜ at < length (now out) ⌝ }
-    ensures { λ r. ⌜ r ≤ at + 1 ⌝ }
+// A blank line into the front of a buffer, where one is wanted.
+fn put_blank(out: &mut [u8], is_wanted: bool) -> usize
+    requires { ⌜ 0 < length (now out) ⌝ }
+    ensures { λ r. ⌜ (r ≡ length (blankLine «is_wanted»)) × (now (out .exit) ≡ written (now (out .entry)) 0 (blankLine «is_wanted»)) ⌝ }
 {
     if is_wanted {
-        return put_byte(out, at, b'\n');
+        return put_byte(out, 0, b'\n');
     }
-    at
+    0
 }
 
-// The heading of one report of several, and before it a blank line if a report stands above.
+// The heading of one report of several, and before it a blank line if a report stands above: put into the front of a buffer, and written.
 pub fn heading(out: &mut [u8], output: Output, name: &[u8]) -> Output
-    requires { ⌜ output .at ≤ length (now out) ⌝ }
     requires { ⌜ length (now name) + 10 ≤ length (now out) ⌝ }
-    ensures { λ r. ⌜ r .at ≤ length (now (out .exit)) ⌝ }
+    ensures { λ r. ⌜ Headed (now (name .entry)) output (now (out .entry)) r (now (out .exit)) ⌝ }
 {
-    let output = room(out, output, name.len() + 10);
-    let at = blank_line(out, output.at, output.has_report);
+    let at = put_blank(out, output.has_report);
     let at = put_bytes(out, at, b"==> ");
     let at = put_bytes(out, at, name);
     let at = put_bytes(out, at, b" <==\n");
+    let after = write_text(output, &out[..at]);
     Output {
-        at,
-        is_lost: output.is_lost,
+        is_lost: after.is_lost,
         has_report: true,
     }
 }

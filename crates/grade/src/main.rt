@@ -1,49 +1,70 @@
 // Grades circuit files: for each, the report of the scope paper, or its refusal.
-mod report_lines;
+mod handing;
 
+ghost use mathlib.Core.Path.{_≡_};
 ghost use Prim.Native.Nat.{_≤_};
 ghost use lib.ListN.{length};
-use crate::report_lines::first_lines;
-use crate::report_lines::refusal_lines;
-use crate::report_lines::row_lines;
+ghost use Rattle.grading.specs.Given.{Read};
+ghost use Rattle.grade.specs.Handing.{AllHanded, RowsRead};
+use crate::handing::Handed;
+use crate::handing::hand_out;
+use crate::handing::none_handed;
+use circuit::Reading;
 use circuit::limits::MOST_BYTES;
 use circuit::limits::MOST_FAULTS;
+use circuit::refusal::refuses;
 use files::inputs::head_input;
 use files::inputs::input_count;
 use files::inputs::read_input;
 use files::output::Output;
-use files::output::flush;
 use files::output::nothing;
 use grader::grade::grade_read;
-use grading::Answer;
-use grading::answers::number_of;
-use grading::answers::place_of;
 use reader::read::read_stages;
+use report::report_piece;
+use rows::rows_of;
 
 // One byte more than the limit is enough to know that a file is too long.
 const MOST_READ: usize = MOST_BYTES + 1;
 
-// The report of one file. The buffers are long enough for every file, so that 15 and 22 never come.
+// The rows of the circuit that was read, a number each; zeros where the file is refused.
+fn rows_read(reading: Reading) -> [u32; MOST_FAULTS]
+    requires { ⌜ Read reading ⌝ }
+    ensures { λ r. ⌜ RowsRead reading r ⌝ }
+{
+    let refusal = reading.refusal;
+    if refuses(refusal) {
+        return [0u32; MOST_FAULTS];
+    }
+    let circuit = reading.circuit;
+    rows_of(circuit)
+}
+
+// The report of one file, all of it, piece by piece.
 fn grade_file(
     out: &mut [u8],
     output: Output,
     file: &[u8],
     matrix: &mut [u64],
     classes: &mut [u16],
-) -> Output
-    requires { ⌜ output .at ≤ length (now out) ⌝ }
+) -> Handed
     requires { ⌜ 512 ≤ length (now out) ⌝ }
-    requires { ⌜ (8192 ≤ length (now matrix)) × (2048 ≤ length (now classes)) ⌝ }
-    ensures { λ r. ⌜ r .at ≤ length (now (out .exit)) ⌝ }
+    requires { ⌜ (length (now matrix) ≡ 8192) × (length (now classes) ≡ 2048) ⌝ }
+    ensures { λ r. ⌜ AllHanded (now (file .entry)) (r .lines) ⌝ }
 {
     let reading = read_stages(file);
     let answer = grade_read(reading, matrix, classes);
-    let Answer::Graded(counts) = answer else {
-        return refusal_lines(out, output, number_of(answer), place_of(answer));
-    };
-    let output = first_lines(out, output, counts);
-    let circuit = reading.circuit;
-    row_lines(out, output, circuit, matrix, classes)
+    let codes = rows_read(reading);
+    let mut handed = none_handed(output);
+    let mut next: usize = 0;
+    loop {
+        let piece = report_piece(answer, &codes, matrix, classes, next, out);
+        if piece.count == 0 {
+            break;
+        }
+        handed = hand_out(handed, file, piece, out);
+        next = piece.next;
+    }
+    handed
 }
 
 fn main() {
@@ -60,8 +81,8 @@ fn main() {
         if input.is_read {
             let length = input.count;
             output = head_input(&mut out, output, i);
-            output = grade_file(&mut out, output, &file[..length], &mut matrix, &mut classes);
+            let handed = grade_file(&mut out, output, &file[..length], &mut matrix, &mut classes);
+            output = handed.output;
         }
     }
-    flush(&out, output);
 }

@@ -70,7 +70,7 @@ module _ {file : List ℕ} {from P : ℕ} {types : List ModuleType} {bridges : L
 
   pub instances-stop : NextIs file at 5 Other
       → InstancesRead file from P types bridges (record { refusal = Nothing; at = at; count = count; faults = faults; all = all })
-  unfolding stageOf verdictOf numberedVerdict refusalNumber refusalPlace
+  unfolding verdictOf numberedVerdict refusalNumber refusalPlace
   instances-stop other = instances-read Nothing (stops (sofar .so) other)
 
   module _ (f : FieldRecord) (here : FieldAt file at f) (own : f .tag ≡ 5) (r : Refusal)

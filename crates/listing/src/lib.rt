@@ -1,190 +1,108 @@
-// The text that `show` gives of a file: the lines of its circuit in file order, or of its refusal, each put where there is room for a whole line.
+// The listing that `show` prints of a file: the lines of its circuit in file order, or of its refusal, piece by piece into a lent buffer.
 mod least;
 mod lines;
+mod parts;
 
-ghost use Prim.Native.Nat.{_≤_};
-ghost use lib.ListN.{length};
-use crate::least::at_most;
-use crate::lines::bridge_line;
-use crate::lines::edge_line;
+ghost use mathlib.Core.List.{[]};
+ghost use Prim.Native.Nat.{_<_, _≤_};
+ghost use lib.ListN.{length, getD};
+ghost use Rattle.text.specs.Given.{LineGiven};
+ghost use Rattle.text.specs.Pieces.{lineIn};
+ghost use Rattle.listing.specs.Listing.{circuitLines, listingOf};
+ghost use Rattle.listing.specs.Told.{circuitTold, readingTold};
+ghost use Rattle.listing.specs.Promise.{ListingPiece};
+ghost use Rattle.listing.specs.Puts.{Puts};
 use crate::lines::inputs_line;
-use crate::lines::instance_line;
-use crate::lines::refusal_line;
-use crate::lines::type_line;
-use crate::lines::vector_line;
-use circuit::Bridge;
+use crate::parts::bridge_part;
+use crate::parts::instance_part;
+use crate::parts::type_part;
+use crate::parts::vector_part;
 use circuit::Circuit;
-use circuit::Instance;
-use circuit::Vector;
-use circuit::limits::MOST_BRIDGES;
-use circuit::limits::MOST_INSTANCES;
-use circuit::limits::MOST_TYPES;
-use circuit::limits::MOST_VECTORS;
-use circuit::refusal::Refusal;
-use files::output::Output;
-use files::output::room;
-use files::output::up_to;
-use switch::MOST_EDGES;
-use switch::ModuleType;
+use circuit::Reading;
+use circuit::refusal::number_of;
+use circuit::refusal::place_of;
+use circuit::refusal::refuses;
+use report::refusal_line;
+use text::Piece;
+use text::give;
 
-const MOST_LINE: usize = 512;
-
-pub fn refusal_lines(out: &mut [u8], output: Output, refusal: Refusal) -> Output
-    requires { ⌜ output .at ≤ length (now out) ⌝ }
-    requires { ⌜ 512 ≤ length (now out) ⌝ }
-    ensures { λ r. ⌜ r .at ≤ length (now (out .exit)) ⌝ }
+// Line n of a circuit at the front of a buffer; the answer is its length, 0 where the circuit has no such line. There are at most 1681.
+fn circuit_line(line: &mut [u8], c: Circuit, n: usize) -> usize
+    requires { ⌜ 512 ≤ length (now line) ⌝ }
+    ensures { λ r. ⌜ Puts (getD (circuitLines (circuitTold c)) n []) (now (line .entry)) 0 r (now (line .exit)) ⌝ }
+    ensures { λ r. ⌜ (0 < r → n ≤ 1681) ⌝ }
 {
-    let output = room(out, output, MOST_LINE);
-    up_to(output, refusal_line(out, output.at, refusal))
-}
-
-pub fn circuit_lines(out: &mut [u8], output: Output, c: Circuit) -> Output
-    requires { ⌜ output .at ≤ length (now out) ⌝ }
-    requires { ⌜ 512 ≤ length (now out) ⌝ }
-    ensures { λ r. ⌜ r .at ≤ length (now (out .exit)) ⌝ }
-{
+    if n == 0 {
+        return inputs_line(line, 0, c.inputs);
+    }
     let types = c.types;
+    let part = type_part(line, types, c.type_count, n - 1);
+    if part.put != 0 {
+        return part.put;
+    }
     let bridges = c.bridges;
+    let part = bridge_part(line, bridges, c.bridge_count, part.left);
+    if part.put != 0 {
+        return part.put;
+    }
     let instances = c.instances;
+    let part = instance_part(
+        line,
+        instances,
+        c.instance_count,
+        types,
+        c.type_count,
+        part.left,
+    );
+    if part.put != 0 {
+        return part.put;
+    }
     let vectors = c.vectors;
-    let output = room(out, output, MOST_LINE);
-    let output = up_to(output, inputs_line(out, output.at, c.inputs));
-    let output = type_lines(out, output, types, c.type_count);
-    let output = bridge_lines(out, output, bridges, c.bridge_count);
-    let output = instance_lines(out, output, instances, c.instance_count, types);
-    vector_lines(out, output, vectors, c.vector_count, c.inputs)
+    let part = vector_part(line, vectors, c.vector_count, c.inputs, part.left);
+    part.put
 }
 
-fn type_lines(
-    out: &mut [u8],
-    output: Output,
-    types: [ModuleType; MOST_TYPES],
-    count: usize,
-) -> Output
-    requires { ⌜ output .at ≤ length (now out) ⌝ }
-    requires { ⌜ 512 ≤ length (now out) ⌝ }
-    ensures { λ r. ⌜ r .at ≤ length (now (out .exit)) ⌝ }
+// Line n of a file's listing at the front of a buffer.
+fn listed_line(line: &mut [u8], reading: Reading, n: usize) -> usize
+    requires { ⌜ 512 ≤ length (now line) ⌝ }
+    ensures { λ r. ⌜ Puts (getD (listingOf (readingTold reading)) n []) (now (line .entry)) 0 r (now (line .exit)) ⌝ }
+    ensures { λ r. ⌜ (0 < r → n ≤ 1681) ⌝ }
 {
-    let used = at_most(count, MOST_TYPES);
-    let mut output = output;
-    let mut i: usize = 0;
-    while i < used {
-        output = one_type(out, output, i + 1, types[i]);
-        i += 1;
-    }
-    output
-}
-
-fn one_type(out: &mut [u8], output: Output, number: usize, t: ModuleType) -> Output
-    requires { ⌜ output .at ≤ length (now out) ⌝ }
-    requires { ⌜ 512 ≤ length (now out) ⌝ }
-    ensures { λ r. ⌜ r .at ≤ length (now (out .exit)) ⌝ }
-{
-    let output = room(out, output, MOST_LINE);
-    let output = up_to(output, type_line(out, output.at, number, t));
-    edge_lines(out, output, t)
-}
-
-fn edge_lines(out: &mut [u8], output: Output, t: ModuleType) -> Output
-    requires { ⌜ output .at ≤ length (now out) ⌝ }
-    requires { ⌜ 512 ≤ length (now out) ⌝ }
-    ensures { λ r. ⌜ r .at ≤ length (now (out .exit)) ⌝ }
-{
-    let used = at_most(t.count, MOST_EDGES);
-    let mut output = output;
-    let mut i: usize = 0;
-    while i < used {
-        output = room(out, output, MOST_LINE);
-        output = up_to(output, edge_line(out, output.at, t.edges[i]));
-        i += 1;
-    }
-    output
-}
-
-fn bridge_lines(
-    out: &mut [u8],
-    output: Output,
-    bridges: [Bridge; MOST_BRIDGES],
-    count: usize,
-) -> Output
-    requires { ⌜ output .at ≤ length (now out) ⌝ }
-    requires { ⌜ 512 ≤ length (now out) ⌝ }
-    ensures { λ r. ⌜ r .at ≤ length (now (out .exit)) ⌝ }
-{
-    let used = at_most(count, MOST_BRIDGES);
-    let mut output = output;
-    let mut i: usize = 0;
-    while i < used {
-        output = room(out, output, MOST_LINE);
-        output = up_to(output, bridge_line(out, output.at, bridges[i]));
-        i += 1;
-    }
-    output
-}
-
-// An instance has as many references as its type has labels.
-fn references_of(instance: Instance, types: [ModuleType; MOST_TYPES]) -> usize {
-    let number = at_most(instance.type_number as usize, MOST_TYPES);
-    if number == 0 {
+    let refusal = reading.refusal;
+    if refuses(refusal) {
+        if n == 0 {
+            return refusal_line(number_of(refusal), place_of(refusal), line);
+        }
         return 0;
     }
-    let t = types[number - 1];
-    t.labels as usize
+    let circuit = reading.circuit;
+    circuit_line(line, circuit, n)
 }
 
-fn instance_lines(
-    out: &mut [u8],
-    output: Output,
-    instances: [Instance; MOST_INSTANCES],
-    count: usize,
-    types: [ModuleType; MOST_TYPES],
-) -> Output
-    requires { ⌜ output .at ≤ length (now out) ⌝ }
-    requires { ⌜ 512 ≤ length (now out) ⌝ }
-    ensures { λ r. ⌜ r .at ≤ length (now (out .exit)) ⌝ }
+// Line n of a file's listing into the front of a buffer, if there is room.
+fn one_line(reading: Reading, n: usize, out: &mut [u8]) -> usize
+    ensures { λ r. ⌜ LineGiven (lineIn (listingOf (readingTold reading)) n) (now (out .entry)) r (now (out .exit)) ⌝ }
+    ensures { λ r. ⌜ (0 < r → n ≤ 1681) ⌝ }
+    ensures { λ r. ⌜ length (lineIn (listingOf (readingTold reading)) n) ≤ 512 ⌝ }
 {
-    let used = at_most(count, MOST_INSTANCES);
-    let mut output = output;
-    let mut i: usize = 0;
-    while i < used {
-        let instance = instances[i];
-        output = room(out, output, MOST_LINE);
-        output = up_to(
-            output,
-            instance_line(
-                out,
-                output.at,
-                i + 1,
-                instance,
-                references_of(instance, types),
-            ),
-        );
-        i += 1;
-    }
-    output
+    let mut line = [0u8; 512];
+    let count = listed_line(&mut line, reading, n);
+    give(&line[..count], out)
 }
 
-fn vector_lines(
-    out: &mut [u8],
-    output: Output,
-    vectors: [Vector; MOST_VECTORS],
-    count: usize,
-    inputs: usize,
-) -> Output
-    requires { ⌜ output .at ≤ length (now out) ⌝ }
-    requires { ⌜ 512 ≤ length (now out) ⌝ }
-    ensures { λ r. ⌜ r .at ≤ length (now (out .exit)) ⌝ }
+// The piece of a file's listing that begins with line `from`.
+pub fn show_piece(reading: Reading, from: usize, out: &mut [u8]) -> Piece
+    ensures { λ r. ⌜ ListingPiece reading from (now (out .entry)) r (now (out .exit)) ⌝ }
 {
-    let used = at_most(count, MOST_VECTORS);
-    let mut output = output;
-    let mut i: usize = 0;
-    while i < used {
-        output = room(out, output, MOST_LINE);
-        output = up_to(
-            output,
-            vector_line(out, output.at, i + 1, vectors[i], inputs),
-        );
-        i += 1;
+    let mut next = from;
+    let mut count: usize = 0;
+    loop {
+        let given = one_line(reading, next, &mut out[count..]);
+        if given == 0 {
+            break;
+        }
+        next += 1;
+        count += given;
     }
-    output
+    Piece { next, count }
 }

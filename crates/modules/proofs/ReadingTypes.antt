@@ -14,14 +14,14 @@ use Rattle.switch.specs.declared.Edge.{Edge as EdgeRecord}
 use Rattle.switch.specs.declared.ModuleType.{ModuleType as TypeRecord}
 use Rattle.switch.proofs.Deciding.{and-both}
 use Rattle.circuit.specs.Limits.{mostTypes, mostEdges}
-use Rattle.circuit.specs.Fields.{Cut, cutFrom}
+use Rattle.circuit.specs.Fields.{Cut, clean, cutFrom}
 use Rattle.circuit.specs.Known.{typeIn, edgeIn, withEdge}
 use Rattle.circuit.specs.Table.{Verdict, passes, refusedAt, firstOf, typeTests, edgeTests, edgeTestsOf}
 use Rattle.circuit.specs.Records.{padded, unusedType, edgeRecord, typeRecord}
 use Rattle.circuit.specs.Refusals.{refusalNumber, refusalPlace, numberedVerdict, verdictOf}
 use Rattle.circuit.specs.Verdicts.{isRefused}
-use Rattle.circuit.specs.Stages.{Stage, ifPasses, edgeStage, failingVerdict, typeStage, stageOf}
-use Rattle.fields.specs.Steps.{bodyOf, NextIs}
+use Rattle.circuit.specs.Stages.{Stage, ifPasses, edgeStage, failingVerdict, fieldPlace, typeStage, stageOf}
+use Rattle.fields.specs.Steps.{bodyOf, fieldIn, NextIs}
 use Rattle.modules.specs.ReadTypes.{goodType, bareOf, BareType, EdgesRead, TypeRead, TypesRead}
 use Rattle.fields.specs.declared.Field.{Field as FieldRecord}
 use Rattle.fields.specs.declared.Next.the-variants.{Found, Other}
@@ -30,9 +30,10 @@ use Rattle.circuit.specs.declared.refusal.Refusal.the-variants.{Nothing}
 use Rattle.modules.specs.declared.edges.OneType.{OneType}
 use Rattle.circuit.proofs.Padding.{padded-nil, padded-snoc}
 use Rattle.circuit.proofs.Verdicts.{first-passes, passes-is}
+use Rattle.circuit.proofs.GatheredLaws.{failing-refuses}
 use Rattle.fields.proofs.Cuts.{section-step, section-stop}
 use Rattle.circuit.proofs.TypeLaws.{accepts, all-snoc, type-back, type-given, edge-passes, with-edge-ranges, with-edge-record}
-use Rattle.modules.proofs.TypeStages.{afterEdges, edges-first, failing-stage, failing-refuses, Settled, settled-none, settled-more, type-step, type-stop}
+use Rattle.modules.proofs.TypeStages.{afterEdges, edges-first, failing-stage, Settled, settled-none, settled-more, type-step, type-stop}
 
 -- ---- a stage that fails
 
@@ -40,14 +41,14 @@ never-passes : (v : Verdict) → isRefused v ≡ true → v ≡ passes → {A : 
 unfolding isRefused
 never-passes v e p = let z : _≡_ {A = ℕ} 0 1 = cc in absurd (omega arith)
 
-if-refused : {A : Type 0} (v w : Verdict) → v ≡ w → isRefused v ≡ true → (s : Stage A) (a : A) (cut : Cut) → ifPasses w s ≡ stageOf v a cut
-unfolding isRefused ifPasses stageOf
+if-refused : {A : Type 0} (v w : Verdict) → v ≡ w → isRefused v ≡ true → (s : Stage A) (a : A) (cut : Cut) → ifPasses w a cut s ≡ stageOf v a cut
+unfolding isRefused ifPasses
 if-refused passes w e r s a cut = never-passes passes r refl
 if-refused (refusedAt number place) w e r s a cut = rw (← e)
 
-if-passes : {A : Type 0} (v w : Verdict) → v ≡ w → isRefused v ≡ false → (s : Stage A) → ifPasses w s ≡ s
+if-passes : {A : Type 0} (v w : Verdict) → v ≡ w → isRefused v ≡ false → (a : A) (cut : Cut) (s : Stage A) → ifPasses w a cut s ≡ s
 unfolding ifPasses
-if-passes v w e r s = rw (← e, passes-is v r)
+if-passes v w e r a cut s = rw (← e, passes-is v r)
 
 -- ---- edges
 
@@ -83,7 +84,7 @@ module _ (file : List ℕ) (from : ℕ) (bare : TypeRecord) where
 
   module _ (r : TypeRecord) (at : ℕ) (sofar : EdgesSoFar file from bare r at) where
     pub edges-stop : NextIs file at 3 Other → EdgesRead file from bare (record { refusal = Nothing; at = at; «module_type» = r })
-    unfolding NextIs stageOf verdictOf refusalNumber refusalPlace numberedVerdict
+    unfolding NextIs verdictOf refusalNumber refusalPlace numberedVerdict
     edges-stop other = record {
       type = sofar .type;
       stage = sofar .stage ∙ section-stop 3 edgeTests plusEdge (sofar .type) file at other;
@@ -101,7 +102,7 @@ module _ (file : List ℕ) (from : ℕ) (bare : TypeRecord) where
 
       -- the stage at this edge
       stage-here : edgeStage (bareOf bare) (cutFrom file from)
-          ≡ ifPasses (firstOf (edgeTests (sofar .type) (f .at) (bodyOf file f)))
+          ≡ ifPasses (firstOf (edgeTests (sofar .type) (f .at) (bodyOf file f))) (sofar .type) (cutFrom file at)
           (edgeStage (withEdge (sofar .type) (edgeIn (bodyOf file f))) (cutFrom file (f .body + f .len)))
       unfolding NextIs
       stage-here =
@@ -143,7 +144,7 @@ module _ (file : List ℕ) (from : ℕ) (bare : TypeRecord) where
             let p = edge-passes t (f .at) (bodyOf file f) passed in
             record {
               type = withEdge t edge;
-              stage = stage-here ∙ if-passes (verdictOf v) _ verdict-is accepted _;
+              stage = stage-here ∙ if-passes (verdictOf v) _ verdict-is accepted _ _ _;
               place = here .0 .inside;
               ranges = with-edge-ranges t edge (sofar .ranges) (p .ranges);
               within = omega (arith, length-append (t .edges) (edge ∷ []), p .few);
@@ -152,13 +153,6 @@ module _ (file : List ℕ) (from : ℕ) (bare : TypeRecord) where
 
 -- ---- a type with its edges
 
--- what comes of a type after its edges, from where they ended or how they failed
-after-stage : (types : List ModuleType) (typeAt : ℕ) (v : Verdict) (t : ModuleType) (cut : Cut)
-    → afterEdges types typeAt (stageOf v t cut) ≡ ifPasses v (typeStage (types ++ (t ∷ [])) typeAt cut)
-unfolding afterEdges stageOf ifPasses
-after-stage types typeAt passes t cut = refl
-after-stage types typeAt (refusedAt number place) t cut = refl
-
 pub bare-type : (body : List ℕ) (bare : TypeRecord) → bare ≡ typeRecord (typeIn body)
     → T (typeInRange (getD body 0 0) (getD body 1 0) (getD body 2 0)) → BareType bare
 unfolding typeRecord typeIn
@@ -166,17 +160,15 @@ bare-type body bare e ranges = record { bare = rw e; ranges = rw e ranges }
 
 module _ (file : List ℕ) (f : FieldRecord) (bare : TypeRecord) (told : bare ≡ typeRecord (typeIn (bodyOf file f))) (one : OneType)
     (read : EdgesRead file (f .body + f .len) bare one) where
-  all-edges : (types : List ModuleType)
-      → typeStage (types ++ (typeIn (bodyOf file f) ∷ [])) (f .at) (cutFrom file (f .body + f .len))
-      ≡ ifPasses (verdictOf (one .refusal)) (typeStage (types ++ (read .type ∷ [])) (f .at) (cutFrom file (one .at)))
+  all-edges : (types : List ModuleType) (from : Cut)
+      → typeStage (types ++ (typeIn (bodyOf file f) ∷ [])) from (cutFrom file (f .body + f .len))
+      ≡ ifPasses (verdictOf (one .refusal)) types from (typeStage (types ++ (read .type ∷ [])) from (cutFrom file (one .at)))
   unfolding typeRecord typeIn
-  all-edges types =
+  all-edges types from =
       let same : bareOf bare ≡ typeIn (bodyOf file f) = rw told in
       let stage : edgeStage (typeIn (bodyOf file f)) (cutFrom file (f .body + f .len)) ≡ stageOf (verdictOf (one .refusal)) (read .type) (cutFrom file (one .at)) =
       rw same at (read .stage) in
-      edges-first types (typeIn (bodyOf file f)) (f .at) (cutFrom file (f .body + f .len))
-      ∙ ap (afterEdges types (f .at)) stage
-      ∙ after-stage types (f .at) (verdictOf (one .refusal)) (read .type) (cutFrom file (one .at))
+      edges-first types (typeIn (bodyOf file f)) from (cutFrom file (f .body + f .len)) ∙ ap (afterEdges types from) stage
 
   read-with : (verdictOf (one .refusal) ≡ passes → T (isComplementary (read .type))) → TypeRead file f one
   read-with p = record {
@@ -185,7 +177,7 @@ module _ (file : List ℕ) (f : FieldRecord) (bare : TypeRecord) (told : bare �
     ranges = read .ranges;
     within = read .within;
     is = read .is;
-    stage = all-edges;
+    stage = λ types from here. all-edges types from;
     complementary = p;
     next = read .next;
   }
@@ -216,11 +208,11 @@ module _ (file : List ℕ) (f : FieldRecord) (bare : TypeRecord) (told : bare �
           ranges = read .ranges;
           within = read .within;
           is = read .is;
-          stage = λ types.
-              let here = typeStage (types ++ (read .type ∷ [])) (f .at) cut in
-              all-edges types
-              ∙ if-passes (verdictOf (one .refusal)) (verdictOf (one .refusal)) refl accepted here
-              ∙ rw q (failing-stage types (read .type) (f .at) cut (λ g rest. read .next g rest passed) (sym test-is ∙ e) here);
+          stage = λ types from here.
+              let later = typeStage (types ++ (read .type ∷ [])) from cut in
+              all-edges types from
+              ∙ if-passes (verdictOf (one .refusal)) (verdictOf (one .refusal)) refl accepted types from later
+              ∙ rw (q, ← here) (failing-stage types (read .type) from cut (λ g rest. read .next g rest passed) (sym test-is ∙ e) later);
           complementary = λ p. never-passes (verdictOf v) refuses p;
           next = λ g rest p. never-passes (verdictOf v) refuses p;
         }
@@ -230,8 +222,8 @@ module _ (file : List ℕ) (f : FieldRecord) (bare : TypeRecord) (told : bare �
 -- the types from an offset on, as far as they are read
 pub record TypesSoFar (file : List ℕ) (from : ℕ) (all : List TypeRecord) (count at : ℕ) : Type 0 where
   pub types : List ModuleType
-  pub typeAt : ℕ
-  pub stage : typeStage [] 0 (cutFrom file from) ≡ typeStage types typeAt (cutFrom file at)
+  pub latest : Cut
+  pub stage : typeStage [] clean (cutFrom file from) ≡ typeStage types latest (cutFrom file at)
   pub place : at ≤ length file
   pub within : length types ≤ mostTypes
   pub counted : count ≡ length types
@@ -244,7 +236,7 @@ module _ (file : List ℕ) (from : ℕ) where
   unfolding allOf
   types-start h all e = record {
     types = [];
-    typeAt = 0;
+    latest = clean;
     stage = refl;
     place = h;
     within = omega arith;
@@ -256,7 +248,7 @@ module _ (file : List ℕ) (from : ℕ) where
 
   module _ (all : List TypeRecord) (count at : ℕ) (sofar : TypesSoFar file from all count at) where
     -- what was read, with a verdict by which the stage ends here
-    ended : (v : Refusal) → typeStage (sofar .types) (sofar .typeAt) (cutFrom file at) ≡ stageOf (verdictOf v) (sofar .types) (cutFrom file at)
+    ended : (v : Refusal) → typeStage (sofar .types) (sofar .latest) (cutFrom file at) ≡ stageOf (verdictOf v) (sofar .types) (cutFrom file at)
         → TypesRead file from (record { refusal = v; at = at; count = count; all = all })
     ended v e = record {
       types = sofar .types;
@@ -269,8 +261,8 @@ module _ (file : List ℕ) (from : ℕ) where
     }
 
     pub types-stop : NextIs file at 2 Other → TypesRead file from (record { refusal = Nothing; at = at; count = count; all = all })
-    unfolding stageOf verdictOf refusalNumber refusalPlace numberedVerdict
-    types-stop other = ended Nothing (type-stop (sofar .types) (sofar .typeAt) file at (sofar .settled) other)
+    unfolding verdictOf refusalNumber refusalPlace numberedVerdict
+    types-stop other = ended Nothing (type-stop (sofar .types) (sofar .latest) file at (sofar .settled) other)
 
     module _ (f : FieldRecord) (here : NextIs file at 2 (Found f)) (v : Refusal)
         (tested : verdictOf v ≡ firstOf (typeTests count (f .at) (bodyOf file f))) where
@@ -278,11 +270,15 @@ module _ (file : List ℕ) (from : ℕ) where
       type-tested = tested ∙ ap (λ (n : ℕ). firstOf (typeTests n (f .at) (bodyOf file f))) (sofar .counted)
 
       -- the stage at this type
-      type-here : typeStage (sofar .types) (sofar .typeAt) (cutFrom file at)
-          ≡ ifPasses (firstOf (typeTests (length (sofar .types)) (f .at) (bodyOf file f)))
-          (typeStage (sofar .types ++ (typeIn (bodyOf file f) ∷ [])) (f .at) (cutFrom file (f .body + f .len)))
+      type-here : typeStage (sofar .types) (sofar .latest) (cutFrom file at)
+          ≡ ifPasses (firstOf (typeTests (length (sofar .types)) (f .at) (bodyOf file f))) (sofar .types) (cutFrom file at)
+          (typeStage (sofar .types ++ (typeIn (bodyOf file f) ∷ [])) (cutFrom file at) (cutFrom file (f .body + f .len)))
       unfolding NextIs
-      type-here = type-step (sofar .types) (sofar .typeAt) file at (sofar .settled) f (here .0) (here .1)
+      type-here = type-step (sofar .types) (sofar .latest) file at (sofar .settled) f (here .0) (here .1)
+
+      stands-at : fieldPlace (cutFrom file at) ≡ f .at
+      unfolding NextIs fieldPlace fieldIn
+      stands-at = rw (here .0 .cut)
 
       pub types-refused : isRefused (verdictOf v) ≡ true → TypesRead file from (record { refusal = v; at = at; count = count; all = all })
       types-refused e = ended v (type-here ∙ if-refused (verdictOf v) _ type-tested e _ (sofar .types) (cutFrom file at))
@@ -298,9 +294,10 @@ module _ (file : List ℕ) (from : ℕ) where
             (leb-false mostTypes count (b .0), accepts (typeInRange (getD body 0 0) (getD body 1 0) (getD body 2 0)) (c .0))
 
         module _ (one : OneType) (read : TypeRead file f one) where
-          one-read : typeStage (sofar .types) (sofar .typeAt) (cutFrom file at)
-              ≡ ifPasses (verdictOf (one .refusal)) (typeStage (sofar .types ++ (read .type ∷ [])) (f .at) (cutFrom file (one .at)))
-          one-read = type-here ∙ if-passes (verdictOf v) _ type-tested accepted _ ∙ read .stage (sofar .types)
+          one-read : typeStage (sofar .types) (sofar .latest) (cutFrom file at)
+              ≡ ifPasses (verdictOf (one .refusal)) (sofar .types) (cutFrom file at)
+              (typeStage (sofar .types ++ (read .type ∷ [])) (cutFrom file at) (cutFrom file (one .at)))
+          one-read = type-here ∙ if-passes (verdictOf v) _ type-tested accepted _ _ _ ∙ read .stage (sofar .types) (cutFrom file at) stands-at
 
           pub types-refused-after : isRefused (verdictOf (one .refusal)) ≡ true
               → TypesRead file from (record { refusal = one .refusal; at = at; count = count; all = all })
@@ -320,8 +317,8 @@ module _ (file : List ℕ) (from : ℕ) where
               let counted = sofar .counted in
               record {
                 types = types ++ (t ∷ []);
-                typeAt = f .at;
-                stage = sofar .stage ∙ one-read ∙ if-passes (verdictOf (one .refusal)) (verdictOf (one .refusal)) refl e _;
+                latest = cutFrom file at;
+                stage = sofar .stage ∙ one-read ∙ if-passes (verdictOf (one .refusal)) (verdictOf (one .refusal)) refl e _ _ _;
                 place = read .place;
                 within = omega arith;
                 counted = omega arith;

@@ -7,16 +7,18 @@ use native.Mathlib.Omega.{arith}
 use borrow.Author.Tests.{eq-eqb, ne-eqb}
 use lib.Dec.{T, eqb}
 use lib.ListN.{length, length-append}
-use lib.Seq.{getD-append-seam, set-append-seam}
+use lib.Seq.{getD-append-seam, set-append-seam, take-append-seam}
 use Rattle.switch.specs.Conduction.{Edge}
 use Rattle.switch.specs.Modules.{ModuleType}
 use Rattle.switch.specs.Deciding.{isComplementary}
 use Rattle.circuit.specs.Fields.{Field, Cut, clean, broken, field, cutFrom}
 use Rattle.circuit.specs.Circuit.{noType}
-use Rattle.circuit.specs.Known.{tagOf, typeIn, edgeIn, latest, withEdge, edgeAdded}
-use Rattle.circuit.specs.Table.{Verdict, passes, refusedAt, firstOf, notComplementary, isEmpty, isUnknown, typeTests, edgeTests}
+use Rattle.circuit.specs.Known.{typeIn, edgeIn, latest, withEdge, edgeAdded}
+use Rattle.circuit.specs.Table.{Verdict, passes, refusedAt, firstOf, notComplementary, isEmpty, typeTests, edgeTests}
 use Rattle.circuit.specs.Verdicts.{isRefused}
-use Rattle.circuit.specs.Stages.{Stage, stopped, failed, ifPasses, section, edgeStage, failingBefore, failingVerdict, judged, typeStage}
+use Rattle.circuit.specs.Before.{typesBefore}
+use Rattle.circuit.specs.Stages.{Stage, stopped, ifPasses, section, edgeStage, failingVerdict, judged, fieldPlace, typeStage}
+use Rattle.circuit.proofs.GatheredLaws.{failing-refuses}
 use Rattle.fields.specs.Steps.{bodyOf, fieldIn, FieldAt, NextIs}
 use Rattle.fields.specs.declared.Field.{Field as FieldRecord}
 use Rattle.fields.specs.declared.Next.the-variants.{Other}
@@ -39,73 +41,69 @@ edge-added-snoc : (types : List ModuleType) (t : ModuleType) (e : Edge) → edge
 unfolding edgeAdded
 edge-added-snoc types t e = rw (latest-snoc types t, last-place types t) (set-append-seam types t [] (withEdge t e))
 
--- what comes of a type after its edges
-unfoldable pub afterEdges : List ModuleType → ℕ → Stage ModuleType → Stage (List ModuleType)
-afterEdges types typeAt (stopped t cut) = typeStage (types ++ (t ∷ [])) typeAt cut
-afterEdges types typeAt (failed number place) = failed number place
+before-snoc : (types : List ModuleType) (t : ModuleType) → typesBefore (types ++ (t ∷ [])) ≡ types
+unfolding typesBefore
+before-snoc types t = rw (last-place types t) (take-append-seam types (t ∷ []))
 
-after-if : (types : List ModuleType) (typeAt : ℕ) (v : Verdict) (s : Stage ModuleType)
-    → ifPasses v (afterEdges types typeAt s) ≡ afterEdges types typeAt (ifPasses v s)
-unfolding ifPasses afterEdges
-after-if types typeAt passes s = refl
-after-if types typeAt (refusedAt number place) s = refl
+-- what comes of a type after its edges
+abbrev pub afterEdges : List ModuleType → Cut → Stage ModuleType → Stage (List ModuleType)
+afterEdges types from s = ifPasses (s .verdict) types from (typeStage (types ++ (s .gathered ∷ [])) from (s .rest))
+
+after-if : (types : List ModuleType) (from : Cut) (v : Verdict) (t : ModuleType) (cut : Cut) (s : Stage ModuleType)
+    → ifPasses v types from (afterEdges types from s) ≡ afterEdges types from (ifPasses v t cut s)
+unfolding ifPasses
+after-if types from passes t cut s = refl
+after-if types from (refusedAt number place) t cut s = refl
 
 -- an edge at a time, or all edges first
-pub edges-first : (types : List ModuleType) (t : ModuleType) (typeAt : ℕ) (cut : Cut)
-    → typeStage (types ++ (t ∷ [])) typeAt cut ≡ afterEdges types typeAt (edgeStage t cut)
-unfolding section afterEdges typeStage
-edges-first types t typeAt clean = refl
-edges-first types t typeAt (broken at) = refl
-edges-first types t typeAt (field f rest) = go (eqb (f .tag) 3) refl (edges-first types (withEdge t (edgeIn (f .body))) typeAt rest)
+pub edges-first : (types : List ModuleType) (t : ModuleType) (from cut : Cut)
+    → typeStage (types ++ (t ∷ [])) from cut ≡ afterEdges types from (edgeStage t cut)
+unfolding section typeStage ifPasses
+edges-first types t from clean = refl
+edges-first types t from (broken at) = refl
+edges-first types t from (field f rest) = go (eqb (f .tag) 3) refl (edges-first types (withEdge t (edgeIn (f .body))) from rest)
   where
     go : (b : Bool) → eqb (f .tag) 3 ≡ b
-        → typeStage (types ++ (withEdge t (edgeIn (f .body)) ∷ [])) typeAt rest ≡ afterEdges types typeAt (edgeStage (withEdge t (edgeIn (f .body))) rest)
-        → typeStage (types ++ (t ∷ [])) typeAt (field f rest) ≡ afterEdges types typeAt (edgeStage t (field f rest))
+        → typeStage (types ++ (withEdge t (edgeIn (f .body)) ∷ [])) from rest ≡ afterEdges types from (edgeStage (withEdge t (edgeIn (f .body))) rest)
+        → typeStage (types ++ (t ∷ [])) from (field f rest) ≡ afterEdges types from (edgeStage t (field f rest))
     go true e later =
-        rw (typeStage, e, not-empty types t, latest-snoc types t, edge-added-snoc types t (edgeIn (f .body)), later)
-        (after-if types typeAt (firstOf (edgeTests t (f .at) (f .body))) (edgeStage (withEdge t (edgeIn (f .body))) rest))
+        rw (typeStage, e, not-empty types t, latest-snoc types t, before-snoc types t, edge-added-snoc types t (edgeIn (f .body)), later)
+        (after-if types from (firstOf (edgeTests t (f .at) (f .body))) t (field f rest) (edgeStage (withEdge t (edgeIn (f .body))) rest))
     go false e later =
-        let stays : edgeStage t (field f rest) ≡ stopped t (field f rest) = rw e in ap (afterEdges types typeAt) (sym stays)
+        let stays : edgeStage t (field f rest) ≡ stopped t (field f rest) = rw e in ap (afterEdges types from) (sym stays)
 
 -- ---- a type judged
 
 -- a verdict that refuses leaves nothing of what comes after
-refused-leaves : {A : Type 0} (v : Verdict) → isRefused v ≡ true → (s u : Stage A) → ifPasses v s ≡ ifPasses v u
+refused-leaves : {A : Type 0} (v : Verdict) → isRefused v ≡ true → (a : A) (from : Cut) (s u : Stage A) → ifPasses v a from s ≡ ifPasses v a from u
 unfolding ifPasses isRefused
-refused-leaves passes e s u = cc
-refused-leaves (refusedAt number place) e s u = refl
+refused-leaves passes e a from s u = cc
+refused-leaves (refusedAt number place) e a from s u = refl
 
-pub failing-refuses : (typeAt : ℕ) (cut : Cut) → isRefused (failingVerdict typeAt cut) ≡ true
-unfolding failingVerdict failingBefore isRefused
-failing-refuses typeAt clean = refl
-failing-refuses typeAt (broken at) = refl
-failing-refuses typeAt (field f rest) = go (isUnknown (tagOf (f .tag))) (eqb (f .tag) 1)
-  where
-    go : (a b : Bool) → isRefused (cond a (refusedAt 3 (f .at)) (cond b (refusedAt 4 (f .at)) (refusedAt 9 typeAt))) ≡ true
-    go true b = refl
-    go false true = refl
-    go false false = refl
-
-failing-leaves : {A : Type 0} (typeAt : ℕ) (cut : Cut) (s u : Stage A) → ifPasses (failingVerdict typeAt cut) s ≡ ifPasses (failingVerdict typeAt cut) u
-failing-leaves typeAt cut s u = refused-leaves (failingVerdict typeAt cut) (failing-refuses typeAt cut) s u
+failing-leaves : {A : Type 0} (typeAt : ℕ) (cut : Cut) (a : A) (from : Cut) (s u : Stage A)
+    → ifPasses (failingVerdict typeAt cut) a from s ≡ ifPasses (failingVerdict typeAt cut) a from u
+failing-leaves typeAt cut a from s u = refused-leaves (failingVerdict typeAt cut) (failing-refuses typeAt cut) a from s u
 
 -- where no edge stands the latest type is judged before anything else
 abbrev pub NoEdge : Cut → Type 0
 NoEdge cut = (f : Field) (rest : Cut) → cut ≡ field f rest → f .tag ≡ 3 → ⊥
 
-module _ (types : List ModuleType) (t : ModuleType) (typeAt : ℕ) where
-  judged-latest : (cut : Cut) → judged (types ++ (t ∷ [])) typeAt cut ≡ cond (not (isComplementary t)) (failingVerdict typeAt cut) passes
-  unfolding judged notComplementary
-  judged-latest cut = rw (not-empty types t, latest-snoc types t)
+judged-latest : (types : List ModuleType) (t : ModuleType) (typeAt : ℕ) (cut : Cut)
+    → judged (types ++ (t ∷ [])) typeAt cut ≡ cond (not (isComplementary t)) (failingVerdict typeAt cut) passes
+unfolding judged notComplementary
+judged-latest types t typeAt cut = rw (not-empty types t, latest-snoc types t)
 
-  -- a type that is not complementary is refused where its edges end
-  pub failing-stage : (cut : Cut) → NoEdge cut → isComplementary t ≡ false → (s : Stage (List ModuleType))
-      → typeStage (types ++ (t ∷ [])) typeAt cut ≡ ifPasses (failingVerdict typeAt cut) s
-  unfolding typeStage
-  failing-stage clean none e s = rw (judged-latest clean, e) (failing-leaves typeAt clean _ s)
-  failing-stage (broken at) none e s = rw (judged-latest (broken at), e) (failing-leaves typeAt (broken at) _ s)
-  failing-stage (field f rest) none e s =
-      rw (ne-eqb (f .tag) 3 (none f rest refl), judged-latest (field f rest), e) (failing-leaves typeAt (field f rest) _ s)
+-- a type that is not complementary is refused where its edges end
+pub failing-stage : (types : List ModuleType) (t : ModuleType) (from cut : Cut) → NoEdge cut → isComplementary t ≡ false → (s : Stage (List ModuleType))
+    → typeStage (types ++ (t ∷ [])) from cut ≡ ifPasses (failingVerdict (fieldPlace from) cut) types from s
+unfolding typeStage
+failing-stage types t from clean none e s =
+    rw (judged-latest types t (fieldPlace from) clean, e, before-snoc types t) (failing-leaves (fieldPlace from) clean types from _ s)
+failing-stage types t from (broken at) none e s =
+    rw (judged-latest types t (fieldPlace from) (broken at), e, before-snoc types t) (failing-leaves (fieldPlace from) (broken at) types from _ s)
+failing-stage types t from (field f rest) none e s =
+    rw (ne-eqb (f .tag) 3 (none f rest refl), judged-latest types t (fieldPlace from) (field f rest), e, before-snoc types t)
+    (failing-leaves (fieldPlace from) (field f rest) types from _ s)
 
 -- ---- types that are judged, before what stands next
 
@@ -132,24 +130,24 @@ settled-more types t cut p none = record {
     is-true true q = refl
     is-true false q = absurd q
 
-module _ (types : List ModuleType) (typeAt : ℕ) (file : List ℕ) (at : ℕ) (settled : Settled types (cutFrom file at)) where
+module _ (types : List ModuleType) (from : Cut) (file : List ℕ) (at : ℕ) (settled : Settled types (cutFrom file at)) where
   -- at a type
   pub type-step : (f : FieldRecord) → FieldAt file at f → f .tag ≡ 2
-      → typeStage types typeAt (cutFrom file at)
-      ≡ ifPasses (firstOf (typeTests (length types) (f .at) (bodyOf file f)))
-      (typeStage (types ++ (typeIn (bodyOf file f) ∷ [])) (f .at) (cutFrom file (f .body + f .len)))
+      → typeStage types from (cutFrom file at)
+      ≡ ifPasses (firstOf (typeTests (length types) (f .at) (bodyOf file f))) types (cutFrom file at)
+      (typeStage (types ++ (typeIn (bodyOf file f) ∷ [])) (cutFrom file at) (cutFrom file (f .body + f .len)))
   unfolding typeStage fieldIn ifPasses
   type-step f here own =
       let cut : Cut = field (fieldIn file f) (cutFrom file (f .body + f .len)) in
-      let sound : judged types typeAt cut ≡ passes = rw (here .cut) at (settled .sound typeAt) in
+      let sound : judged types (fieldPlace from) cut ≡ passes = rw (here .cut) at (settled .sound (fieldPlace from)) in
       rw (here .cut, settled .no-edge (fieldIn file f) (cutFrom file (f .body + f .len)) (here .cut), sound, eq-eqb (f .tag) 2 own)
 
   -- at anything else
-  pub type-stop : NextIs file at 2 Other → typeStage types typeAt (cutFrom file at) ≡ stopped types (cutFrom file at)
+  pub type-stop : NextIs file at 2 Other → typeStage types from (cutFrom file at) ≡ stopped types (cutFrom file at)
   unfolding NextIs typeStage ifPasses
-  type-stop other = go (cutFrom file at) refl (settled .sound typeAt)
+  type-stop other = go (cutFrom file at) refl (settled .sound (fieldPlace from))
     where
-      go : (cut : Cut) → cutFrom file at ≡ cut → judged types typeAt cut ≡ passes → typeStage types typeAt cut ≡ stopped types cut
+      go : (cut : Cut) → cutFrom file at ≡ cut → judged types (fieldPlace from) cut ≡ passes → typeStage types from cut ≡ stopped types cut
       go clean e sound = rw sound
       go (broken place) e sound = rw sound
       go (field f rest) e sound = rw (settled .no-edge f rest e, sound, ne-eqb (f .tag) 2 (other f rest e))

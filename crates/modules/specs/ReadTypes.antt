@@ -10,13 +10,13 @@ use Rattle.switch.specs.Modules.{ModuleType, allOf, typeInRange, inRange}
 use Rattle.switch.specs.Deciding.{isComplementary}
 use Rattle.switch.specs.declared.ModuleType.{ModuleType as TypeRecord}
 use Rattle.circuit.specs.Limits.{mostTypes, mostEdges}
-use Rattle.circuit.specs.Fields.{Field, Cut, field, cutFrom}
+use Rattle.circuit.specs.Fields.{Field, Cut, clean, field, cutFrom}
 use Rattle.circuit.specs.Table.{passes}
 use Rattle.circuit.specs.Records.{padded, unusedType, typeRecord}
 use Rattle.circuit.specs.Refusals.{verdictOf}
 use Rattle.circuit.specs.Known.{typeIn}
 use Rattle.fields.specs.declared.Field.{Field as FieldRecord}
-use Rattle.circuit.specs.Stages.{stageOf, ifPasses, edgeStage, typeStage}
+use Rattle.circuit.specs.Stages.{stageOf, ifPasses, edgeStage, fieldPlace, typeStage}
 use Rattle.fields.specs.Steps.{bodyOf}
 use Rattle.modules.specs.declared.edges.OneType.{OneType}
 use Rattle.modules.specs.declared.types.Types.{Types}
@@ -55,16 +55,16 @@ pub record TypeRead (file : List ℕ) (f : FieldRecord) (r : OneType) : Type 0 w
   pub ranges : T (inRange type)
   pub within : length (type .edges) ≤ mostEdges
   pub is : r .«module_type» ≡ typeRecord type
-  pub stage : (types : List ModuleType)
-      → typeStage (types ++ (typeIn (bodyOf file f) ∷ [])) (f .at) (cutFrom file (f .body + f .len))
-      ≡ ifPasses (verdictOf (r .refusal)) (typeStage (types ++ (type ∷ [])) (f .at) (cutFrom file (r .at)))
+  pub stage : (types : List ModuleType) (from : Cut) → fieldPlace from ≡ f .at
+      → typeStage (types ++ (typeIn (bodyOf file f) ∷ [])) from (cutFrom file (f .body + f .len))
+      ≡ ifPasses (verdictOf (r .refusal)) types from (typeStage (types ++ (type ∷ [])) from (cutFrom file (r .at)))
   pub complementary : verdictOf (r .refusal) ≡ passes → T (isComplementary type)
   pub next : (g : Field) (rest : Cut) → verdictOf (r .refusal) ≡ passes → cutFrom file (r .at) ≡ field g rest → g .tag ≡ 3 → ⊥
 
 -- the types from an offset on: each in range and complementary
 pub record TypesRead (file : List ℕ) (from : ℕ) (r : Types) : Type 0 where
   pub types : List ModuleType
-  pub stage : typeStage [] 0 (cutFrom file from) ≡ stageOf (verdictOf (r .refusal)) types (cutFrom file (r .at))
+  pub stage : typeStage [] clean (cutFrom file from) ≡ stageOf (verdictOf (r .refusal)) types (cutFrom file (r .at))
   pub place : r .at ≤ length file
   pub within : length types ≤ mostTypes
   pub count : r .count ≡ length types

@@ -1,2 +1,3 @@
 -- What reading as a whole rests on.
 pub mod ReadLaws
+pub mod StagesOnce

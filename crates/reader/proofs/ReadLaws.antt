@@ -1,5 +1,5 @@
 -- The laws of reading as a whole: the empty circuit; the stages one after the other, of which the first verdict that refuses counts, and the answer
--- put together from them; how the file begins; and the range of the number of inputs.
+-- put together from them; how the file begins, and what is gathered of it; and the range of the number of inputs.
 use Prim.Native.Nat.{ℕ, _+_, _<_, _≤_}
 use mathlib.Core.Path.{_≡_, refl, sym, ap, _∙_}
 use mathlib.Core.Bool.{Bool, true, false, cond, not, _&&_}
@@ -15,13 +15,14 @@ use Rattle.circuit.specs.Limits.{mostBytes, mostTypes, mostBridges, mostInstanc
 use Rattle.circuit.specs.Fields.{Cut, clean, broken, field, cutFrom, twoBytes}
 use Rattle.circuit.specs.Circuit.{Circuit, Instance, Listed, faultCount}
 use Rattle.circuit.specs.Known.{tagOf}
-use Rattle.circuit.specs.Table.{Verdict, passes, refusedAt, firstOf, test, isUnknown, inputsTests}
+use Rattle.circuit.specs.Table.{Verdict, passes, refusedAt, firstOf, test, isEmpty, isUnknown, inputsTests}
 use Rattle.circuit.specs.Reading.{Reading, accepted, refusal, unless, readingOf}
 use Rattle.circuit.specs.Records.{unusedType, unusedBridge, unusedInstance, unusedVector, circuitRecord, emptyCircuit}
 use Rattle.circuit.specs.Refusals.{verdictOf}
 use Rattle.circuit.specs.Verdicts.{isRefused, orIf}
 use Rattle.circuit.specs.Answers.{Tells, Answers}
-use Rattle.circuit.specs.Stages.{Stage, bridgeStage, instanceStage, vectorStage, endedVerdict, pastVerdict, endingVerdict, afterStage, afterInputs, fromStart, staged, stageOf}
+use Rattle.circuit.specs.Before.{readBefore}
+use Rattle.circuit.specs.Stages.{Stage, stageOf, ifPasses, section, judged, typeStage, bridgeStage, instanceStage, vectorStage, endedVerdict, pastVerdict, endingVerdict, afterStage, afterInputs, fromStart, staged, gatheredFrom, gatheredAtStart, gatheredOf}
 use Rattle.fields.specs.Steps.{bodyOf, fieldIn, FieldAt, NextIs}
 use Rattle.modules.specs.ReadTypes.{TypesRead}
 use Rattle.bridges.specs.ReadBridges.{BridgesRead}
@@ -46,6 +47,8 @@ use Rattle.reader.specs.declared.read.Start.{Start}
 use Rattle.vectors.specs.declared.Vectors.{Vectors}
 use Rattle.circuit.proofs.Padding.{padded-nil}
 use Rattle.circuit.proofs.Verdicts.{first-passes}
+use Rattle.circuit.proofs.GatheredLaws.{gathered-is-before}
+use Rattle.fields.proofs.Cuts.{cut-clean}
 
 -- ---- the empty circuit
 
@@ -104,9 +107,8 @@ unless-both (refusedAt n p) w x = refl
 
 -- a stage gives its verdict, and where it passes reading goes on from what it has gathered
 stage-is : {A : Type 0} (v : Verdict) (a : A) (cut : Cut) (next : A → Cut → Reading) → afterStage (stageOf v a cut) next ≡ unless v (next a cut)
-unfolding stageOf afterStage unless
-stage-is passes a cut next = refl
-stage-is (refusedAt n p) a cut next = refl
+unfolding afterStage
+stage-is v a cut next = refl
 
 -- a reading that has come to a stage goes on behind it, with the first verdict so far that refuses
 behind : {A : Type 0} {reading : Reading} {stage : Stage A} (next : A → Cut → Reading) (w v u : Verdict) (a : A) (cut : Cut)
@@ -166,6 +168,27 @@ module _ {file : List ℕ} {s : Start} (start : StartRead file s)
     vectors = vectors .vectors;
   }
 
+  -- as the code's record
+  record-is : (r : Refusal) → wholeOf r (s .inputs) t b i v .circuit ≡ circuitRecord circuit
+  unfolding circuitRecord
+  record-is r = cc (
+    types .count,
+    types .all,
+    bridges .count,
+    bridges .all,
+    instances .count,
+    instances .all,
+    instances .faults,
+    vectors .count,
+    vectors .all,
+  )
+
+  -- what was read of the file
+  pub stages-gather : (r : Refusal) → wholeOf r (s .inputs) t b i v .circuit ≡ circuitRecord (readBefore file)
+  unfolding gatheredFrom
+  stages-gather r =
+      rw (← gathered-is-before file, start .gathered, types .stage, bridges .stage, instances .stage, vectors .stage) (record-is r)
+
   -- where each of these refusals is the first so far
   pub stages-tell : (r₁ r₂ r₃ r₄ r : Refusal)
       → verdictOf r₁ ≡ orIf (verdictOf (s .refusal)) true (verdictOf (t .refusal))
@@ -174,7 +197,7 @@ module _ {file : List ℕ} {s : Start} (start : StartRead file s)
       → verdictOf r₄ ≡ orIf (verdictOf r₃) true (verdictOf (v .refusal))
       → verdictOf r ≡ orIf (verdictOf r₄) true (verdictOf last)
       → Tells (readingOf file) (wholeOf r (s .inputs) t b i v)
-  unfolding afterInputs circuitRecord
+  unfolding afterInputs
   stages-tell r₁ r₂ r₃ r₄ r e₁ e₂ e₃ e₄ e =
       let size = length file in
       let P = s .inputs in
@@ -184,17 +207,7 @@ module _ {file : List ℕ} {s : Start} (start : StartRead file s)
       let at-end = behind (thenEnding size P (types .types) (bridges .bridges) (instances .instances)) _ _ _ _ _ at-vectors (vectors .stage) e₄ in
       let ended = rw (instances .count, vectors .count) at end in
       rw (at-end, ← ended, unless-both (verdictOf r₄) (verdictOf last) (accepted circuit), ← e)
-      (told circuit (verdictOf r) (wholeOf r P t b i v) refl (cc (
-        types .count,
-        types .all,
-        bridges .count,
-        bridges .all,
-        instances .count,
-        instances .all,
-        instances .faults,
-        vectors .count,
-        vectors .all,
-      )))
+      (told circuit (verdictOf r) (wholeOf r P t b i v) refl (record-is r))
 
 -- ---- from what is told to the whole answer
 
@@ -238,11 +251,21 @@ start-refused size (field f rest) = go (isUnknown (tagOf (f .tag)))
     go true = refl
     go false = refl
 
+-- at the end of a file the stages gather nothing
+gathered-at-end : (file : List ℕ) → gatheredFrom 0 (cutFrom file (length file)) ≡ emptyCircuit
+unfolding gatheredFrom typeStage judged isEmpty ifPasses section
+gathered-at-end file = rw (cut-clean file (length file) refl)
+
 -- what the code says of a file that is refused there
 pub refused-start : (file : List ℕ) (x : Reading) (r : Refusal) (s : Start) → readingOf file ≡ unless (verdictOf r) x
-    → isRefused (verdictOf r) ≡ true → s ≡ record { refusal = r; at = length file; inputs = 0 } → StartRead file s
-refused-start file x r s is e made =
-    rw made record { reads = is ∙ unless-refused (verdictOf r) x _ e; place = omega arith; few = omega arith }
+    → gatheredOf file ≡ emptyCircuit → isRefused (verdictOf r) ≡ true → s ≡ record { refusal = r; at = length file; inputs = 0 } → StartRead file s
+refused-start file x r s is none e made =
+    rw made record {
+      reads = is ∙ unless-refused (verdictOf r) x _ e;
+      gathered = none ∙ sym (gathered-at-end file);
+      place = omega arith;
+      few = omega arith;
+    }
 
 pub staged-short : (file : List ℕ) → length file ≤ mostBytes → staged file ≡ fromStart (length file) (cutFrom file 0)
 unfolding staged
@@ -251,6 +274,28 @@ staged-short file h = rw (le-ltb mostBytes (length file) h)
 pub staged-long : (file : List ℕ) → mostBytes < length file → staged file ≡ refusal 1 0
 unfolding staged
 staged-long file h = rw (lt-ltb mostBytes (length file) h)
+
+-- ---- what is gathered of a file, by how it begins
+
+pub gathered-long : (file : List ℕ) → mostBytes < length file → gatheredOf file ≡ emptyCircuit
+unfolding gatheredOf
+gathered-long file h = rw (lt-ltb mostBytes (length file) h)
+
+module _ (file : List ℕ) (short : length file ≤ mostBytes) where
+  pub gathered-other : NextIs file 0 1 Other → gatheredOf file ≡ emptyCircuit
+  unfolding NextIs gatheredOf gatheredAtStart
+  gathered-other other = rw (le-ltb mostBytes (length file) short) (go (cutFrom file 0) refl)
+    where
+      go : (cut : Cut) → cutFrom file 0 ≡ cut → gatheredAtStart cut ≡ emptyCircuit
+      go clean e = refl
+      go (broken place) e = refl
+      go (field f rest) e = rw (ne-eqb (f .tag) 1 (other f rest e))
+
+  pub gathered-field : (f : FieldRecord) → FieldAt file 0 f → f .tag ≡ 1
+      → gatheredOf file ≡ cond (isRefused (firstOf (inputsTests (f .at) (bodyOf file f)))) emptyCircuit
+      (gatheredFrom (twoBytes (bodyOf file f) 0) (cutFrom file (f .body + f .len)))
+  unfolding gatheredOf gatheredAtStart fieldIn
+  gathered-field f here own = rw (le-ltb mostBytes (length file) short, here .cut, eq-eqb (f .tag) 1 own)
 
 -- ---- the number of inputs
 

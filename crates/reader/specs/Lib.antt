@@ -1,3 +1,4 @@
--- What the functions of the crate `reader` promise of a file's start, and the answer put together from the stages.
--- What reading means, and the promises of `read_stages` and `read`, are in the crate `circuit`.
+-- What the functions of the crate `reader` promise of a file's start, the answer put together from the stages, and the promise of
+-- `read_stages`. What reading means, and the promise of `read`, are in the crate `circuit`.
+pub mod ReadStages
 pub mod Whole

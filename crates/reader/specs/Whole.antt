@@ -6,7 +6,7 @@ use lib.ListN.{length}
 use Rattle.circuit.specs.Fields.{cutFrom}
 use Rattle.circuit.specs.Reading.{readingOf, unless}
 use Rattle.circuit.specs.Refusals.{verdictOf}
-use Rattle.circuit.specs.Stages.{afterInputs}
+use Rattle.circuit.specs.Stages.{afterInputs, gatheredFrom, gatheredOf}
 use Rattle.circuit.specs.declared.Reading.{Reading as ReadingRecord}
 use Rattle.circuit.specs.declared.refusal.Refusal.{Refusal}
 use Rattle.modules.specs.declared.types.Types.{Types}
@@ -15,9 +15,11 @@ use Rattle.instances.specs.declared.Instances.{Instances}
 use Rattle.reader.specs.declared.read.Start.{Start}
 use Rattle.vectors.specs.declared.Vectors.{Vectors}
 
--- what a file reads as: the refusal of its start, or, where that passes, what the rest reads as from this place on with this many inputs
+-- what a file reads as: the refusal of its start, or, where that passes, what the rest reads as from this place on with this many inputs;
+-- and what the stages gather from there
 pub record StartRead (file : List ℕ) (r : Start) : Type 0 where
   pub reads : readingOf file ≡ unless (verdictOf (r .refusal)) (afterInputs (length file) (r .inputs) (cutFrom file (r .at)))
+  pub gathered : gatheredOf file ≡ gatheredFrom (r .inputs) (cutFrom file (r .at))
   pub place : r .at ≤ length file
   pub few : r .inputs ≤ 64
 

@@ -34,8 +34,9 @@ ghost use Rattle.circuit.specs.Table.{firstOf, inputsTests};
 ghost use Rattle.circuit.specs.Reading.{readingOf};
 ghost use Rattle.circuit.specs.Records.{circuitRecord, emptyCircuit};
 ghost use Rattle.circuit.specs.Refusals.{verdictOf};
-ghost use Rattle.circuit.specs.Answers.{Tells, Answers};
+ghost use Rattle.circuit.specs.Answers.{Answers};
 ghost use Rattle.fields.specs.Steps.{bodyOf};
+ghost use Rattle.reader.specs.ReadStages.{ReadByStages};
 ghost use Rattle.reader.specs.Whole.{StartRead, wholeOf};
 
 // The circuit with nothing in it.
@@ -145,10 +146,10 @@ fn read_start(file: &[u8]) -> Start
     }
 }
 
-// Any bytes at all, for a caller that uses the circuit only where nothing is refused; the first refusal counts.
+// Any bytes at all; the first refusal counts, and beside it stands what was read before it.
 // Every stage is called, also after a refusal: it then stands at a field that is not its own, and reads nothing. With a way out at each refusal the compiler would keep a place on the stack for the circuit at each.
 pub fn read_stages(file: &[u8]) -> Reading
-    ensures { λ r. ⌜ Tells (readingOf (now (file .entry))) r ⌝ }
+    ensures { λ r. ⌜ ReadByStages (now (file .entry)) r ⌝ }
 {
     let start = read_start(file);
     let types = read_types(file, start.at);

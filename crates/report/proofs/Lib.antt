@@ -1,4 +1,7 @@
--- The law of a line that is written piece by piece, that a given line is within its buffer, and the lines of 01's example.
-pub mod Pieces
-pub mod Within
+-- The lines of 01's example; the laws of a row's digits in a line, of the lines of what is held, and that these are the report's.
+pub mod MarkDigits
+pub mod LineSizes
+pub mod HeldLaws
+pub mod ReportLaws
+pub mod HeldIsReport
 pub mod Examples

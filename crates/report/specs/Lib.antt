@@ -1,3 +1,5 @@
--- What the crate `report` means: the lines of 01, "The report", as bytes.
+-- What the crate `report` means: the lines of 01, "The report", as bytes, and the whole report, which is given piece by piece.
 pub mod Lines
-pub mod Given
+pub mod Report
+pub mod Held
+pub mod Promise

@@ -1,34 +1,41 @@
 // Looks into circuit files: for each, the circuit that it tells, a line for each field, or its refusal (docs/SHOW.md).
+mod handing;
+
 ghost use Prim.Native.Nat.{_≤_};
 ghost use lib.ListN.{length};
+ghost use Rattle.show.specs.Handing.{ListingHanded};
+use crate::handing::Handed;
+use crate::handing::hand_out;
+use crate::handing::none_handed;
 use circuit::limits::MOST_BYTES;
-use circuit::refusal::refuses;
 use files::inputs::head_input;
 use files::inputs::input_count;
 use files::inputs::read_input;
 use files::output::Output;
-use files::output::flush;
 use files::output::nothing;
-use listing::circuit_lines;
-use listing::refusal_lines;
-use reader::read::read;
+use listing::show_piece;
+use reader::read::read_stages;
 
 // One byte more than the limit is enough to know that a file is too long.
 const MOST_READ: usize = MOST_BYTES + 1;
 
-// What one file tells.
-fn show_file(out: &mut [u8], output: Output, file: &[u8]) -> Output
-    requires { ⌜ output .at ≤ length (now out) ⌝ }
+// What one file tells, all of it, piece by piece.
+fn show_file(out: &mut [u8], output: Output, file: &[u8]) -> Handed
     requires { ⌜ 512 ≤ length (now out) ⌝ }
-    ensures { λ r. ⌜ r .at ≤ length (now (out .exit)) ⌝ }
+    ensures { λ r. ⌜ ListingHanded (now (file .entry)) (r .lines) ⌝ }
 {
-    let reading = read(file);
-    let refusal = reading.refusal;
-    if refuses(refusal) {
-        return refusal_lines(out, output, refusal);
+    let reading = read_stages(file);
+    let mut handed = none_handed(output);
+    let mut next: usize = 0;
+    loop {
+        let piece = show_piece(reading, next, out);
+        if piece.count == 0 {
+            break;
+        }
+        handed = hand_out(handed, file, piece, out);
+        next = piece.next;
     }
-    let circuit = reading.circuit;
-    circuit_lines(out, output, circuit)
+    handed
 }
 
 fn main() {
@@ -43,8 +50,8 @@ fn main() {
         if input.is_read {
             let length = input.count;
             output = head_input(&mut out, output, i);
-            output = show_file(&mut out, output, &file[..length]);
+            let handed = show_file(&mut out, output, &file[..length]);
+            output = handed.output;
         }
     }
-    flush(&out, output);
 }

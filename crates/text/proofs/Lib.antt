@@ -1,2 +1,5 @@
--- Laws of decimal numbers, which other crates cite.
+-- Laws of decimal numbers, of a line that grows piece by piece, of a line given into a buffer, and of the pieces of a text; other crates cite them.
 pub mod DecimalLaws
+pub mod GrowingLine
+pub mod Within
+pub mod PieceLaws

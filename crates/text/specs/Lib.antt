@@ -1,3 +1,5 @@
--- What the crate `text` means: decimal numbers, and texts as bytes.
+-- What the crate `text` means: decimal numbers, texts as bytes, a line given into a buffer, and numbered lines given piece by piece.
 pub mod Decimal
 pub mod Ascii
+pub mod Given
+pub mod Pieces

@@ -1,10 +1,17 @@
-// Text into a lent buffer: bytes and decimal numbers, each at a place, with the place behind it as the answer.
+// Text into a lent buffer: bytes and decimal numbers, each at a place, with the place behind it as the answer; and a line into the buffer's front.
 ghost use mathlib.Core.Path.{_≡_};
 ghost use mathlib.Core.List.{[], _∷_};
 ghost use Prim.Native.Nat.{_+_, _<_, _≤_};
 ghost use lib.ListN.{length};
 ghost use Rattle.text.specs.Decimal.{lengthIn, decimal};
+ghost use Rattle.text.specs.Given.{LineGiven};
 ghost use Rattle.words.specs.Written.{written};
+
+// A piece of a text of numbered lines: the line behind it, and how many bytes it has.
+pub struct Piece {
+    pub next: usize,
+    pub count: usize,
+}
 
 // One byte.
 pub fn put_byte(out: &mut [u8], at: usize, b: u8) -> usize
@@ -55,4 +62,14 @@ pub fn put_number(out: &mut [u8], at: usize, n: u64) -> usize
         left = left / 10;
     }
     at + count
+}
+
+// A line into the front of a buffer, if there is room: the answer is the number of bytes, or 0 with nothing written where there is none.
+pub fn give(line: &[u8], out: &mut [u8]) -> usize
+    ensures { λ r. ⌜ LineGiven (now (line .entry)) (now (out .entry)) r (now (out .exit)) ⌝ }
+{
+    if out.len() < line.len() {
+        return 0;
+    }
+    put_bytes(out, 0, line)
 }

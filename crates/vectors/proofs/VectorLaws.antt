@@ -195,7 +195,7 @@ module _ {file : List ℕ} {from P : ℕ} {all : List VectorRecord} {count at : 
   }
 
   pub vectors-stop : NextIs file at 6 Other → VectorsRead file from P (record { refusal = Nothing; at = at; count = count; all = all })
-  unfolding verdictOf refusalNumber refusalPlace numberedVerdict stageOf
+  unfolding verdictOf refusalNumber refusalPlace numberedVerdict
   vectors-stop other = vectors-read Nothing (stops (sofar .so) other)
 
   module _ (f : FieldRecord) (here : FieldAt file at f) (own : f .tag ≡ 6) (r : Refusal)

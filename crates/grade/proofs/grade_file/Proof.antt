@@ -1,88 +1,112 @@
--- `grade::grade_file` is safe and ends: a file that was graded gave the circuit whose rows are written. Assumes nothing.
-use Rattle.grade.proofs.GivenCircuits.{graded-given}
+-- `grade::grade_file` meets its contract. The loop's invariant: what is held is the file's outcome, and the lines before the next were handed over.
+-- Each turn hands over a line at least. Assumes nothing.
+use Prim.Native.Nat.{_-_, _≤_}
+use mathlib.Core.Path.{_≡_, refl, _∙_}
 use native.Mathlib.Omega.{arith}
 use borrow.Author.Needs.{needs}
+use lib.ListN.{length}
+use Rattle.report.specs.Report.{lineCount}
+use Rattle.report.proofs.HeldIsReport.{rows-are-held}
+use Rattle.grade.specs.Handing.{gradingOfFile}
+use Rattle.grade.proofs.HandingLaws.{FileHeld, piece-of-file, hands-on, moved, all-handed}
 use Rattle.grade.proofs.grade_file.Statement.{statement}
 use Rattle.grade.proofs.grade_file.Tie as tie
 
-read-stages-requires : tie.Need-read-stages-requires
+abbrev Inv-loop : tie.InvT-loop
+Inv-loop out₀ file matrix classes answer codes handed₀ next₀ out handed next =
+    FileHeld file answer codes matrix classes × (handed .lines ≡ next) × (next ≤ lineCount (gradingOfFile file)) × (512 ≤ length out)
+    × (length out ≡ length out₀) × (length codes ≡ 2048)
+
+abbrev μ-loop : tie.MeasureT-loop
+μ-loop out₀ file matrix classes answer codes handed₀ next₀ out handed next = lineCount (gradingOfFile file) - next
+
+read-stages-requires : tie.Need-read-stages-requires Inv-loop μ-loop
 read-stages-requires c κs = search needs
 
-grade-read-requires : tie.Need-grade-read-requires
+grade-read-requires : tie.Need-grade-read-requires Inv-loop μ-loop
 grade-read-requires c κs = search needs
 
-enum-known-answer : tie.Need-enum-known-answer
-enum-known-answer c = search needs
+rows-read-requires : tie.Need-rows-read-requires Inv-loop μ-loop
+rows-read-requires c κs = search needs
 
-number-of-requires : tie.Need-number-of-requires
-number-of-requires c κs = search needs
+none-handed-requires : tie.Need-none-handed-requires Inv-loop μ-loop
+none-handed-requires c κs = search needs
 
-place-of-requires : tie.Need-place-of-requires
-place-of-requires c κs = search needs
-
-refusal-lines-requires : tie.Need-refusal-lines-requires
-refusal-lines-requires c κs = search needs
-
-same-length : tie.Need-same-length
-same-length c = search needs
-
-same-length-2 : tie.Need-same-length-2
-same-length-2 c = search needs
-
-same-length-3 : tie.Need-same-length-3
-same-length-3 c = search needs
-
-returns : tie.Need-returns
-returns c = search needs
-
-first-lines-requires : tie.Need-first-lines-requires
-first-lines-requires c κs = search needs
-
-row-lines-requires : tie.Need-row-lines-requires
-row-lines-requires c κs =
-    let told = c .before .before .before .before .before .before .before .before .before in
-    let graded = told .before .before .before .before .before .before in
-    let read = graded .before .before .before .read-stages in
-    let pre = graded .before .before .before .before .before .before .before .before .pre in (
-      search needs,
-      (
-        omega (arith, pre .1 .0, c .before .before .before .before .before .out2 .given),
-        (
-          graded-given _ _ _ _ _ _ _ _ (told .answer .given .1) (read .ensures) (graded .grade-read .ensures _ (read .ensures)),
-          (omega (arith, pre .1 .1 .0, c .before .before .before .before .before .before .before .before .before .before .before .before .before .before .matrix .given), omega (arith, pre .1 .1 .1, c .before .before .before .before .before .before .before .before .before .before .before .before .classes .given)),
-        ),
-      ),
+loop-holds : tie.Need-loop-holds Inv-loop μ-loop
+loop-holds c =
+    let start = c .before .before .before .before .before .before .before .before .before .before .before .before .before .before in
+    let tells = c .before .before .before .before .before .before .before .before .before .read-stages .ensures .tells in
+    let listed = c .before .rows-read .ensures in (
+      record {
+        matrix-before = start .args .matrix .now;
+        classes-before = start .args .classes .now;
+        words = start .pre .1 .0;
+        entries = start .pre .1 .1;
+        outcome = record { promised = c .before .before .before .before .before .before .grade-read .ensures _ tells; listed = λ m reads. listed .listed _ m tells reads };
+      },
+      c .none-handed .ensures,
+      omega arith,
+      start .pre .0,
+      refl,
+      listed .many,
     )
 
-same-length-4 : tie.Need-same-length-4
-same-length-4 c = search needs
+slice-aggregate-report-piece : tie.Need-slice-aggregate-report-piece Inv-loop μ-loop
+slice-aggregate-report-piece c = search needs
 
-same-length-5 : tie.Need-same-length-5
-same-length-5 c = search needs
+report-piece-requires : tie.Need-report-piece-requires Inv-loop μ-loop
+report-piece-requires c κs = let held = c .before .before .before .before .loop .inv .0 in rows-are-held _ _ _ _ _ _ _ (held .outcome)
 
-same-length-6 : tie.Need-same-length-6
-same-length-6 c = search needs
+hand-out-requires : tie.Need-hand-out-requires Inv-loop μ-loop
+hand-out-requires c κs =
+    let l = c .before .before .before .before .before .before .before .before .before .before .loop in
+    rw (l .inv .1) (hands-on _ _ _ _ _ (piece-of-file _ _ _ _ _ _ _ _ _ (l .inv .0) (c .before .before .before .before .before .report-piece .ensures)))
 
-returns-2 : tie.Need-returns-2
-returns-2 c = search needs
+loop-less : tie.Need-loop-less Inv-loop μ-loop
+loop-less c =
+    let l = c .before .before .before .before .before .before .before .before .before .before .before .loop in
+    let given = piece-of-file _ _ _ _ _ _ _ _ _ (l .inv .0) (c .before .before .before .before .before .before .report-piece .ensures) in
+    omega (arith, moved _ _ _ _ _ given (omega arith), given .within, l .inv .2)
+
+loop-again : tie.Need-loop-again Inv-loop μ-loop
+loop-again c =
+    let l = c .before .before .before .before .before .before .before .before .before .before .before .loop in
+    let given = piece-of-file _ _ _ _ _ _ _ _ _ (l .inv .0) (c .before .before .before .before .before .before .report-piece .ensures) in
+    let long = c .before .before .before .before .before .out .given in
+    (l .inv .0, c .hand-out .ensures, omega (arith, given .within, l .inv .2), omega (arith, long, l .inv .3), omega (arith, long, l .inv .4), l .inv .5)
+
+same-length : tie.Need-same-length Inv-loop μ-loop
+same-length c = search needs
+
+same-length-2 : tie.Need-same-length-2 Inv-loop μ-loop
+same-length-2 c = search needs
+
+same-length-3 : tie.Need-same-length-3 Inv-loop μ-loop
+same-length-3 c = search needs
+
+returns : tie.Need-returns Inv-loop μ-loop
+returns c =
+    let l = c .before .before .before .before .before .before .before .before .before .loop in
+    let given = piece-of-file _ _ _ _ _ _ _ _ _ (l .inv .0) (c .before .before .before .before .report-piece .ensures) in
+    l .inv .1 ∙ all-handed _ _ _ _ _ given (l .inv .2) (l .inv .3) (omega arith)
 
 pub grade-file-spec : {M : Type 1} → statement M
 grade-file-spec =
     tie.close
     (tie.spec
+    Inv-loop
+    μ-loop
     read-stages-requires
     grade-read-requires
-    enum-known-answer
-    number-of-requires
-    place-of-requires
-    refusal-lines-requires
+    rows-read-requires
+    none-handed-requires
+    loop-holds
+    slice-aggregate-report-piece
+    report-piece-requires
+    hand-out-requires
+    loop-less
+    loop-again
     same-length
     same-length-2
     same-length-3
-    returns
-    first-lines-requires
-    row-lines-requires
-    same-length-4
-    same-length-5
-    same-length-6
-    returns-2)
+    returns)

@@ -5,7 +5,7 @@ use native.Mathlib.Omega.{arith}
 use borrow.Author.Needs.{needs}
 use lib.Seq.{length-take-le}
 use Rattle.report.specs.Lines.{vectorsWord, faultsWord, classesWord, foundWord, firstLine}
-use Rattle.report.proofs.Pieces.{Line, start, piece, byte, number, promised}
+use Rattle.text.proofs.GrowingLine.{Line, start, piece, byte, number, promised}
 use Rattle.report.proofs.first_line.Statement.{statement}
 use Rattle.report.proofs.first_line.Tie as tie
 

@@ -12,7 +12,7 @@ use Rattle.words.specs.Bits.{bit}
 use Rattle.words.specs.Written.{written}
 use Rattle.words.proofs.Tables.{getD-table}
 use Rattle.report.specs.Lines.{digitsOfMarks}
-use Rattle.report.proofs.Pieces.{length-marks}
+use Rattle.report.proofs.MarkDigits.{length-marks}
 use Rattle.report.proofs.put_marks.Statement.{statement}
 use Rattle.report.proofs.put_marks.Tie as tie
 

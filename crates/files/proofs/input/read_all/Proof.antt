@@ -2,6 +2,7 @@
 -- A turn that reads nothing ends the loop, so what is left of the buffer falls. Assumes nothing.
 use Prim.Native.Nat.{_≤_, _-_}
 use mathlib.Core.Path.{_≡_}
+use mathlib.Core.Bool.{true≢false}
 use lib.ListN.{length}
 use borrow.Author.Needs.{needs}
 use Rattle.io.proofs.Counting.{counts}
@@ -37,7 +38,7 @@ same-length : tie.Need-same-length Inv-loop μ-loop
 same-length c = search needs
 
 returns : tie.Need-returns Inv-loop μ-loop
-returns c = counts _ _ (omega arith)
+returns c = record { counted = counts _ _ (omega arith); long = search needs; unread-none = λ no. c .unread .ensures .1 }
 
 sub-count : tie.Need-sub-count Inv-loop μ-loop
 sub-count c = search needs
@@ -64,13 +65,13 @@ same-length-2 : tie.Need-same-length-2 Inv-loop μ-loop
 same-length-2 c = search needs
 
 returns-2 : tie.Need-returns-2 Inv-loop μ-loop
-returns-2 c = counts _ _ (omega arith)
+returns-2 c = record { counted = counts _ _ (omega arith); long = search needs; unread-none = λ no. absurd (true≢false no) }
 
 same-length-3 : tie.Need-same-length-3 Inv-loop μ-loop
 same-length-3 c = search needs
 
 returns-3 : tie.Need-returns-3 Inv-loop μ-loop
-returns-3 c = counts _ _ (omega arith)
+returns-3 c = record { counted = counts _ _ (omega arith); long = search needs; unread-none = λ no. absurd (true≢false no) }
 
 pub read-all-spec : {M : Type 1} → statement M
 read-all-spec =

@@ -1,4 +1,5 @@
 -- `files::input::read_named` meets its contract: of a file that cannot be opened no byte is counted. Assumes nothing.
+use mathlib.Core.Path.{refl}
 use native.Mathlib.Omega.{arith}
 use Rattle.io.proofs.Counting.{counts}
 use borrow.Author.Needs.{needs}
@@ -15,7 +16,7 @@ unread-requires : tie.Need-unread-requires
 unread-requires c κs = search needs
 
 returns : tie.Need-returns
-returns c = counts _ _ (omega arith)
+returns c = record { counted = counts _ _ (omega arith); long = refl; unread-none = λ no. c .unread .ensures .1 }
 
 read-as-requires : tie.Need-read-as-requires
 read-as-requires c κs = search needs

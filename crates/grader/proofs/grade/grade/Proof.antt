@@ -18,7 +18,7 @@ same-length-2 c = search needs
 returns : tie.Need-returns
 returns c =
     let graded = c .before .before .before .before in
-    graded .grade-read .ensures _ (graded .before .before .before .read-stages .ensures)
+    graded .grade-read .ensures _ (graded .before .before .before .read-stages .ensures .tells)
 
 pub grade-spec : {M : Type 1} → statement M
 grade-spec =

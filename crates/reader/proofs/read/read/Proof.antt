@@ -20,13 +20,13 @@ returns c =
     let x = c .before .before in
     let s = x .before in
     subst (Answers _) (sym (c .refused .ensures))
-    (told-refused _ (s .read-stages .result) (s .read-stages .ensures) (sym (x .refuses .ensures) ∙ c .before .if1 .taken))
+    (told-refused _ (s .read-stages .result) (s .read-stages .ensures .tells) (sym (x .refuses .ensures) ∙ c .before .if1 .taken))
 
 returns-2 : tie.Need-returns-2
 returns-2 c =
     let x = c .before in
     let s = x .before in
-    told-accepted _ (s .read-stages .result) (s .read-stages .ensures) (sym (x .refuses .ensures) ∙ c .if1 .left)
+    told-accepted _ (s .read-stages .result) (s .read-stages .ensures .tells) (sym (x .refuses .ensures) ∙ c .if1 .left)
 
 pub read-spec : {M : Type 1} → statement M
 read-spec = tie.close (tie.spec read-stages-requires refuses-requires refused-requires returns returns-2)

@@ -1,10 +1,10 @@
--- `reader::read::read_stages` meets its contract: each stage goes on from where the one before it ended, and the first verdict that refuses counts.
--- Assumes nothing.
+-- `reader::read::read_stages` meets its contract: each stage goes on from where the one before it ended, the first verdict that refuses counts, and
+-- beside it stands what the stages have gathered. Assumes nothing.
 use mathlib.Core.Path.{sym, subst}
 use borrow.Author.Needs.{needs}
-use Rattle.circuit.specs.Answers.{Tells}
 use Rattle.instances.specs.ReadInstances.{InstancesRead, TypesAndLists}
-use Rattle.reader.proofs.ReadLaws.{held-to, stages-tell}
+use Rattle.reader.specs.ReadStages.{ReadByStages}
+use Rattle.reader.proofs.ReadLaws.{held-to, stages-gather, stages-tell}
 use Rattle.reader.proofs.read.read_stages.Statement.{statement}
 use Rattle.reader.proofs.read.read_stages.Tie as tie
 
@@ -95,10 +95,15 @@ returns c =
     let v = z .before in
     let n = v .before in
     let l = n .before in
-    subst (Tells _) (sym (c .whole .ensures))
-    (stages-tell (start-of l .read-start .ensures) (types-of l .read-types .ensures) (bridges-of l .read-bridges .ensures) (instances-are n)
-    (v .read-vectors .ensures) (z .ending .result) (z .ending .ensures) _ _ _ _ _
-    (v₁ .or-if .ensures) (v₂ .or-if2 .ensures) (v₃ .or-if3 .ensures) (v₄ .or-if4 .ensures) (v₅ .or-if5 .ensures))
+    subst (ReadByStages _) (sym (c .whole .ensures)) record {
+      tells =
+          stages-tell (start-of l .read-start .ensures) (types-of l .read-types .ensures) (bridges-of l .read-bridges .ensures) (instances-are n)
+          (v .read-vectors .ensures) (z .ending .result) (z .ending .ensures) _ _ _ _ _
+          (v₁ .or-if .ensures) (v₂ .or-if2 .ensures) (v₃ .or-if3 .ensures) (v₄ .or-if4 .ensures) (v₅ .or-if5 .ensures);
+      circuit =
+          stages-gather (start-of l .read-start .ensures) (types-of l .read-types .ensures) (bridges-of l .read-bridges .ensures) (instances-are n)
+          (v .read-vectors .ensures) (z .ending .result) (z .ending .ensures) (v₅ .or-if5 .result);
+    }
 
 pub read-stages-spec : {M : Type 1} → statement M
 read-stages-spec =

@@ -2,6 +2,7 @@
 -- Assumes nothing.
 use Prim.Native.Nat.{ℕ, _+_}
 use mathlib.Core.Path.{_≡_, refl, sym, _∙_}
+use mathlib.Core.Bool.{true, false, cond}
 use mathlib.Core.List.{List}
 use native.Mathlib.Omega.{arith}
 use borrow.Author.Needs.{needs}
@@ -9,15 +10,16 @@ use lib.ListN.{length}
 use Rattle.circuit.specs.Fields.{cutFrom, twoBytes}
 use Rattle.circuit.specs.Refusals.{verdictOf, refusalNumber, refusalPlace, numberedVerdict}
 use Rattle.circuit.specs.Verdicts.{isRefused}
-use Rattle.circuit.specs.Stages.{afterInputs}
+use Rattle.circuit.specs.Stages.{afterInputs, gatheredFrom, gatheredOf}
 use Rattle.fields.specs.Steps.{bodyOf, FieldAt, NextIs}
 use Rattle.circuit.specs.Reading.{unless, readingOf, accepted}
 use Rattle.circuit.specs.Records.{emptyCircuit}
 use Rattle.fields.specs.declared.Field.{Field as FieldRecord}
+use Rattle.fields.specs.declared.Next.the-variants.{Other}
 use Rattle.circuit.specs.declared.refusal.Refusal.the-variants.{TooLong}
 use Rattle.circuit.proofs.Verdicts.{passes-is}
 use Rattle.circuit.proofs.StageLaws.{staged-is-reading}
-use Rattle.reader.proofs.ReadLaws.{refused-start, start-field, start-other, start-refused, staged-short, staged-long, inputs-within}
+use Rattle.reader.proofs.ReadLaws.{refused-start, start-field, start-other, start-refused, staged-short, staged-long, gathered-long, gathered-other, gathered-field, inputs-within}
 use Rattle.reader.proofs.read.read_start.Statement.{statement}
 use Rattle.reader.proofs.read.read_start.Tie as tie
 
@@ -29,7 +31,8 @@ unfolding unless isRefused verdictOf refusalNumber refusalPlace numberedVerdict
 returns c =
     let file = c .before .before .before .args .file .now in
     refused-start file (accepted emptyCircuit) TooLong (c .refused-at-start .result)
-    (sym (staged-is-reading file) ∙ staged-long file (c .before .if1 .taken)) refl (c .refused-at-start .ensures)
+    (sym (staged-is-reading file) ∙ staged-long file (c .before .if1 .taken)) (gathered-long file (c .before .if1 .taken)) refl
+    (c .refused-at-start .ensures)
 
 field-of-requires : tie.Need-field-of-requires
 field-of-requires c κs = search needs
@@ -51,9 +54,10 @@ returns-2 c =
     let x = c .before in
     let m = x .before .before .before in
     let file = m .before .before .before .args .file .now in
+    let other : NextIs file 0 1 Other = rw (x .before .enum-told .given .1) at (m .field-of .ensures) in
     refused-start file (accepted emptyCircuit) (x .ending .result) (c .refused-at-start2 .result)
-    (sym (staged-is-reading file) ∙ staged-short file (m .before .if1 .left)
-    ∙ start-other file (rw (x .before .enum-told .given .1) at (m .field-of .ensures)) ∙ rw (x .ending .ensures))
+    (sym (staged-is-reading file) ∙ staged-short file (m .before .if1 .left) ∙ start-other file other ∙ rw (x .ending .ensures))
+    (gathered-other file (m .before .if1 .left) other)
     (rw (x .ending .ensures) (start-refused (length file) (cutFrom file 0)))
     (c .refused-at-start2 .ensures)
 
@@ -85,6 +89,16 @@ begun c =
     sym (staged-is-reading file) ∙ staged-short file (s .if1 .left) ∙ start-field file (field-at g) (here g .0) (here g .1)
     ∙ rw (c .inputs-verdict .ensures)
 
+-- what is gathered from the inputs' field on
+begun-gathered : (c : tie.After-inputs-verdict)
+    → gatheredOf (file-at (c .before .before))
+    ≡ cond (isRefused (verdictOf (c .inputs-verdict .result))) emptyCircuit
+    (gatheredFrom (twoBytes (bodyOf (file-at (c .before .before)) (field-at (c .before .before))) 0)
+    (cutFrom (file-at (c .before .before)) (field-at (c .before .before) .body + field-at (c .before .before) .len)))
+begun-gathered c =
+    let g = c .before .before in
+    gathered-field (file-at g) (g .before .before .before .if1 .left) (field-at g) (here g .0) (here g .1) ∙ rw (c .inputs-verdict .ensures)
+
 refuses-requires : tie.Need-refuses-requires
 refuses-requires c κs = search needs
 
@@ -95,7 +109,8 @@ returns-3 : tie.Need-returns-3
 returns-3 c =
     let x = c .before .before in
     let v = x .before in
-    refused-start _ _ (v .inputs-verdict .result) (c .refused-at-start3 .result) (begun v) (sym (x .refuses .ensures) ∙ c .before .if2 .taken)
+    let refuses : isRefused (verdictOf (v .inputs-verdict .result)) ≡ true = sym (x .refuses .ensures) ∙ c .before .if2 .taken in
+    refused-start _ _ (v .inputs-verdict .result) (c .refused-at-start3 .result) (begun v) (begun-gathered v ∙ rw refuses) refuses
     (c .refused-at-start3 .ensures)
 
 add-t4 : tie.Need-add-t4
@@ -109,9 +124,11 @@ returns-4 c =
     let x = c .before .before .before in
     let v = x .before in
     let g = v .before .before in
-    let passed = passes-is (verdictOf (v .inputs-verdict .result)) (sym (x .refuses .ensures) ∙ c .before .before .if2 .left) in
+    let accepts : isRefused (verdictOf (v .inputs-verdict .result)) ≡ false = sym (x .refuses .ensures) ∙ c .before .before .if2 .left in
+    let passed = passes-is (verdictOf (v .inputs-verdict .result)) accepts in
     record {
       reads = begun v ∙ rw (c .two-bytes .ensures);
+      gathered = begun-gathered v ∙ rw (accepts, c .two-bytes .ensures);
       place = here g .0 .inside;
       few = rw (c .two-bytes .ensures) (inputs-within (field-at g .at) (bodyOf (file-at g) (field-at g)) (sym (v .inputs-verdict .ensures) ∙ passed));
     }

@@ -23,7 +23,7 @@ returns : tie.Need-returns
 returns c =
     let listed = c .before .before in
     let asked = listed .before .before in
-    ((λ yes. listed .list-read .ensures _ (asked .before .read-stages .ensures)), λ no. absurd (never (sym (asked .if1 .taken) ∙ no)))
+    ((λ yes. listed .list-read .ensures _ (asked .before .read-stages .ensures .tells)), λ no. absurd (never (sym (asked .if1 .taken) ∙ no)))
 
 grade-read-requires : tie.Need-grade-read-requires
 grade-read-requires c κs = search needs
@@ -38,7 +38,7 @@ returns-2 : tie.Need-returns-2
 returns-2 c =
     let graded = c .before .before .before .before in
     let asked = graded .before .before .before in
-    ((λ yes. absurd (never (sym yes ∙ asked .if1 .left))), λ no. graded .grade-read .ensures _ (asked .before .read-stages .ensures))
+    ((λ yes. absurd (never (sym yes ∙ asked .if1 .left))), λ no. graded .grade-read .ensures _ (asked .before .read-stages .ensures .tells))
 
 pub answer-to-spec : {M : Type 1} → statement M
 answer-to-spec =

@@ -1,0 +1,97 @@
+-- All statements, proved: each field of AllProved by the theorem of its name.
+use Rattle.demands.specs.Proved.{AllProved}
+use Rattle.demands.proofs.OneProof.{one-holds, grading-keeps-the-rest}
+use Rattle.demands.proofs.RightProof.{promise-can-be-met, rightly-is-right}
+use Rattle.demands.proofs.Outcomes.{one-outcome-only}
+use Rattle.demands.proofs.SettledValues.{values-are-paths}
+use Rattle.demands.proofs.Cells.{cell-is-path}
+use Rattle.demands.proofs.Floating.{floating-never-marks}
+use Rattle.demands.proofs.Columns.{column-is-of-its-vector}
+use Rattle.demands.proofs.ClassCounts.{classes-count-once}
+use Rattle.demands.proofs.NamedAgain.{naming-again-adds-nothing, other-end-adds-nothing}
+use Rattle.demands.proofs.Refining.{three-holds, marks-hold-under-every-filling}
+use Rattle.demands.proofs.NoConverseProof.{no-converse}
+use Rattle.demands.proofs.AlikeFilesProof.{alike-files-read-alike, finer-files-read-refined, rows-are-of-the-head, column-is-of-its-field}
+use Rattle.demands.proofs.AlikeFilesProof.{three-holds-of-files, marks-hold-in-every-filled-file}
+use Rattle.demands.proofs.Fillings.{fillings-are-accepted, fillings-are-graded, refinements-are-graded}
+use Rattle.demands.proofs.OtherVectors.{other-vectors-are-accepted}
+use Rattle.demands.proofs.FileSplits.{accepted-is-split, split-once}
+use Rattle.demands.proofs.AlikeFilesExamples.{not-any-head, nand-refined}
+use Rattle.demands.proofs.Determines.{demands-leave-one-outcome, demands-are-the-promise}
+use Rattle.demands.proofs.ContractsProof.{grade-is-kept, entry-is-kept}
+use Rattle.demands.proofs.UniqueProof.{unique}
+use Rattle.demands.proofs.KnownProof.{all-known}
+use Rattle.demands.proofs.WrongProof.{refuses-every-is-wrong, skips-nine-is-wrong, skips-fourteen-is-wrong, marks-all-is-wrong, marks-never-is-wrong, leaves-matrix-is-wrong}
+use Rattle.demands.proofs.WrongProof.{first-word-only-is-wrong, invents-found-is-wrong, sweeps-once-is-wrong, one-plane-is-wrong, marks-floating-is-wrong, counts-rows-is-wrong}
+use Rattle.demands.proofs.WrongProof.{spills-is-wrong, wraps-is-wrong, goes-on-is-wrong, watches-outputs-is-wrong, holds-levels-is-wrong, counts-twice-is-wrong}
+use Rattle.demands.proofs.WrongProof.{counts-labels-is-wrong, reads-x-as-zero-is-wrong, writes-past-is-wrong, clears-first-is-wrong}
+use Rattle.demands.proofs.MeetsProof.{rightly-meets-all, meet-demand-one, meet-cell-clause, meet-demand-three}
+use Rattle.demands.proofs.BreaksProof.{break-demand-one, break-demand-two, break-demand-three}
+
+pub all-proved : AllProved
+all-proved = record {
+  one-holds = one-holds;
+  promise-can-be-met = promise-can-be-met;
+  one-outcome-only = one-outcome-only;
+  grading-keeps-the-rest = grading-keeps-the-rest;
+  values-are-paths = values-are-paths;
+  cell-is-path = cell-is-path;
+  floating-never-marks = floating-never-marks;
+  column-is-of-its-vector = column-is-of-its-vector;
+  classes-count-once = classes-count-once;
+  naming-again-adds-nothing = naming-again-adds-nothing;
+  other-end-adds-nothing = other-end-adds-nothing;
+  three-holds = three-holds;
+  marks-hold-under-every-filling = marks-hold-under-every-filling;
+  no-converse = no-converse;
+  alike-files-read-alike = alike-files-read-alike;
+  finer-files-read-refined = finer-files-read-refined;
+  rows-are-of-the-head = rows-are-of-the-head;
+  column-is-of-its-field = column-is-of-its-field;
+  three-holds-of-files = three-holds-of-files;
+  marks-hold-in-every-filled-file = marks-hold-in-every-filled-file;
+  fillings-are-accepted = fillings-are-accepted;
+  fillings-are-graded = fillings-are-graded;
+  refinements-are-graded = refinements-are-graded;
+  other-vectors-are-accepted = other-vectors-are-accepted;
+  accepted-is-split = accepted-is-split;
+  split-once = split-once;
+  not-any-head = not-any-head;
+  nand-refined = nand-refined;
+  demands-leave-one-outcome = demands-leave-one-outcome;
+  demands-are-the-promise = demands-are-the-promise;
+  grade-is-kept = grade-is-kept;
+  entry-is-kept = entry-is-kept;
+  unique = unique;
+  all-known = all-known;
+  rightly-is-right = rightly-is-right;
+  refuses-every-is-wrong = refuses-every-is-wrong;
+  skips-nine-is-wrong = skips-nine-is-wrong;
+  skips-fourteen-is-wrong = skips-fourteen-is-wrong;
+  marks-all-is-wrong = marks-all-is-wrong;
+  marks-never-is-wrong = marks-never-is-wrong;
+  leaves-matrix-is-wrong = leaves-matrix-is-wrong;
+  first-word-only-is-wrong = first-word-only-is-wrong;
+  invents-found-is-wrong = invents-found-is-wrong;
+  sweeps-once-is-wrong = sweeps-once-is-wrong;
+  one-plane-is-wrong = one-plane-is-wrong;
+  marks-floating-is-wrong = marks-floating-is-wrong;
+  counts-rows-is-wrong = counts-rows-is-wrong;
+  spills-is-wrong = spills-is-wrong;
+  wraps-is-wrong = wraps-is-wrong;
+  goes-on-is-wrong = goes-on-is-wrong;
+  watches-outputs-is-wrong = watches-outputs-is-wrong;
+  holds-levels-is-wrong = holds-levels-is-wrong;
+  counts-twice-is-wrong = counts-twice-is-wrong;
+  counts-labels-is-wrong = counts-labels-is-wrong;
+  reads-x-as-zero-is-wrong = reads-x-as-zero-is-wrong;
+  writes-past-is-wrong = writes-past-is-wrong;
+  clears-first-is-wrong = clears-first-is-wrong;
+  rightly-meets-all = rightly-meets-all;
+  meet-demand-one = meet-demand-one;
+  meet-cell-clause = meet-cell-clause;
+  meet-demand-three = meet-demand-three;
+  break-demand-one = break-demand-one;
+  break-demand-two = break-demand-two;
+  break-demand-three = break-demand-three;
+}

@@ -1,0 +1,128 @@
+-- The contracts of `grade` and of the entry for C say what the demands speak of.
+use Prim.Native.Nat.{ℕ}
+use mathlib.Core.Path.{_≡_, refl, sym, ap, ap₂, _∙_}
+use mathlib.Core.List.{List, [], _∷_}
+use lib.Dec.{T}
+use lib.ListN.{length}
+use base.Logic.{emp}
+use prog.Routine.{Routine}
+use contract.Lifetimes.{Lfts}
+use contract.Monad.{fact, fact-mono}
+use contract.Running.{givenOf}
+use denote.Ask.Run.{routine-mono}
+use denote.Ref.{now}
+use denote.Triple.Clauses.{Ended, AtExit, atExit}
+use denote.Triple.Entry.{Args, Res}
+use denote.Triple.Weaken.{weaken}
+use Rattle.grading.specs.Grading.{Counts, Grading, gradingOf, countsIn, numberIn, placeIn, matrixAfter, classesAfterGrading}
+use Rattle.grading.specs.Promise.{numberOf, placeOf, countsOf}
+use Rattle.grading.specs.declared.Answer.{Answer}
+use Rattle.grading.specs.declared.Answer.the-variants.{Graded, Refused, ShortMatrix, ShortClasses}
+use Rattle.grader.proofs.grade.grade as grade
+use Rattle.togyamiru.specs.Entry.{sixNumbers, EntryPromise}
+use Rattle.togyamiru.proofs.togyamiru_grade as togyamiru-grade
+use Rattle.demands.specs.Calls.{Call, Kept, GradedAs, Refuses, isGraded}
+use Rattle.demands.specs.One.{One, CanBeMet}
+use Rattle.demands.specs.Contracts.{ToldBy, RoutineTells, callOf, TwoWhereGraded, GradeIsKept, sixOf, EntryIsCall, EntryIsKept}
+use Rattle.demands.proofs.OneProof.{one-holds}
+use Rattle.demands.proofs.Cells.{cell-is-path}
+use Rattle.demands.proofs.ClassCounts.{classes-count-once}
+use Rattle.demands.proofs.RightProof.{promise-can-be-met}
+
+-- what follows from what is told of the code's runs is so of them
+so-of-routine : (M : Type 1) (routine : Routine) (F : Ended) (Told Follows : ToldBy F)
+    → ((κs : Lfts (F .signature .lifetimes)) (a : Args (F .signature) κs) (r : Res (F .signature) κs) (e : AtExit F κs) → Told κs a r e → Follows κs a r e)
+    → RoutineTells M routine F Told → RoutineTells M routine F Follows
+so-of-routine M routine F Told Follows follows tells 𝓤 H 𝓜 𝓖 𝓡 =
+    weaken 𝓤 H (𝓖 .A) F (givenOf 𝓤 H 𝓜 𝓖)
+    (λ κs a. record { ghost = Unit {0}; requires = λ g. emp 𝓤; ensures = λ g r e. fact 𝓤 (Told κs a r e) })
+    (λ κs a g r e. fact 𝓤 (Follows κs a r e))
+    (λ κs a g r ws. fact-mono 𝓤 (Told κs a r (atExit F κs a ws)) (Follows κs a r (atExit F κs a ws)) (follows κs a r (atExit F κs a ws)))
+    (𝓡 .run routine) (routine-mono 𝓤 H 𝓜 𝓡 routine) (tells 𝓤 H 𝓜 𝓖 𝓡)
+
+two-where-graded : (call : Call) → Kept call → TwoWhereGraded call
+two-where-graded call kept c accepts graded =
+    let given : GradedAs call c = record { kept = kept; accepts = accepts; graded = graded } in
+    (cell-is-path call c given, classes-count-once call c given)
+
+pub grade-is-kept : GradeIsKept
+grade-is-kept = record {
+  asks-nothing = λ κs a. tt;
+  keeps = λ κs a r e kept. kept;
+  routine-keeps = λ M. grade.Met.met;
+  routine-meets-one = λ M.
+      so-of-routine M grade.Symbol.routine grade.ended (λ κs a r e. Kept (callOf κs a r e)) (λ κs a r e. One (callOf κs a r e))
+      (λ κs a r e. one-holds (callOf κs a r e)) grade.Met.met;
+  routine-meets-two = λ M.
+      so-of-routine M grade.Symbol.routine grade.ended (λ κs a r e. Kept (callOf κs a r e)) (λ κs a r e. TwoWhereGraded (callOf κs a r e))
+      (λ κs a r e. two-where-graded (callOf κs a r e)) grade.Met.met;
+}
+
+-- six numbers in a row, with counts that are given whole
+numbers : ℕ → ℕ → Counts → List ℕ
+numbers n p counts = n ∷ p ∷ counts .vectors ∷ counts .faults ∷ counts .classes ∷ counts .found ∷ []
+
+six-are : (g : Grading) (answer : Answer) → numberOf answer ≡ numberIn g → placeOf answer ≡ placeIn g → countsOf answer ≡ countsIn g
+    → sixNumbers g ≡ sixOf answer
+unfolding sixNumbers sixOf numbers
+six-are g answer n p counts =
+    ap (λ (m : ℕ). numbers m (placeIn g) (countsIn g)) (sym n)
+    ∙ ap (λ (m : ℕ). numbers (numberOf answer) m (countsIn g)) (sym p)
+    ∙ ap (numbers (numberOf answer) (placeOf answer)) (sym counts)
+
+six-refused : (answer : Answer) (number place : ℕ) → Refuses answer number place → sixOf answer ≡ number ∷ place ∷ 0 ∷ 0 ∷ 0 ∷ 0 ∷ []
+unfolding sixOf Refuses numberOf placeOf countsOf
+six-refused (Graded counts) number place r = absurd r
+six-refused (Refused refusal) number place (n, p) = λ i. n i ∷ p i ∷ 0 ∷ 0 ∷ 0 ∷ 0 ∷ []
+six-refused (ShortMatrix words) number place (n, p) = λ i. n i ∷ p i ∷ 0 ∷ 0 ∷ 0 ∷ 0 ∷ []
+six-refused (ShortClasses faults) number place (n, p) = λ i. n i ∷ p i ∷ 0 ∷ 0 ∷ 0 ∷ 0 ∷ []
+
+nothing-refused : (answer : Answer) → T (isGraded answer) → (numberOf answer ≡ 0) × (placeOf answer ≡ 0)
+unfolding isGraded numberOf placeOf
+nothing-refused (Graded counts) g = (refl, refl)
+nothing-refused (Refused refusal) g = absurd g
+nothing-refused (ShortMatrix words) g = absurd g
+nothing-refused (ShortClasses faults) g = absurd g
+
+entry-is-call : (file matrix classes six matrix′ classes′ : List ℕ)
+    → EntryPromise file matrix classes six matrix′ classes′ → EntryIsCall file matrix classes six matrix′ classes′
+entry-is-call file matrix classes six matrix′ classes′ promise = go (promise-can-be-met file matrix classes)
+  where
+    g : Grading
+    g = gradingOf file (length matrix) (length classes)
+
+    go : CanBeMet file matrix classes → EntryIsCall file matrix classes six matrix′ classes′
+    go by =
+        let same : gradingOf (by .call .file) (length (by .call .matrix)) (length (by .call .classes)) ≡ g = rw (by .of-file, by .of-matrix, by .of-classes) in
+        let six-numbers : six ≡ sixOf (by .call .answer) =
+        promise .answer-at-exit
+        ∙ six-are g (by .call .answer) (by .kept .number ∙ ap numberIn same) (by .kept .place ∙ ap placeIn same) (by .kept .counts ∙ ap countsIn same)
+        in
+        record {
+          call = by .call;
+          of-file = by .of-file;
+          of-matrix = by .of-matrix;
+          of-classes = by .of-classes;
+          kept = by .kept;
+          to-matrix = by .kept .matrix-at-exit ∙ ap₂ matrixAfter same (by .of-matrix) ∙ sym (promise .matrix-at-exit);
+          to-classes = by .kept .classes-at-exit ∙ ap₂ classesAfterGrading same (by .of-classes) ∙ sym (promise .classes-at-exit);
+          six-numbers = six-numbers;
+          refusal-counts-nothing = λ number place r. six-numbers ∙ six-refused (by .call .answer) number place r;
+          grading-refuses-nothing = nothing-refused (by .call .answer);
+        }
+
+-- of the entry's arguments, and of what was lent, at exit
+abbrev told : (κs : Lfts 4) (a : Args togyamiru-grade.signature κs) → AtExit togyamiru-grade.ended κs
+    → (List ℕ → List ℕ → List ℕ → List ℕ → List ℕ → List ℕ → Type 0) → Type 0
+told κs a e Told = Told (now (a .0)) (now (a .1 .0)) (now (a .1 .1 .0)) (now (e .1 .1 .1 .0)) (now (e .1 .0)) (now (e .1 .1 .0))
+
+pub entry-is-kept : EntryIsKept
+entry-is-kept = record {
+  asks-nothing = λ κs a. tt;
+  is-call = λ κs a r e promise.
+      entry-is-call (now (a .0)) (now (a .1 .0)) (now (a .1 .1 .0)) (now (e .1 .1 .1 .0)) (now (e .1 .0)) (now (e .1 .1 .0)) promise;
+  routine-is-call = λ M.
+      so-of-routine M togyamiru-grade.Symbol.routine togyamiru-grade.ended (λ κs a r e. told κs a e EntryPromise) (λ κs a r e. told κs a e EntryIsCall)
+      (λ κs a r e.
+      entry-is-call (now (a .0)) (now (a .1 .0)) (now (a .1 .1 .0)) (now (e .1 .1 .1 .0)) (now (e .1 .0)) (now (e .1 .1 .0))) togyamiru-grade.Met.met;
+}

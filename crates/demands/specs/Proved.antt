@@ -1,0 +1,96 @@
+-- All that is stated of the grader, in one record: a field for each statement that docs/TRUST.md cites. `all-proved` (proofs/AllProofs) has
+-- this type, so a statement whose proof is gone, or proves something else, is refused; .ci/parts/8-trust holds docs/TRUST.md to the fields.
+use Rattle.demands.specs.One.{OneHolds, PromiseCanBeMet, OneOutcomeOnly, GradingKeepsTheRest}
+use Rattle.demands.specs.Two.{ValuesArePaths, CellIsPath, FloatingNeverMarks, ColumnIsOfItsVector}
+use Rattle.demands.specs.Two.{ClassesCountOnce, NamingAgainAddsNothing, OtherEndAddsNothing}
+use Rattle.demands.specs.Three.{ThreeHolds, MarksHoldUnderEveryFilling}
+use Rattle.demands.specs.NoConverse.{NoConverse}
+use Rattle.demands.specs.AlikeFiles.{AlikeFilesReadAlike, FinerFilesReadRefined, RowsAreOfTheHead, ColumnIsOfItsField}
+use Rattle.demands.specs.AlikeFiles.{ThreeHoldsOfFiles, MarksHoldInEveryFilledFile, FillingsAreGraded, RefinementsAreGraded, NandRefined}
+use Rattle.demands.specs.SplitFiles.{AcceptedIsSplit, SplitOnce, OtherVectorsAreAccepted, FillingsAreAccepted, NotAnyHead}
+use Rattle.demands.specs.Determined.{DemandsLeaveOneOutcome, DemandsAreThePromise}
+use Rattle.demands.specs.Contracts.{GradeIsKept, EntryIsKept}
+use Rattle.demands.specs.Unique.{Unique}
+use Rattle.demands.specs.KnownResults.{AllKnown}
+use Rattle.demands.specs.Graders.{RightlyIsRight}
+use Rattle.demands.specs.Wrong.{RefusesEveryIsWrong, SkipsNineIsWrong, SkipsFourteenIsWrong, MarksAllIsWrong, MarksNeverIsWrong}
+use Rattle.demands.specs.Wrong.{LeavesMatrixIsWrong, FirstWordOnlyIsWrong, InventsFoundIsWrong, SweepsOnceIsWrong, OnePlaneIsWrong}
+use Rattle.demands.specs.Wrong.{MarksFloatingIsWrong, CountsRowsIsWrong, SpillsIsWrong, WrapsIsWrong, GoesOnIsWrong}
+use Rattle.demands.specs.Wrong.{WatchesOutputsIsWrong, HoldsLevelsIsWrong, CountsTwiceIsWrong, CountsLabelsIsWrong}
+use Rattle.demands.specs.Wrong.{ReadsXAsZeroIsWrong, WritesPastIsWrong, ClearsFirstIsWrong}
+use Rattle.demands.specs.Breaks.{RightlyMeetsAll, MeetDemandOne, MeetCellClause, MeetDemandThree}
+use Rattle.demands.specs.Breaks.{BreakDemandOne, BreakDemandTwo, BreakDemandThree}
+
+pub record AllProved : Type 2 where
+  -- demand 1
+  pub one-holds : OneHolds
+  pub promise-can-be-met : PromiseCanBeMet
+  pub one-outcome-only : OneOutcomeOnly
+  pub grading-keeps-the-rest : GradingKeepsTheRest
+  -- demand 2
+  pub values-are-paths : ValuesArePaths
+  pub cell-is-path : CellIsPath
+  pub floating-never-marks : FloatingNeverMarks
+  pub column-is-of-its-vector : ColumnIsOfItsVector
+  pub classes-count-once : ClassesCountOnce
+  pub naming-again-adds-nothing : NamingAgainAddsNothing
+  pub other-end-adds-nothing : OtherEndAddsNothing
+  -- demand 3
+  pub three-holds : ThreeHolds
+  pub marks-hold-under-every-filling : MarksHoldUnderEveryFilling
+  pub no-converse : NoConverse
+  -- demand 3 and the columns of two files
+  pub alike-files-read-alike : AlikeFilesReadAlike
+  pub finer-files-read-refined : FinerFilesReadRefined
+  pub rows-are-of-the-head : RowsAreOfTheHead
+  pub column-is-of-its-field : ColumnIsOfItsField
+  pub three-holds-of-files : ThreeHoldsOfFiles
+  pub marks-hold-in-every-filled-file : MarksHoldInEveryFilledFile
+  pub fillings-are-accepted : FillingsAreAccepted
+  pub fillings-are-graded : FillingsAreGraded
+  pub refinements-are-graded : RefinementsAreGraded
+  pub other-vectors-are-accepted : OtherVectorsAreAccepted
+  pub accepted-is-split : AcceptedIsSplit
+  pub split-once : SplitOnce
+  pub not-any-head : NotAnyHead
+  pub nand-refined : NandRefined
+  -- the demands and the promise
+  pub demands-leave-one-outcome : DemandsLeaveOneOutcome
+  pub demands-are-the-promise : DemandsAreThePromise
+  -- the code
+  pub grade-is-kept : GradeIsKept
+  pub entry-is-kept : EntryIsKept
+  pub unique : Unique
+  -- known results
+  pub all-known : AllKnown
+  -- a right grader, and wrong ones
+  pub rightly-is-right : RightlyIsRight
+  pub refuses-every-is-wrong : RefusesEveryIsWrong
+  pub skips-nine-is-wrong : SkipsNineIsWrong
+  pub skips-fourteen-is-wrong : SkipsFourteenIsWrong
+  pub marks-all-is-wrong : MarksAllIsWrong
+  pub marks-never-is-wrong : MarksNeverIsWrong
+  pub leaves-matrix-is-wrong : LeavesMatrixIsWrong
+  pub first-word-only-is-wrong : FirstWordOnlyIsWrong
+  pub invents-found-is-wrong : InventsFoundIsWrong
+  pub sweeps-once-is-wrong : SweepsOnceIsWrong
+  pub one-plane-is-wrong : OnePlaneIsWrong
+  pub marks-floating-is-wrong : MarksFloatingIsWrong
+  pub counts-rows-is-wrong : CountsRowsIsWrong
+  pub spills-is-wrong : SpillsIsWrong
+  pub wraps-is-wrong : WrapsIsWrong
+  pub goes-on-is-wrong : GoesOnIsWrong
+  pub watches-outputs-is-wrong : WatchesOutputsIsWrong
+  pub holds-levels-is-wrong : HoldsLevelsIsWrong
+  pub counts-twice-is-wrong : CountsTwiceIsWrong
+  pub counts-labels-is-wrong : CountsLabelsIsWrong
+  pub reads-x-as-zero-is-wrong : ReadsXAsZeroIsWrong
+  pub writes-past-is-wrong : WritesPastIsWrong
+  pub clears-first-is-wrong : ClearsFirstIsWrong
+  pub rightly-meets-all : RightlyMeetsAll
+  pub meet-demand-one : MeetDemandOne
+  pub meet-cell-clause : MeetCellClause
+  pub meet-demand-three : MeetDemandThree
+  pub break-demand-one : BreakDemandOne
+  pub break-demand-two : BreakDemandTwo
+  pub break-demand-three : BreakDemandThree

@@ -1,0 +1,2 @@
+-- The law of a text that grows at a buffer's front.
+pub mod Front

@@ -1,0 +1,2 @@
+-- What the program `grade` hands to standard output.
+pub mod Handing

@@ -1,0 +1,18 @@
+-- The promise of `show_piece`: a piece of the listing that the record of a reading tells. 512 bytes are room for every line, so that in a
+-- buffer of as many a piece is empty only past the last line.
+use Prim.Native.Nat.{ℕ, _≤_, _<_}
+use mathlib.Core.List.{List}
+use lib.ListN.{length}
+use Rattle.text.specs.Pieces.{PieceGiven, lineIn}
+use Rattle.text.specs.declared.Piece.{Piece}
+use Rattle.circuit.specs.declared.Reading.{Reading as ReadingRecord}
+use Rattle.listing.specs.Listing.{listingOf}
+use Rattle.listing.specs.Told.{readingTold}
+
+-- a piece of some lines
+pub record LinesPiece (lines : List (List ℕ)) (from : ℕ) (buffer : List ℕ) (piece : Piece) (after : List ℕ) : Type 0 where
+  pub given : PieceGiven (lineIn lines) (length lines) from buffer piece after
+  pub moves : from < length lines → 512 ≤ length buffer → 0 < piece .count
+
+abbrev pub ListingPiece : ReadingRecord → ℕ → List ℕ → Piece → List ℕ → Type 0
+ListingPiece reading from buffer piece after = LinesPiece (listingOf (readingTold reading)) from buffer piece after

@@ -1,0 +1,2 @@
+-- The laws of handing over.
+mod HandingLaws

@@ -1,0 +1,2 @@
+-- What the program `show` hands to standard output.
+pub mod Handing

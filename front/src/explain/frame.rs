@@ -1,0 +1,141 @@
+//! Refusals that hang on the frame of a file and not on what a field says: its
+//! length, cut fields, tags, their order, lengths of fields, counts, and the end.
+
+use second::read::{
+    LONGEST_FILE, MOST_BRIDGES, MOST_EDGES, MOST_INSTANCES, MOST_TYPES, MOST_VECTORS,
+};
+
+use super::before::Before;
+use super::{count, listed, span, Scene, Told};
+
+/// A number of bytes with its verb.
+fn left_over(bytes: usize) -> String {
+    match bytes {
+        1 => "1 byte is".to_string(),
+        _ => format!("{bytes} bytes are"),
+    }
+}
+
+/// What a field of this tag says.
+fn meaning(tag: u8) -> Option<&'static str> {
+    match tag {
+        1 => Some("the number of inputs"),
+        2 => Some("a type"),
+        3 => Some("an edge"),
+        4 => Some("a bridge"),
+        5 => Some("an instance"),
+        6 => Some("a vector"),
+        _ => None,
+    }
+}
+
+fn tag_meaning(tag: u8) -> String {
+    match meaning(tag) {
+        Some(name) => format!("{tag} ({name})"),
+        None => tag.to_string(),
+    }
+}
+
+fn tag_name(tag: u8) -> String {
+    match meaning(tag) {
+        Some(name) => format!("{name} (tag {tag})"),
+        None => format!("tag {tag}"),
+    }
+}
+
+pub fn too_long() -> (String, Told) {
+    let rule = format!("a circuit file has at most {LONGEST_FILE} bytes.");
+    let told = Told::new(rule, "it has more than that.");
+    ("the whole file".to_string(), told)
+}
+
+pub fn cut_short(before: &Before, left: &[u8], place: usize) -> (String, Told) {
+    let span = span(place, place + left.len());
+    let field = format!("{}, {span}", before.next_field());
+    let rule = "a field is a tag byte, two length bytes and then as many bytes as the length \
+                says, all inside the file.";
+    let here = match left {
+        [tag, high, low, body @ ..] => format!(
+            "the tag is {}, the length says {}, but {} left in the file.",
+            tag_meaning(*tag),
+            count(usize::from(u16::from_be_bytes([*high, *low])), "byte"),
+            left_over(body.len()),
+        ),
+        _ => format!(
+            "{} left in the file, but a tag with its length takes 3.",
+            left_over(left.len())
+        ),
+    };
+    (field, Told::new(rule, here))
+}
+
+pub fn unknown_tag(scene: &Scene) -> Told {
+    let rule = "a field begins with its tag: 1 the number of inputs, 2 a type, 3 an edge, \
+                4 a bridge, 5 an instance, 6 a vector.";
+    Told::new(rule, format!("the tag is {}.", scene.field.tag))
+}
+
+pub fn out_of_order(scene: &Scene) -> Told {
+    let this = tag_name(scene.field.tag);
+    let Some(latest) = scene.before.latest_tag else {
+        let rule = "a file begins with the number of inputs (tag 1).";
+        return Told::new(rule, format!("it begins with {this}."));
+    };
+    let rule = match scene.field.tag {
+        1 => "the number of inputs (tag 1) stands once, at the start of the file.",
+        3 => "an edge stands right after its type or after another edge of that type.",
+        _ => {
+            "after the number of inputs come the types with their edges, then the bridges, \
+              then the instances, then the vectors."
+        }
+    };
+    let here = format!("{this} comes after {}.", tag_name(latest));
+    Told::new(rule, here)
+}
+
+pub fn wrong_length(scene: &Scene) -> Told {
+    let inputs = scene.before.circuit.inputs;
+    let rule = match scene.field.tag {
+        1 => "the number of inputs takes 2 bytes.".to_string(),
+        2 => "a type takes 3 bytes: highest node, output node, number of labels.".to_string(),
+        3 => "an edge takes 3 to 6 bytes: two nodes and 1 to 4 labels.".to_string(),
+        4 => "a bridge takes 4 bytes: list, kind, first and second end.".to_string(),
+        5 => "an instance takes an even number of bytes from 4 to 26: a type, a list choice, \
+              and 2 bytes for each reference."
+            .to_string(),
+        _ => format!("a vector takes 1 byte for each primary input, here {inputs}."),
+    };
+    let length = count(scene.field.body.len(), "byte");
+    Told::new(rule, format!("its length says {length}."))
+}
+
+pub fn one_too_many(scene: &Scene) -> Told {
+    let (owner, most, things) = match scene.field.tag {
+        2 => ("a file", MOST_TYPES, "types"),
+        3 => ("a type", MOST_EDGES, "edges"),
+        4 => ("a file", MOST_BRIDGES, "bridges"),
+        5 => ("a file", MOST_INSTANCES, "instances"),
+        _ => ("a file", MOST_VECTORS, "vectors"),
+    };
+    let rule = format!("{owner} has at most {most} {things}.");
+    let this = scene.before.next_of(scene.field.tag);
+    Told::new(rule, format!("this is {this}."))
+}
+
+pub fn ended(before: &Before) -> (String, Told) {
+    let rule = "a file has the number of inputs, at least one instance and at least one vector.";
+    let circuit = &before.circuit;
+    let missing: Vec<String> = [
+        (circuit.instances.is_empty(), "no instance"),
+        (before.vectors == 0, "no vector"),
+    ]
+    .into_iter()
+    .filter(|(is_missing, _)| *is_missing)
+    .map(|(_, name)| name.to_string())
+    .collect();
+    let here = match before.fields {
+        0 => "the file is empty.".to_string(),
+        _ => format!("the file ends with {}.", listed(&missing)),
+    };
+    ("the end of the file".to_string(), Told::new(rule, here))
+}

@@ -1,0 +1,147 @@
+//! Refusal 7: numbers and letters outside their ranges. Every one that is outside
+//! is told.
+
+use second::faults::EXHAUSTIVE;
+use second::read::{HIGHEST_NODE, MOST_INPUTS, MOST_LABELS};
+
+use super::before::instance_of;
+use super::{has, range, sentence, Scene, Told};
+
+const HIGHEST_LIST: u8 = 127;
+
+pub fn out_of_range(scene: &Scene) -> Told {
+    let body = scene.field.body;
+    let (rule, slips) = match scene.field.tag {
+        1 => inputs(body),
+        2 => module(body),
+        3 => edge(scene, body),
+        4 => bridge(body),
+        5 => instance(scene, body),
+        _ => vector(body),
+    };
+    Told::new(rule, sentence(slips))
+}
+
+/// Names and values, of which those stay that are not allowed.
+fn slips<const N: usize>(values: [(&str, u8, bool); N]) -> Vec<String> {
+    let wrong = values.into_iter().filter(|(_, _, allowed)| !allowed);
+    wrong
+        .map(|(name, value, _)| format!("{name} is {value}"))
+        .collect()
+}
+
+fn inputs(body: &[u8]) -> (String, Vec<String>) {
+    let inputs = u16::from_be_bytes([body[0], body[1]]);
+    let rule = format!("the number of primary inputs is 1 to {MOST_INPUTS}.");
+    (rule, vec![format!("it is {inputs}")])
+}
+
+fn module(body: &[u8]) -> (String, Vec<String>) {
+    let (highest, output, labels) = (body[0], body[1], body[2]);
+    let rule = format!(
+        "the highest node is 2 to {HIGHEST_NODE}, the output node 2 to the highest node, and \
+         the number of labels 1 to {MOST_LABELS}."
+    );
+    let mut slips = slips([
+        (
+            "the highest node",
+            highest,
+            (2..=HIGHEST_NODE).contains(&highest),
+        ),
+        (
+            "the number of labels",
+            labels,
+            (1..=MOST_LABELS).contains(&labels),
+        ),
+    ]);
+    if !(2..=highest).contains(&output) {
+        let slip = format!("the output node is {output} where the highest node is {highest}");
+        slips.push(slip);
+    }
+    (rule, slips)
+}
+
+fn edge(scene: &Scene, body: &[u8]) -> (String, Vec<String>) {
+    let (number, module) = scene.latest_type();
+    let (highest, labels) = (module.highest, module.labels);
+    let rule = format!(
+        "an edge has nodes and labels of its type; {}.",
+        has(number, module)
+    );
+    let (nodes, own_labels) = body.split_at(2);
+    let mut slips = slips([
+        ("the first node", nodes[0], nodes[0] <= highest),
+        ("the second node", nodes[1], nodes[1] <= highest),
+    ]);
+    for (index, label) in own_labels.iter().enumerate() {
+        if *label >= labels {
+            slips.push(format!("transistor {} has label {label}", index + 1));
+        }
+    }
+    (rule, slips)
+}
+
+fn bridge(body: &[u8]) -> (String, Vec<String>) {
+    let (list, kind, first, second) = (body[0], body[1], body[2], body[3]);
+    let rule = format!(
+        "a bridge has a list of 1 to {HIGHEST_LIST} and either kind 0 and two different nodes of \
+         0 to {HIGHEST_NODE}, or kind 1, a node of 0 to {HIGHEST_NODE} and a label of 0 to {}.",
+        MOST_LABELS - 1
+    );
+    let (second_name, second_fits) = match kind {
+        0 => ("the second node", second <= HIGHEST_NODE),
+        1 => ("the label", second < MOST_LABELS),
+        _ => ("the second end", true),
+    };
+    let mut slips = slips([
+        ("the list", list, (1..=HIGHEST_LIST).contains(&list)),
+        ("the kind", kind, kind <= 1),
+        ("the first node", first, first <= HIGHEST_NODE),
+        (second_name, second, second_fits),
+    ]);
+    if kind == 0 && first == second {
+        slips.push(format!("both ends are node {first}"));
+    }
+    (rule, slips)
+}
+
+fn instance(scene: &Scene, body: &[u8]) -> (String, Vec<String>) {
+    let types = scene.before.circuit.types.len();
+    let instance = instance_of(body);
+    let choice = "a list choice: -1 (all bridges), 0 (none) or a list, 1 to 127";
+    let rule = match types {
+        0 => format!("an instance has the number of a type, and {choice}."),
+        _ => format!(
+            "an instance has the number of a type (here {}), and {choice}.",
+            range(1, types)
+        ),
+    };
+    let mut slips = Vec::new();
+    if types == 0 {
+        slips.push("the file has no type".to_string());
+    } else if !(1..=types).contains(&usize::from(instance.type_number)) {
+        slips.push(format!("the type is {}", instance.type_number));
+    }
+    if instance.choice < EXHAUSTIVE {
+        slips.push(format!("the list choice is {}", instance.choice));
+    }
+    (rule, slips)
+}
+
+fn vector(body: &[u8]) -> (String, Vec<String>) {
+    let rule = "each byte of a vector is one of the letters `0` (byte 48), `1` (49) and `X` (88).";
+    let wrong = body.iter().enumerate();
+    let slips = wrong
+        .filter(|(_, byte)| !b"01X".contains(byte))
+        .map(|(index, byte)| format!("primary input {} has {}", index + 1, letter(*byte)))
+        .collect();
+    (rule.to_string(), slips)
+}
+
+fn letter(byte: u8) -> String {
+    if byte.is_ascii_graphic() {
+        format!("`{}` (byte {byte})", char::from(byte))
+    } else {
+        format!("byte {byte}")
+    }
+}

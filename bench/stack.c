@@ -1,4 +1,4 @@
-/* The stack that the proved grader uses: the call runs on a painted stack of its own, and what is no longer painted was used. */
+/* The stack that the library's functions use: a call runs on a painted stack of its own, and what is no longer painted was used. The status is 1 where that is more than the header says. */
 #include "inputs.h"
 #include "togyamiru.h"
 #include <stdio.h>
@@ -9,12 +9,18 @@ enum { STACK = 8 << 20, PAINT = 0x5C };
 static _Alignas(16) uint8_t stack[STACK];
 static uint64_t matrix[TOGYAMIRU_WORDS_A_FAULT * TOGYAMIRU_MOST_FAULTS];
 static uint16_t classes[TOGYAMIRU_MOST_FAULTS];
+static uint32_t rows[TOGYAMIRU_MOST_FAULTS];
 static uint64_t answer[TOGYAMIRU_NUMBERS];
 static struct input input;
 
 static void grade(void)
 {
     togyamiru_grade(input.file, input.length, matrix, sizeof matrix / sizeof *matrix, classes, TOGYAMIRU_MOST_FAULTS, answer);
+}
+
+static void list_rows(void)
+{
+    togyamiru_rows(input.file, input.length, rows, TOGYAMIRU_MOST_FAULTS, answer);
 }
 
 /* Calls a function with the stack pointer at the end of the painted stack. */
@@ -39,25 +45,33 @@ static size_t depth(void)
     return STACK - untouched;
 }
 
-static void measure(void)
+static size_t depth_of(void (*function)(void))
 {
     memset(stack, PAINT, STACK);
-    call_on_stack(grade);
-    printf("%-14s %8zu   refusal %2d   %s\n", input.name, depth(), (int)answer[TOGYAMIRU_NUMBER], input.what);
+    call_on_stack(function);
+    return depth();
+}
+
+/* Prints what both take, and says whether it is no more than the header says. */
+static int measure(void)
+{
+    size_t graded = depth_of(grade), listed = depth_of(list_rows);
+    printf("%-14s %8zu %8zu   refusal %2d   %s\n", input.name, graded, listed, (int)answer[TOGYAMIRU_NUMBER], input.what);
+    return graded <= TOGYAMIRU_MOST_STACK && listed <= TOGYAMIRU_MOST_STACK;
 }
 
 int main(void)
 {
     static uint8_t long_file[INPUT_MOST_BYTES + 1];
     grade(); /* so that the loader has bound what the library calls, which takes stack too */
-    printf("stack used by togyamiru_grade, in bytes\n");
+    printf("stack used by togyamiru_grade and togyamiru_rows, in bytes\n");
     input = (struct input){"long", "one byte too long, refused at once", long_file, sizeof long_file};
-    measure();
+    int within = measure();
     input = make_judged_type();
-    measure();
+    within &= measure();
     for (unsigned i = 0; i < INPUTS_ALONE; i++) {
         input = make_input(i);
-        measure();
+        within &= measure();
     }
-    return 0;
+    return !within;
 }

@@ -1,24 +1,12 @@
-/* The promises on lent memory, tried from C: exact, longer and shorter buffers, filled with a pattern before each call. */
+/* The promises of togyamiru_grade on lent memory, tried from C: exact, longer and shorter buffers, filled with a pattern before each call. */
+#include "files.h"
 #include "togyamiru.h"
 #include <stdio.h>
 
-enum { MOST_WORDS = TOGYAMIRU_WORDS_A_FAULT * TOGYAMIRU_MOST_FAULTS, SPARE = 64, MOST_FILE = 4096 };
+enum { MOST_WORDS = TOGYAMIRU_WORDS_A_FAULT * TOGYAMIRU_MOST_FAULTS, SPARE = 64 };
 
 static uint64_t matrix[MOST_WORDS + SPARE];
 static uint16_t classes[TOGYAMIRU_MOST_FAULTS + SPARE];
-static uint8_t file[MOST_FILE];
-static size_t length;
-static int passed, failed;
-
-static void expect(int holds, const char *what)
-{
-    if (holds) {
-        passed++;
-        return;
-    }
-    failed++;
-    printf("failed: %s\n", what);
-}
 
 static uint64_t word_before(size_t i)
 {
@@ -28,47 +16,6 @@ static uint64_t word_before(size_t i)
 static uint16_t class_before(size_t i)
 {
     return (uint16_t)(0xC000u + i);
-}
-
-/* Puts one field behind those that the file has. */
-static void field(uint8_t tag, size_t count, const uint8_t *body)
-{
-    file[length++] = tag;
-    file[length++] = (uint8_t)(count / 256);
-    file[length++] = (uint8_t)(count % 256);
-    for (size_t i = 0; i < count; i++)
-        file[length++] = body[i];
-}
-
-/* One input and the inverter of the scope paper, as far as the instances. */
-static void begin(void)
-{
-    length = 0;
-    field(1, 2, (const uint8_t[]){0, 1});
-    field(2, 3, (const uint8_t[]){2, 2, 1});
-    field(3, 3, (const uint8_t[]){1, 2, 0});
-    field(3, 3, (const uint8_t[]){0, 2, 0});
-}
-
-/* The 42 bytes of the scope paper. */
-static void inverter(void)
-{
-    begin();
-    field(5, 4, (const uint8_t[]){1, 255, 0, 1});
-    field(6, 1, (const uint8_t *)"0");
-    field(6, 1, (const uint8_t *)"1");
-    field(6, 1, (const uint8_t *)"X");
-}
-
-/* 128 inverters of a list of 16: 8 times the bridge between ground and output, 8 times that between supply and output. Under 0 the first 8 are marked. */
-static void full(void)
-{
-    begin();
-    for (int i = 0; i < 16; i++)
-        field(4, 4, (const uint8_t[]){1, 0, i / 8, 2});
-    for (int i = 0; i < 128; i++)
-        field(5, 4, (const uint8_t[]){1, 1, 0, 1});
-    field(6, 1, (const uint8_t *)"0");
 }
 
 /* Grades the file with so many words and entries lent, both filled with the pattern. */
@@ -118,6 +65,23 @@ static int inverter_rows(void)
             return 0;
         if (matrix[4 * r + 1] || matrix[4 * r + 2] || matrix[4 * r + 3])
             return 0;
+        for (size_t v = 1; v <= 256; v++)
+            if (togyamiru_marked(matrix, r, v) != (v <= 3 && rows[r] >> (v - 1) & 1))
+                return 0;
+    }
+    return 1;
+}
+
+/* A mark alone in the middle one of three rows is read under its vector, and under no other. */
+static int each_cell(void)
+{
+    const uint64_t ones = ~(uint64_t)0;
+    for (size_t v = 1; v <= 256; v++) {
+        uint64_t words[12] = {ones, ones, ones, ones, 0, 0, 0, 0, ones, ones, ones, ones};
+        words[4 + (v - 1) / 64] = (uint64_t)1 << (v - 1) % 64;
+        for (size_t u = 1; u <= 256; u++)
+            if (togyamiru_marked(words, 1, u) != (u == v))
+                return 0;
     }
     return 1;
 }
@@ -186,9 +150,12 @@ static void test_refusals(void)
 
 int main(void)
 {
+    expect(each_cell(), "each cell of a row is read where its mark stands");
     test_inverter();
     test_full();
     test_refusals();
+    test_rows();
+    test_words();
     printf("%d passed, %d failed\n", passed, failed);
     return failed != 0;
 }

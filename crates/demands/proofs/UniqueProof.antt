@@ -17,6 +17,7 @@ use Rattle.grading.specs.declared.Answer.{Answer}
 use Rattle.text.specs.Given.{LineGiven}
 use Rattle.text.proofs.PieceLaws.{one-piece}
 use Rattle.togyamiru.specs.Entry.{EntryMeets}
+use Rattle.togyamiru.proofs.RowsLaws.{rows-once}
 use Rattle.demands.specs.Unique.{Unique}
 use Rattle.modules.proofs.TypesOnce.{types-once}
 use Rattle.bridges.proofs.BridgesOnce.{bridges-once}
@@ -203,5 +204,9 @@ unique = record {
   togyamiru-grade = record {
     asks-nothing = λ κs a. tt;
     one-outcome = λ κs a asked one other p q. let same = entry-once p q in both refl (λ i. (tt, (same .1 i, (same .2 i, (same .0 i, tt)))));
+  };
+  togyamiru-rows = record {
+    asks-nothing = λ κs a. tt;
+    one-outcome = λ κs a asked one other p q. let same = rows-once _ _ _ _ _ _ p q in both refl (λ i. (tt, (same .1 i, (same .0 i, tt))));
   };
 }

@@ -64,6 +64,7 @@ use Rattle.listing.proofs.show_piece as listing-show-piece
 use Rattle.files.proofs.input.unread as files-unread
 use Rattle.files.proofs.output.nothing as files-nothing
 use Rattle.togyamiru.proofs.togyamiru_grade as togyamiru-grade
+use Rattle.togyamiru.proofs.togyamiru_rows as togyamiru-rows
 
 abbrev pub OneOutcome : (F : Ended) → AskedBy F → ToldBy F → Type 0
 OneOutcome F Asked Told =
@@ -150,3 +151,4 @@ pub record Unique : Type 2 where
   pub files-unread : Sole files-unread.ended files-unread.Reads.Asked files-unread.Reads.Learnt
   pub files-nothing : Sole files-nothing.ended files-nothing.Reads.Asked files-nothing.Reads.Learnt
   pub togyamiru-grade : Sole togyamiru-grade.ended togyamiru-grade.Reads.Asked togyamiru-grade.Reads.Learnt
+  pub togyamiru-rows : Sole togyamiru-rows.ended togyamiru-rows.Reads.Asked togyamiru-rows.Reads.Learnt

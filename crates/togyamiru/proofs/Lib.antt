@@ -1,2 +1,3 @@
--- The proofs of the entry for C and Rust.
+-- The proofs of the entries for C and Rust.
 pub mod Numbers
+pub mod RowsLaws

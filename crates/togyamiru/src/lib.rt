@@ -1,9 +1,12 @@
-// The grader for programs in C and Rust: one function, whose arguments are numbers, and slices as a pointer and a length (include/togyamiru.h).
-use grader::grade::grade;
+// The grader for programs in C and Rust: two functions, whose arguments are numbers, and slices as a pointer and a length (include/togyamiru.h).
+mod answering;
+
+use crate::answering::answer_to;
 use grading::answers::counts_of;
 use grading::answers::number_of;
 use grading::answers::place_of;
 ghost use Rattle.togyamiru.specs.Entry.{EntryPromise};
+ghost use Rattle.togyamiru.specs.RowsEntry.{RowsPromise};
 
 // Grades a file into lent buffers. The answer is six numbers: the refusal's number and its place, 0 and 0 where there is none, and the counts of vectors, faults, classes and found.
 #[no_mangle]
@@ -15,7 +18,8 @@ pub extern "C" fn togyamiru_grade(
 )
     ensures { λ _. ⌜ EntryPromise (now (file .entry)) (now (matrix .entry)) (now (classes .entry)) (now (answer .exit)) (now (matrix .exit)) (now (classes .exit)) ⌝ }
 {
-    let given = grade(file, matrix, classes);
+    let mut rows = [0u32; 1];
+    let given = answer_to(file, false, &mut rows, matrix, classes);
     let counts = counts_of(given);
     *answer = [
         number_of(given) as u64,
@@ -24,5 +28,21 @@ pub extern "C" fn togyamiru_grade(
         counts.faults as u64,
         counts.classes as u64,
         counts.found as u64,
+    ];
+}
+
+// RowsAnswered the rows of a file in a lent buffer, a number each. The answer is three numbers: the refusal's number and its place, 0 and 0 where there is none, and the count of faults.
+#[no_mangle]
+pub extern "C" fn togyamiru_rows(file: &[u8], rows: &mut [u32], answer: &mut [u64; 3])
+    ensures { λ _. ⌜ RowsPromise (now (file .entry)) (now (rows .entry)) (now (answer .exit)) (now (rows .exit)) ⌝ }
+{
+    let mut matrix = [0u64; 1];
+    let mut classes = [0u16; 1];
+    let given = answer_to(file, true, rows, &mut matrix, &mut classes);
+    let counts = counts_of(given);
+    *answer = [
+        number_of(given) as u64,
+        place_of(given) as u64,
+        counts.faults as u64,
     ];
 }

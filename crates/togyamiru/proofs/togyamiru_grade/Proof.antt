@@ -1,11 +1,15 @@
--- `togyamiru::togyamiru_grade` meets its contract: the numbers of the answer in their order, and both buffers as `grade` leaves them. Assumes nothing.
+-- `togyamiru::togyamiru_grade` meets its contract: the numbers of the answer in their order, and both buffers as grading leaves them. Assumes nothing.
+use mathlib.Core.Path.{refl}
 use borrow.Author.Needs.{needs}
 use Rattle.togyamiru.proofs.Numbers.{six-numbers}
 use Rattle.togyamiru.proofs.togyamiru_grade.Statement.{statement}
 use Rattle.togyamiru.proofs.togyamiru_grade.Tie as tie
 
-grade-requires : tie.Need-grade-requires
-grade-requires c κs = search needs
+slice-aggregate-answer-to : tie.Need-slice-aggregate-answer-to
+slice-aggregate-answer-to c = search needs
+
+answer-to-requires : tie.Need-answer-to-requires
+answer-to-requires c κs = search needs
 
 counts-of-requires : tie.Need-counts-of-requires
 counts-of-requires c κs = search needs
@@ -13,8 +17,8 @@ counts-of-requires c κs = search needs
 number-of-requires : tie.Need-number-of-requires
 number-of-requires c κs = search needs
 
-cast-t12 : tie.Need-cast-t12
-cast-t12 c = search needs
+cast-t15 : tie.Need-cast-t15
+cast-t15 c = search needs
 
 place-of-requires : tie.Need-place-of-requires
 place-of-requires c κs = search needs
@@ -29,17 +33,18 @@ returns : tie.Need-returns
 returns c =
     let numbered = c .before .before in
     let counted = numbered .before in
-    let graded = counted .before .before .before .before .before in
-    six-numbers _ _ _ _ _ _ _ _ (counted .counts-of .result) (graded .grade .ensures) (numbered .number-of .ensures) (c .before .place-of .ensures) (counted .counts-of .ensures)
+    let answered = counted .before .before .before .before .before .before in
+    six-numbers _ _ _ _ _ _ _ _ (counted .counts-of .result) (answered .answer-to .ensures .1 refl) (numbered .number-of .ensures) (c .before .place-of .ensures) (counted .counts-of .ensures)
 
 pub togyamiru-grade-spec : {M : Type 1} → statement M
 togyamiru-grade-spec =
     tie.close
     (tie.spec
-    grade-requires
+    slice-aggregate-answer-to
+    answer-to-requires
     counts-of-requires
     number-of-requires
-    cast-t12
+    cast-t15
     place-of-requires
     same-length
     same-length-2

@@ -24,7 +24,7 @@ use Rattle.demands.specs.Calls.{Call, isGraded, Refuses, cellAt, classAt
 use Rattle.demands.specs.One.{bufferTests, testsFrom, tableOf, passed}
 use Rattle.demands.specs.Two.{vectorOf, rowAt, MatrixCell, AlikeButVectors, EqualBridges, OneClass, Found}
 use Rattle.demands.specs.Three.{given, Refined}
-use Rattle.demands.specs.Files.{inverter, inverterUnder, inverterListed, nandListed, nandOfOne, oneListed, nand3Fields, split}
+use Rattle.demands.specs.Files.{inverter, inverterUnder, inverterListed, nandListed, nandOfOne, oneListed, nand3Fields, splitRails}
 use Rattle.demands.specs.Graders.{Grader, called}
 use Rattle.demands.specs.Wrong.{marksAll, marksNever, leavesMatrix, firstWordOnly, inventsFound, sweepsOnce, onePlane}
 use Rattle.demands.specs.Wrong.{marksFloating, countsRows, spills, wraps, goesOn}
@@ -57,7 +57,7 @@ pub break-demand-one : BreakDemandOne
 unfolding wrong-computing toldBy isGraded bufferTests testsFrom tableOf passed Refuses refusalPlace
 break-demand-one = record {
   refuses-every = λ meets. meets inverter room entries .graded-when-none-applies .1 tt;
-  skips-nine = λ meets. meets split room entries .graded-when-none-applies .0 tt;
+  skips-nine = λ meets. meets splitRails room entries .graded-when-none-applies .0 tt;
   skips-fourteen = λ meets. meets (inverterUnder []) room entries .graded-when-none-applies .0 tt;
   clears-first = λ meets. apart 0 1 refl (ap (wordAt 0) (meets [] ones entries .refusal-keeps-the-matrix 14 0 (refl, refl)));
   writes-past = λ meets. apart 0 1 refl (ap (wordAt 0) (meets inverter ones entries (circuitOf inverter) refl tt .words));

@@ -21,12 +21,11 @@ use Rattle.grading.specs.declared.Answer.the-variants.{Graded, Refused, ShortMa
 use Rattle.grader.proofs.grade.grade as grade
 use Rattle.togyamiru.specs.Entry.{sixNumbers, EntryPromise}
 use Rattle.togyamiru.proofs.togyamiru_grade as togyamiru-grade
-use Rattle.demands.specs.Calls.{Call, Kept, GradedAs, Refuses, isGraded}
-use Rattle.demands.specs.One.{One, CanBeMet}
-use Rattle.demands.specs.Contracts.{ToldBy, RoutineTells, callOf, TwoWhereGraded, GradeIsKept, sixOf, EntryIsCall, EntryIsKept}
-use Rattle.demands.proofs.OneProof.{one-holds}
-use Rattle.demands.proofs.Cells.{cell-is-path}
-use Rattle.demands.proofs.ClassCounts.{classes-count-once}
+use Rattle.demands.specs.Calls.{Kept, Refuses, isGraded}
+use Rattle.demands.specs.One.{CanBeMet}
+use Rattle.demands.specs.Determined.{MeetsDemands}
+use Rattle.demands.specs.Contracts.{ToldBy, RoutineTells, callOf, GradeIsKept, sixOf, EntryIsCall, EntryIsKept}
+use Rattle.demands.proofs.Determines.{kept-meets}
 use Rattle.demands.proofs.RightProof.{promise-can-be-met}
 
 -- what follows from what is told of the code's runs is so of them
@@ -40,22 +39,14 @@ so-of-routine M routine F Told Follows follows tells 𝓤 H 𝓜 𝓖 𝓡 =
     (λ κs a g r ws. fact-mono 𝓤 (Told κs a r (atExit F κs a ws)) (Follows κs a r (atExit F κs a ws)) (follows κs a r (atExit F κs a ws)))
     (𝓡 .run routine) (routine-mono 𝓤 H 𝓜 𝓡 routine) (tells 𝓤 H 𝓜 𝓖 𝓡)
 
-two-where-graded : (call : Call) → Kept call → TwoWhereGraded call
-two-where-graded call kept c accepts graded =
-    let given : GradedAs call c = record { kept = kept; accepts = accepts; graded = graded } in
-    (cell-is-path call c given, classes-count-once call c given)
-
 pub grade-is-kept : GradeIsKept
 grade-is-kept = record {
   asks-nothing = λ κs a. tt;
   keeps = λ κs a r e kept. kept;
   routine-keeps = λ M. grade.Met.met;
-  routine-meets-one = λ M.
-      so-of-routine M grade.Symbol.routine grade.ended (λ κs a r e. Kept (callOf κs a r e)) (λ κs a r e. One (callOf κs a r e))
-      (λ κs a r e. one-holds (callOf κs a r e)) grade.Met.met;
-  routine-meets-two = λ M.
-      so-of-routine M grade.Symbol.routine grade.ended (λ κs a r e. Kept (callOf κs a r e)) (λ κs a r e. TwoWhereGraded (callOf κs a r e))
-      (λ κs a r e. two-where-graded (callOf κs a r e)) grade.Met.met;
+  routine-meets-demands = λ M.
+      so-of-routine M grade.Symbol.routine grade.ended (λ κs a r e. Kept (callOf κs a r e)) (λ κs a r e. MeetsDemands (callOf κs a r e))
+      (λ κs a r e. kept-meets (callOf κs a r e)) grade.Met.met;
 }
 
 -- six numbers in a row, with counts that are given whole
@@ -77,9 +68,10 @@ six-refused (Refused refusal) number place (n, p) = λ i. n i ∷ p i ∷ 0 ∷ 
 six-refused (ShortMatrix words) number place (n, p) = λ i. n i ∷ p i ∷ 0 ∷ 0 ∷ 0 ∷ 0 ∷ []
 six-refused (ShortClasses faults) number place (n, p) = λ i. n i ∷ p i ∷ 0 ∷ 0 ∷ 0 ∷ 0 ∷ []
 
-nothing-refused : (answer : Answer) → T (isGraded answer) → (numberOf answer ≡ 0) × (placeOf answer ≡ 0)
-unfolding isGraded numberOf placeOf
-nothing-refused (Graded counts) g = (refl, refl)
+nothing-refused : (answer : Answer) → T (isGraded answer) → let counts = countsOf answer in
+    sixOf answer ≡ 0 ∷ 0 ∷ counts .vectors ∷ counts .faults ∷ counts .classes ∷ counts .found ∷ []
+unfolding sixOf isGraded numberOf placeOf
+nothing-refused (Graded counts) g = refl
 nothing-refused (Refused refusal) g = absurd g
 nothing-refused (ShortMatrix words) g = absurd g
 nothing-refused (ShortClasses faults) g = absurd g
@@ -108,7 +100,7 @@ entry-is-call file matrix classes six matrix′ classes′ promise = go (promise
           to-classes = by .kept .classes-at-exit ∙ ap₂ classesAfterGrading same (by .of-classes) ∙ sym (promise .classes-at-exit);
           six-numbers = six-numbers;
           refusal-counts-nothing = λ number place r. six-numbers ∙ six-refused (by .call .answer) number place r;
-          grading-refuses-nothing = nothing-refused (by .call .answer);
+          grading-refuses-nothing = λ graded. six-numbers ∙ nothing-refused (by .call .answer) graded;
         }
 
 -- of the entry's arguments, and of what was lent, at exit

@@ -138,7 +138,7 @@ demands-leave-one-outcome one other words words′ =
 as-graded : (call : Call) → Kept call → (c : Circuit) → Accepts (call .file) c → T (isGraded (call .answer)) → GradedAs call c
 as-graded call kept c accepts g = record { kept = kept; accepts = accepts; graded = g }
 
-kept-meets : (call : Call) → Kept call → MeetsDemands call
+pub kept-meets : (call : Call) → Kept call → MeetsDemands call
 kept-meets call kept = record {
   one = one-holds call kept;
   cells = λ c e g. cell-is-path call c (as-graded call kept c e g);

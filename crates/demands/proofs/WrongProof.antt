@@ -9,7 +9,7 @@ use Rattle.switch.specs.Bridges.{nodes}
 use Rattle.grading.specs.Grading.{Counts, Grading, gradingOf, countsIn, numberIn, matrixAfter, classesAfterGrading}
 use Rattle.grading.specs.Promise as promise
 use Rattle.demands.specs.Calls.{isGraded}
-use Rattle.demands.specs.Files.{inverter, inverterUnder, inverterListed, nandListed, nandOfOne, oneListed, nand3Fields, split}
+use Rattle.demands.specs.Files.{inverter, inverterUnder, inverterListed, nandListed, nandOfOne, oneListed, nand3Fields, splitRails}
 use Rattle.demands.specs.Graders.{Grader, MeetsPromise}
 use Rattle.demands.specs.Wrong.{refusesEvery, without, readWithout, skips, marksAll, marksNever, leavesMatrix, firstWordOnly, inventsFound}
 use Rattle.demands.specs.Wrong.{labelMarked, markedBy, lowerNode, putIn, inNodeOrder, isAmong, handedOn, swept, sweepsOnce, isOne, unlike, onePlaneMarked, onePlane}
@@ -93,7 +93,7 @@ listedTwice = inverterListed (nodes 0 2 ∷ nodes 2 0 ∷ []) ("0" ∷ [])
 -- the rows of the inverter are 0-1, 0-2, 1-2, then node 0, 1, 2 with the label
 record Computed : Type 0 where
   refuses-every : NumberDiffers refusesEvery inverter
-  skips-9 : NumberDiffers (skips 9) split
+  skips-9 : NumberDiffers (skips 9) splitRails
   skips-14 : NumberDiffers (skips 14) (inverterUnder [])
   marks-all : WordDiffers marksAll inverter 4
   marks-never : WordDiffers marksNever inverter 0

@@ -1,4 +1,4 @@
--- What a line of the table of known results (specs/Known) can claim of a file's grading, its report or the buffers, and when a claim holds.
+-- What a line of the table of known results (specs/KnownResults) can claim of a file's grading, its report or the buffers, and when a claim holds.
 -- `joins`, by which a node floats and a cell is marked, decides `Joined` (switch, `JoinsDecides`).
 use Prim.Native.Nat.{ℕ, suc, _+_, _-_, _*_}
 use Prim.Native.String.{String}
@@ -37,8 +37,8 @@ abbrev pub wordOf : String → ℕ
 wordOf text = wordOfDigits (marksOfText text)
 
 -- the grading of a file with buffers that are long enough for any
-abbrev pub graded-whole : List ℕ → Grading
-graded-whole file = gradingOf file 8192 2048
+abbrev pub gradingInFull : List ℕ → Grading
+gradingInFull file = gradingOf file 8192 2048
 
 -- the marks of the row of a bridge, ends as written, in an instance: a digit for each vector. There are none where there is no such row
 unfoldable pub marksFrom : Circuit → List ℕ → ℕ → List Row → ℕ → Bridge → List ℕ
@@ -130,14 +130,14 @@ pub data Claim : Type 0 where
   reports : List ℕ → List String → Claim
 
 unfoldable pub Holds : Claim → Type 0
-Holds (reads file n bridge marks) = marksIn (graded-whole file) n bridge ≡ marksOfText marks
-Holds (floats file n m v) = floatsIn (graded-whole file) n m v ≡ true
-Holds (refuses file number place) = graded-whole file ≡ refused number place
+Holds (reads file n bridge marks) = marksIn (gradingInFull file) n bridge ≡ marksOfText marks
+Holds (floats file n m v) = floatsIn (gradingInFull file) n m v ≡ true
+Holds (refuses file number place) = gradingInFull file ≡ refused number place
 Holds (short file words entries number place) = refusalIn (gradingOf file words entries) ≡ (number, place)
-Holds (sizes file rows classes) = sizesIn (graded-whole file) ≡ (0, rows, classes)
-Holds (leaves file words) = wordsIn (graded-whole file) ≡ (0, words)
+Holds (sizes file rows classes) = sizesIn (gradingInFull file) ≡ (0, rows, classes)
+Holds (leaves file words) = wordsIn (gradingInFull file) ≡ (0, words)
 Holds (grades file size counts marks classes) =
-    wholeGrading file (graded-whole file)
+    wholeGrading file (gradingInFull file)
     ≡ record {
       size = size;
       number = 0;
@@ -146,7 +146,7 @@ Holds (grades file size counts marks classes) =
       classes = classes;
     }
 Holds (turns file matrix classes matrix′ classes′) = buffersAfter file matrix classes ≡ (matrix′, classes′)
-Holds (reports file lines) = reportOf (graded-whole file) ≡ bytesOfLines lines
+Holds (reports file lines) = reportOf (gradingInFull file) ≡ bytesOfLines lines
 
 infixr 40 _and_
 pub data AllHold : List Claim → Type 0 where

@@ -21,14 +21,12 @@ use denote.Ref.{now}
 use denote.Triple.Entry.{Args, Res}
 use denote.Triple.Clauses.{Ended, Lasts, AtExit, closing}
 use denote.Triple.Spec.{Meets}
-use Rattle.circuit.specs.Circuit.{Circuit}
 use Rattle.grading.specs.Promise.{numberOf, placeOf, countsOf}
 use Rattle.grading.specs.declared.Answer.{Answer}
 use Rattle.grader.proofs.grade.grade as grade
 use Rattle.togyamiru.proofs.togyamiru_grade as togyamiru-grade
-use Rattle.demands.specs.Calls.{Call, Kept, Accepts, Refuses, isGraded}
-use Rattle.demands.specs.One.{One}
-use Rattle.demands.specs.Two.{CellsTell, ClassesTell}
+use Rattle.demands.specs.Calls.{Call, Kept, Refuses, isGraded}
+use Rattle.demands.specs.Determined.{MeetsDemands}
 
 -- ---- any contract
 
@@ -66,17 +64,12 @@ callOf κs a r e = record {
   classes-after = now (e .1 .1 .0);
 }
 
--- demand 2, its cells and its classes, of a call that graded its file
-abbrev pub TwoWhereGraded : Call → Type 0
-TwoWhereGraded call = (c : Circuit) → Accepts (call .file) c → T (isGraded (call .answer)) → CellsTell call c × ClassesTell call c
-
 pub record GradeIsKept : Type 2 where
   pub asks-nothing : AsksNothing grade.ended grade.Reads.Asked
   pub keeps : (κs : Lfts 3) (a : Args grade.signature κs) (r : Answer) (e : AtExit grade.ended κs)
       → grade.Reads.Learnt κs a r e → Kept (callOf κs a r e)
   pub routine-keeps : (M : Type 1) → RoutineTells M grade.Symbol.routine grade.ended (λ κs a r e. Kept (callOf κs a r e))
-  pub routine-meets-one : (M : Type 1) → RoutineTells M grade.Symbol.routine grade.ended (λ κs a r e. One (callOf κs a r e))
-  pub routine-meets-two : (M : Type 1) → RoutineTells M grade.Symbol.routine grade.ended (λ κs a r e. TwoWhereGraded (callOf κs a r e))
+  pub routine-meets-demands : (M : Type 1) → RoutineTells M grade.Symbol.routine grade.ended (λ κs a r e. MeetsDemands (callOf κs a r e))
 
 -- ---- the entry for C
 
@@ -92,7 +85,7 @@ sixOf answer =
     ∷ []
 
 -- of what the entry was given, the six numbers, and both buffers as they are then: they are those of a call of `grade` that keeps its
--- promise, and a refusal counts nothing
+-- promise; a refusal counts nothing, and a grading has no number and no place
 pub record EntryIsCall (file matrix classes six matrix-after classes-after : List ℕ) : Type 0 where
   pub call : Call
   pub of-file : call .file ≡ file
@@ -103,7 +96,8 @@ pub record EntryIsCall (file matrix classes six matrix-after classes-after : Lis
   pub to-classes : call .classes-after ≡ classes-after
   pub six-numbers : six ≡ sixOf (call .answer)
   pub refusal-counts-nothing : (number place : ℕ) → Refuses (call .answer) number place → six ≡ number ∷ place ∷ 0 ∷ 0 ∷ 0 ∷ 0 ∷ []
-  pub grading-refuses-nothing : T (isGraded (call .answer)) → (numberOf (call .answer) ≡ 0) × (placeOf (call .answer) ≡ 0)
+  pub grading-refuses-nothing : T (isGraded (call .answer)) → let counts = countsOf (call .answer) in
+      six ≡ 0 ∷ 0 ∷ counts .vectors ∷ counts .faults ∷ counts .classes ∷ counts .found ∷ []
 
 pub record EntryIsKept : Type 2 where
   pub asks-nothing : AsksNothing togyamiru-grade.ended togyamiru-grade.Reads.Asked

@@ -1,5 +1,5 @@
 -- The demands and the promise of `grade` say the same of a call: one that keeps the promise meets them, and they leave one outcome only, so
--- that one that meets them keeps the promise. No mistake can hide between the two. The proofs are in proofs/Determines.
+-- that one that meets them keeps the promise. The proofs are in proofs/Determines.
 use Prim.Native.Nat.{ℕ, _^_, _<_}
 use mathlib.Core.Path.{_≡_}
 use mathlib.Core.Logic.{_↔_}

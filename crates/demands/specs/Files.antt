@@ -124,8 +124,8 @@ abbrev pub oneType : List ℕ → List ℕ
 oneType edges = oneUnder 2 (typeField 2 2 2 ++ edges) ("00" ∷ [])
 
 -- each rail hangs on a label of its own: not complementary
-abbrev pub split : List ℕ
-split = oneType (edgeField 1 2 (0 ∷ []) ++ edgeField 0 2 (1 ∷ []))
+abbrev pub splitRails : List ℕ
+splitRails = oneType (edgeField 1 2 (0 ∷ []) ++ edgeField 0 2 (1 ∷ []))
 
 -- inverters, one for each of these references
 abbrev pub invertersOf : List Reference → List ℕ

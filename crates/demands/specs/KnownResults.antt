@@ -8,7 +8,7 @@ use Rattle.switch.specs.Bridges.{nodes, input}
 use Rattle.circuit.specs.Circuit.{primary, outputOf, exhaustive, no-faults, list, joinLists}
 use Rattle.demands.specs.Files.{fieldBytes, inputsField, typeField, edgeField, instanceField, inverterFields, inverter, inverterUnder}
 use Rattle.demands.specs.Files.{inverterListed, inverterChoosing, nandUnder, norUnder, branches, inverterThenNand}
-use Rattle.demands.specs.Files.{nandOfOne, oneType, split, invertersOf, fourInstances, manyFaults}
+use Rattle.demands.specs.Files.{nandOfOne, oneType, splitRails, invertersOf, fourInstances, manyFaults}
 use Rattle.demands.specs.Claims.{Claim, reads, floats, refuses, short, sizes, leaves, grades, turns, reports, AllHold}
 
 -- ---- vectors
@@ -51,7 +51,7 @@ knownResults =
     ∷ reads branches 1 (input 1 3) "0011"
     ∷ reads branches 1 (input 2 3) "0110"
     -- P: h=2, o=2, k=2, edges 1-2 label 0 and 0-2 label 1: refusal 9. No edges: 9
-    ∷ refuses split 9 5
+    ∷ refuses splitRails 9 5
     ∷ refuses (oneType []) 9 5
     -- NAND with both references 1: 14 rows, 10 classes
     ∷ sizes (nandOfOne ("0" ∷ [])) 14 10

@@ -4,13 +4,12 @@ use mathlib.Core.Path.{_≡_, subst}
 use mathlib.Core.List.{List}
 use native.Mathlib.Omega.{arith}
 use lib.ListN.{length}
-use Rattle.text.specs.Pieces.{PieceGiven}
 use Rattle.text.specs.declared.Piece.{Piece}
 use Rattle.text.proofs.PieceLaws.{piece-some}
 use Rattle.grading.specs.Grading.{gradingOf}
 use Rattle.grading.specs.declared.Answer.{Answer}
 use Rattle.report.specs.Report.{reportLine, lineCount}
-use Rattle.report.specs.Promise.{OutcomeOf, ReportPiece}
+use Rattle.report.specs.Promise.{OutcomeOf, PieceOfReport, ReportPiece}
 use Rattle.report.proofs.ReportLaws.{lines-fit}
 use Rattle.grade.specs.Handing.{gradingOfFile}
 
@@ -25,16 +24,13 @@ pub record FileHeld (file : List ℕ) (answer : Answer) (codes matrix classes : 
 module _ (file : List ℕ) (from : ℕ) (buffer : List ℕ) (piece : Piece) (after : List ℕ) where
   -- a piece of the file's report
   abbrev pub PieceOfFile : Type 0
-  PieceOfFile = PieceGiven (reportLine (gradingOfFile file)) (lineCount (gradingOfFile file)) from buffer piece after
+  PieceOfFile = PieceOfReport (gradingOfFile file) from buffer piece after
 
   pub piece-of-file : (answer : Answer) (codes matrix classes : List ℕ) → FileHeld file answer codes matrix classes
       → ReportPiece answer codes matrix classes from buffer piece after → PieceOfFile
   piece-of-file answer codes matrix classes held given =
-      subst (λ (n : ℕ). PieceGiven (reportLine (gradingOf file 8192 n)) (lineCount (gradingOf file 8192 n)) from buffer piece after) (held .entries)
-      (subst
-      (λ (n : ℕ).
-      PieceGiven (reportLine (gradingOf file n (length (held .classes-before)))) (lineCount (gradingOf file n (length (held .classes-before)))) from buffer piece after)
-      (held .words)
+      subst (λ (n : ℕ). PieceOfReport (gradingOf file 8192 n) from buffer piece after) (held .entries)
+      (subst (λ (n : ℕ). PieceOfReport (gradingOf file n (length (held .classes-before))) from buffer piece after) (held .words)
       (given .of-report file (held .matrix-before) (held .classes-before) (held .outcome)))
 
   -- 512 bytes are room for each line, so that a piece is empty only past the last

@@ -65,6 +65,10 @@ unique = record {
     asks-nothing = λ κs a. tt;
     one-outcome = λ κs a asked one other p q. let same = given-once p q in both (same .0) (λ i. (tt, (same .1 i, tt)));
   };
+  text-refusal-line = record {
+    asks-nothing = λ κs a. tt;
+    one-outcome = λ κs a asked one other p q. let same = given-once p q in both (same .0) (λ i. (tt, (tt, (same .1 i, tt))));
+  };
   joining-complementary = record {
     Asked = λ κs a. EdgesGiven (a .1 .0) (a .1 .1 .0) (a .1 .1 .1 .0) (now (a .0));
     Told = λ κs a r s. r ≡ isComplementary (typeWith (a .1 .0) (a .1 .1 .0) (a .1 .1 .1 .0) (now (a .0)));
@@ -172,10 +176,6 @@ unique = record {
   report-first-line = record {
     asks-nothing = λ κs a. tt;
     one-outcome = λ κs a asked one other p q. let same = given-once p q in both (same .0) (λ i. (tt, (tt, (tt, (tt, (same .1 i, tt))))));
-  };
-  report-refusal-line = record {
-    asks-nothing = λ κs a. tt;
-    one-outcome = λ κs a asked one other p q. let same = given-once p q in both (same .0) (λ i. (tt, (tt, (same .1 i, tt))));
   };
   report-row-line = record {
     asks-nothing = λ κs a. tt;

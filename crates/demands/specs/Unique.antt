@@ -20,6 +20,7 @@ use Rattle.text.proofs.put_byte as text-put-byte
 use Rattle.text.proofs.put_bytes as text-put-bytes
 use Rattle.text.proofs.put_number as text-put-number
 use Rattle.text.proofs.give as text-give
+use Rattle.text.proofs.refusal_line as text-refusal-line
 use Rattle.joining.proofs.complementary.complementary as joining-complementary
 use Rattle.joining.proofs.complementary.check_type as joining-check-type
 use Rattle.joining.proofs.rails.joining as joining-joining
@@ -57,7 +58,6 @@ use Rattle.classes.proofs.class_instance as classes-class-instance
 use Rattle.grader.proofs.grade.grade_read as grader-grade-read
 use Rattle.grader.proofs.grade.grade as grader-grade
 use Rattle.report.proofs.first_line as report-first-line
-use Rattle.report.proofs.refusal_line as report-refusal-line
 use Rattle.report.proofs.row_line as report-row-line
 use Rattle.report.proofs.report_piece as report-report-piece
 use Rattle.listing.proofs.show_piece as listing-show-piece
@@ -105,6 +105,7 @@ pub record Unique : Type 2 where
   pub text-put-bytes : SoleWhereMet text-put-bytes.ended text-put-bytes.Reads.Asked text-put-bytes.Reads.Learnt
   pub text-put-number : SoleWhereMet text-put-number.ended text-put-number.Reads.Asked text-put-number.Reads.Learnt
   pub text-give : Sole text-give.ended text-give.Reads.Asked text-give.Reads.Learnt
+  pub text-refusal-line : Sole text-refusal-line.ended text-refusal-line.Reads.Asked text-refusal-line.Reads.Learnt
   pub joining-complementary : SoleByClauses joining-complementary.ended (λ M. joining-complementary.clauses {M = M})
   pub joining-check-type : SoleWhereMet joining-check-type.ended joining-check-type.Reads.Asked joining-check-type.Reads.Learnt
   pub joining-joining : SoleByClauses joining-joining.ended (λ M. joining-joining.clauses {M = M})
@@ -144,7 +145,6 @@ pub record Unique : Type 2 where
   pub grader-grade-read : SoleWhereMet grader-grade-read.ended grader-grade-read.Reads.Asked grader-grade-read.Reads.Learnt
   pub grader-grade : Sole grader-grade.ended grader-grade.Reads.Asked grader-grade.Reads.Learnt
   pub report-first-line : Sole report-first-line.ended report-first-line.Reads.Asked report-first-line.Reads.Learnt
-  pub report-refusal-line : Sole report-refusal-line.ended report-refusal-line.Reads.Asked report-refusal-line.Reads.Learnt
   pub report-row-line : Sole report-row-line.ended report-row-line.Reads.Asked report-row-line.Reads.Learnt
   pub report-report-piece : SoleWhereMet report-report-piece.ended report-report-piece.Reads.Asked report-report-piece.Reads.Learnt
   pub listing-show-piece : Sole listing-show-piece.ended listing-show-piece.Reads.Asked listing-show-piece.Reads.Learnt

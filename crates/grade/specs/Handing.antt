@@ -1,9 +1,9 @@
 -- What the program hands over of a file's report: lines one behind the other, each the report's, from the first to the last.
-use Prim.Native.Nat.{ℕ, _-_, _≤_}
+use Prim.Native.Nat.{ℕ}
 use mathlib.Core.Path.{_≡_}
 use mathlib.Core.List.{List}
-use lib.ListN.{length, take}
-use Rattle.text.specs.Pieces.{textFrom}
+use lib.ListN.{length}
+use Rattle.text.specs.Handing.{TextHandsOn, TextHanded}
 use Rattle.text.specs.declared.Piece.{Piece}
 use Rattle.circuit.specs.Circuit.{Circuit}
 use Rattle.circuit.specs.Records.{padded}
@@ -20,14 +20,12 @@ abbrev pub gradingOfFile : List ℕ → Grading
 gradingOfFile file = gradingOf file 8192 2048
 
 -- the front of a buffer is exactly the lines of a file's report from one on, up to the piece's end
-pub record HandsOn (file : List ℕ) (lines : ℕ) (piece : Piece) (out : List ℕ) : Type 0 where
-  pub forth : lines ≤ piece .next
-  pub within : piece .count ≤ length out
-  pub text-is : take (piece .count) out ≡ textFrom (reportLine (gradingOfFile file)) lines (piece .next - lines)
+abbrev pub HandsOn : List ℕ → ℕ → Piece → List ℕ → Type 0
+HandsOn file lines piece out = TextHandsOn (reportLine (gradingOfFile file)) lines piece out
 
 -- so many lines are all of the report
 abbrev pub AllHanded : List ℕ → ℕ → Type 0
-AllHanded file lines = lines ≡ lineCount (gradingOfFile file)
+AllHanded file lines = TextHanded (lineCount (gradingOfFile file)) lines
 
 -- the rows, as numbers, of the circuit that was read
 pub record RowsRead (reading : ReadingRecord) (codes : List ℕ) : Type 0 where

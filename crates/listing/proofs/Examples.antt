@@ -7,9 +7,9 @@ use Rattle.switch.specs.Conduction.{at0, at1, atX}
 use Rattle.switch.specs.Bridges.{nodes, input}
 use Rattle.text.specs.Ascii.{bytesOf}
 use Rattle.text.specs.Decimal.{digitsOf, lengthIn, decimal}
+use Rattle.text.specs.Lines.{refusalLine}
 use Rattle.circuit.specs.Circuit.{Circuit, primary, outputOf, exhaustive, no-faults, list, joinLists}
 use Rattle.circuit.specs.Reading.{accepted, refusal}
-use Rattle.report.specs.Lines.{refusalLine}
 use Rattle.listing.specs.Lines.{spaced, inputsLine, typeLine, edgeLine, kindText, endsText, bridgeLine, choiceText, referenceText, instanceLine, valueLetter, vectorLine}
 use Rattle.listing.specs.Listing.{numberedLines, typeLines, allTypeLines, circuitLines, listingOf}
 

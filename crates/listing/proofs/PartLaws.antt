@@ -14,10 +14,10 @@ use Rattle.switch.specs.Conduction.{Value, Edge}
 use Rattle.switch.specs.Modules.{ModuleType}
 use Rattle.switch.specs.Records.{typeOf}
 use Rattle.switch.specs.declared.ModuleType.{ModuleType as TypeRecord}
+use Rattle.text.specs.Lines.{refusalLine}
 use Rattle.circuit.proofs.CircuitLaws.{getD-any}
 use Rattle.circuit.specs.Circuit.{Circuit, Instance, Listed, numbered, noType}
 use Rattle.circuit.specs.Reading.{Reading, accepted, refusal}
-use Rattle.report.specs.Lines.{refusalLine}
 use Rattle.listing.specs.Lines.{inputsLine, typeLine, edgeLine, bridgeLine, instanceLine, vectorLine}
 use Rattle.listing.specs.Listing.{numberedLines, typeLines, allTypeLines, circuitLines, listingOf}
 use Rattle.listing.specs.Puts.{Puts, PutsLine}

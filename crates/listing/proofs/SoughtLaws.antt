@@ -11,13 +11,13 @@ use lib.Dec.{leb}
 use lib.ListN.{length, getD, take, drop, length-append, length-drop, List·getD-eq-default}
 use Rattle.words.specs.Written.{written}
 use Rattle.words.proofs.WrittenLaws.{written-nothing, take-written}
+use Rattle.text.specs.Lines.{refusalLine}
 use Rattle.text.specs.Given.{LineGiven}
 use Rattle.text.specs.Pieces.{lineIn}
 use Rattle.text.proofs.GrowingLine.{at-most-21}
 use Rattle.circuit.specs.Reading.{Reading, refusal, unless}
 use Rattle.circuit.specs.Refusals.{numberedVerdict}
 use Rattle.circuit.specs.Verdicts.{isRefused}
-use Rattle.report.specs.Lines.{refusalLine}
 use Rattle.listing.specs.Puts.{Puts, PutsLine}
 use Rattle.listing.specs.declared.parts.Part.{Part}
 use Rattle.listing.proofs.PartLaws.{Filled, not-here, is-here, here-is, behind-is}

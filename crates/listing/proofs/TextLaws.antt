@@ -11,13 +11,13 @@ use Rattle.words.specs.Tables.{table}
 use Rattle.words.proofs.Tables.{length-table, map-table}
 use Rattle.text.specs.Ascii.{bytesOf}
 use Rattle.text.specs.Decimal.{decimal, digitsOf, lengthIn}
+use Rattle.text.specs.Lines.{newline}
 use Rattle.text.proofs.GrowingLine.{at-most-21}
 use Rattle.switch.specs.Records.{valueOf}
 use Rattle.circuit.specs.Circuit.{Choice, exhaustive, no-faults, list, Reference, primary, outputOf, joinLists}
 use Rattle.circuit.specs.declared.Bridge.{Bridge as BridgeRecord}
 use Rattle.circuit.specs.declared.Reference.{Reference as ReferenceRecord}
 use Rattle.circuit.specs.declared.Vector.{Vector as VectorRecord}
-use Rattle.report.specs.Lines.{newline}
 use Rattle.listing.specs.Lines.{spaced, kindText, endsText, bridgeLine, choiceText, referenceText, valueLetter}
 use Rattle.listing.specs.Told.{bridgeTold, listedTold, choiceTold, referenceTold, vectorTold}
 use Rattle.listing.proofs.Putting.{spaced-short}

@@ -3,11 +3,11 @@ use Prim.Native.Nat.{ℕ, zero, suc}
 use mathlib.Core.List.{List, _++_, map}
 use Rattle.text.specs.Ascii.{bytesOf}
 use Rattle.text.specs.Decimal.{decimal}
+use Rattle.text.specs.Lines.{space, newline}
 use Rattle.switch.specs.Conduction.{Value, at0, at1, atX, Edge}
 use Rattle.switch.specs.Modules.{ModuleType}
 use Rattle.switch.specs.Bridges.{Bridge, nodes, input}
 use Rattle.circuit.specs.Circuit.{Reference, primary, outputOf, Choice, exhaustive, no-faults, list, Instance, Listed, joinLists}
-use Rattle.report.specs.Lines.{space, newline}
 
 -- a number behind a space
 unfoldable pub spaced : ℕ → List ℕ

@@ -2,9 +2,9 @@
 use Prim.Native.Nat.{ℕ, suc}
 use mathlib.Core.List.{List, [], _∷_, _++_, map}
 use Rattle.switch.specs.Modules.{ModuleType}
+use Rattle.text.specs.Lines.{refusalLine}
 use Rattle.circuit.specs.Circuit.{Circuit}
 use Rattle.circuit.specs.Reading.{Reading, accepted, refusal}
-use Rattle.report.specs.Lines.{refusalLine}
 use Rattle.listing.specs.Lines.{inputsLine, typeLine, edgeLine, bridgeLine, instanceLine, vectorLine}
 
 -- a line for each thing of a list, with its number: `first`, and so on upward

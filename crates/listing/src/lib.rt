@@ -22,9 +22,9 @@ use circuit::Reading;
 use circuit::refusal::number_of;
 use circuit::refusal::place_of;
 use circuit::refusal::refuses;
-use report::refusal_line;
 use text::Piece;
 use text::give;
+use text::refusal_line;
 
 // Line n of a circuit at the front of a buffer; the answer is its length, 0 where the circuit has no such line. There are at most 1681.
 fn circuit_line(line: &mut [u8], c: Circuit, n: usize) -> usize

@@ -8,7 +8,8 @@ use Rattle.words.specs.Rows.{markAt, marksOf, firstMarkOf}
 use Rattle.words.specs.Tables.{table}
 use Rattle.text.specs.Ascii.{bytesOf}
 use Rattle.text.specs.Decimal.{digitsOf, lengthIn, decimal}
-use Rattle.report.specs.Lines.{firstLine, kindLetter, digitsOfMarks, rowLine, refusalLine}
+use Rattle.text.specs.Lines.{refusalLine}
+use Rattle.report.specs.Lines.{firstLine, kindLetter, digitsOfMarks, rowLine}
 
 -- three vectors' marks stand in the row's first word, the first vector's in bit 0
 rowSays : ℕ → ℕ → ℕ → ℕ → ℕ → ℕ → String → Type 0

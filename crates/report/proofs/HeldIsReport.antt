@@ -4,6 +4,7 @@ use mathlib.Core.Path.{_≡_, refl, sym, ap, subst, _∙_}
 use mathlib.Core.List.{List, [], _∷_, _++_}
 use native.Mathlib.Omega.{arith}
 use lib.ListN.{length, getD, drop, length-append, List·getD-append}
+use Rattle.text.specs.Lines.{refusalLine}
 use Rattle.text.specs.Pieces.{lineIn, PieceGiven}
 use Rattle.text.specs.declared.Piece.{Piece}
 use Rattle.text.proofs.PieceLaws.{same-piece}
@@ -31,7 +32,7 @@ use Rattle.grading.proofs.MatrixLaws.{length-matrix, row-long, word-in}
 use Rattle.grading.proofs.RowLaws.{noRow, few-rows}
 use Rattle.grading.proofs.ClassNumbering.{class-numbers}
 use Rattle.rows.specs.Model.{codesOf}
-use Rattle.report.specs.Lines.{rowLine, refusalLine}
+use Rattle.report.specs.Lines.{rowLine}
 use Rattle.report.specs.Report.{kindOf, firstEnd, secondEnd, lineOf, rowLines, countsLine, reportLines, reportLine, lineCount}
 use Rattle.report.specs.Held.{headOf, headLine, wordsAt, gradedLine, toldLine, heldLine, heldCount}
 use Rattle.report.specs.Promise.{OutcomeOf, ReportPiece, RowsAreHeld}

@@ -4,12 +4,13 @@ use mathlib.Core.Path.{_≡_, refl, sym, ap, subst, _∙_}
 use mathlib.Core.List.{List}
 use native.Mathlib.Omega.{arith}
 use lib.ListN.{length, getD}
+use Rattle.text.specs.Lines.{refusalLine}
 use Rattle.text.specs.Given.{LineGiven}
 use Rattle.grading.specs.Grading.{Counts}
 use Rattle.grading.specs.Promise.{numberOf, placeOf, countsMeant, countsOf}
 use Rattle.grading.specs.declared.Counts.{Counts as CountsRecord}
 use Rattle.grading.specs.declared.Answer.{Answer}
-use Rattle.report.specs.Lines.{firstLine, refusalLine}
+use Rattle.report.specs.Lines.{firstLine}
 use Rattle.report.specs.Report.{countsLine}
 use Rattle.report.specs.declared.RowHead.{RowHead}
 use Rattle.report.specs.Held.{headOf, headLine, wordsAt, gradedLine, toldLine, heldLine}

@@ -5,9 +5,10 @@ use native.Mathlib.Omega.{arith}
 use lib.ListN.{length, length-append}
 use Rattle.words.specs.Rows.{marksOf, firstMarkOf}
 use Rattle.text.specs.Decimal.{decimal}
+use Rattle.text.specs.Lines.{space, newline, refusedWord, atWord, refusalLine}
 use Rattle.text.proofs.GrowingLine.{at-most-21}
-use Rattle.report.specs.Lines.{vectorsWord, faultsWord, classesWord, foundWord, refusedWord, atWord, space, newline}
-use Rattle.report.specs.Lines.{firstLine, kindLetter, digitsOfMarks, rowLine, refusalLine}
+use Rattle.report.specs.Lines.{vectorsWord, faultsWord, classesWord, foundWord}
+use Rattle.report.specs.Lines.{firstLine, kindLetter, digitsOfMarks, rowLine}
 use Rattle.report.proofs.MarkDigits.{length-marks}
 
 record AtMost (most : ℕ) (line : List ℕ) : Type 0 where

@@ -3,10 +3,11 @@
 use Prim.Native.Nat.{ℕ, zero, suc, _+_, _*_, _/_, _%_, _≤_, min}
 use mathlib.Core.List.{List, [], _∷_}
 use lib.ListN.{length, getD}
+use Rattle.text.specs.Lines.{refusalLine}
 use Rattle.grading.specs.Grading.{Counts}
 use Rattle.grading.specs.Promise.{numberOf, placeOf, countsOf}
 use Rattle.grading.specs.declared.Answer.{Answer}
-use Rattle.report.specs.Lines.{rowLine, refusalLine}
+use Rattle.report.specs.Lines.{rowLine}
 use Rattle.report.specs.Report.{countsLine}
 use Rattle.report.specs.declared.RowHead.{RowHead}
 

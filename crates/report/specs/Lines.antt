@@ -1,11 +1,12 @@
 -- 01, "The report": fields are separated by one space, lines end with byte 10. First line: vectors, faults, classes and found, each word
 -- before its number. Row: instance; n for kind 0 or i for kind 1; first; second; class; one digit for each vector, 1 for a mark; number of
--- marks; first marking vector or 0. A refusal: refused N at B.
+-- marks; first marking vector or 0. A refusal's line is in text/specs/Lines.
 use Prim.Native.Nat.{ℕ, zero, suc, _+_}
 use mathlib.Core.List.{List, [], _∷_, _++_}
 use Rattle.words.specs.Tables.{table}
 use Rattle.words.specs.Rows.{markAt, marksOf, firstMarkOf}
 use Rattle.text.specs.Decimal.{decimal}
+use Rattle.text.specs.Lines.{space, newline}
 
 -- the words of the report, with the space behind each
 abbrev pub vectorsWord : List ℕ
@@ -19,18 +20,6 @@ classesWord = 99 ∷ 108 ∷ 97 ∷ 115 ∷ 115 ∷ 101 ∷ 115 ∷ 32 ∷ []
 
 abbrev pub foundWord : List ℕ
 foundWord = 102 ∷ 111 ∷ 117 ∷ 110 ∷ 100 ∷ 32 ∷ []
-
-abbrev pub refusedWord : List ℕ
-refusedWord = 114 ∷ 101 ∷ 102 ∷ 117 ∷ 115 ∷ 101 ∷ 100 ∷ 32 ∷ []
-
-abbrev pub atWord : List ℕ
-atWord = 97 ∷ 116 ∷ 32 ∷ []
-
-abbrev pub space : List ℕ
-space = 32 ∷ []
-
-abbrev pub newline : List ℕ
-newline = 10 ∷ []
 
 unfoldable pub firstLine : ℕ → ℕ → ℕ → ℕ → List ℕ
 firstLine vectors faults classes found =
@@ -51,6 +40,3 @@ rowLine instance kind first second class vectors row =
     decimal instance ++ space ++ (kindLetter kind ∷ []) ++ space ++ decimal first ++ space ++ decimal second ++ space ++ decimal class
     ++ space
     ++ digitsOfMarks vectors row ++ space ++ decimal (marksOf row) ++ space ++ decimal (firstMarkOf row) ++ newline
-
-unfoldable pub refusalLine : ℕ → ℕ → List ℕ
-refusalLine number place = refusedWord ++ decimal number ++ space ++ atWord ++ decimal place ++ newline

@@ -3,13 +3,14 @@
 use Prim.Native.Nat.{ℕ}
 use mathlib.Core.List.{List, [], _∷_}
 use lib.ListN.{length}
+use Rattle.text.specs.Lines.{refusalLine}
 use Rattle.text.specs.Pieces.{lineIn}
 use Rattle.switch.specs.Bridges.{Bridge, nodes, input}
 use Rattle.circuit.specs.Circuit.{Circuit, joinLists}
 use Rattle.grading.specs.Rows.{Row, rowsOf, rowWords}
 use Rattle.grading.specs.Classes.{classesOf}
 use Rattle.grading.specs.Grading.{Grading, graded, refused, Counts, countsOfCircuit}
-use Rattle.report.specs.Lines.{firstLine, rowLine, refusalLine}
+use Rattle.report.specs.Lines.{firstLine, rowLine}
 
 unfoldable pub kindOf : Bridge → ℕ
 kindOf (nodes a b) = 0

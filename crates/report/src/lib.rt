@@ -9,13 +9,14 @@ use text::give;
 use text::put_byte;
 use text::put_bytes;
 use text::put_number;
+use text::refusal_line;
 use words::first_mark;
 use words::marks;
 ghost use mathlib.Core.Path.{_≡_};
 ghost use Prim.Native.Nat.{_+_, _*_, _≤_, _<_, min};
 ghost use lib.ListN.{length, getD};
 ghost use Rattle.words.specs.Written.{written};
-ghost use Rattle.report.specs.Lines.{firstLine, kindLetter, digitsOfMarks, rowLine, refusalLine};
+ghost use Rattle.report.specs.Lines.{firstLine, kindLetter, digitsOfMarks, rowLine};
 ghost use Rattle.report.specs.Held.{headOf, headLine, wordsAt, heldLine, RowsHeld};
 ghost use Rattle.report.specs.Promise.{ReportPiece};
 ghost use Rattle.grading.specs.Promise.{countsOf};
@@ -48,18 +49,6 @@ pub fn first_line(
     at = put_number(&mut line, at, classes as u64);
     at = put_bytes(&mut line, at, b" found ");
     at = put_number(&mut line, at, found as u64);
-    at = put_byte(&mut line, at, 10);
-    give(&line[..at], out)
-}
-
-pub fn refusal_line(number: u32, place: usize, out: &mut [u8]) -> usize
-    ensures { λ r. ⌜ LineGiven (refusalLine number place) (now (out .entry)) r (now (out .exit)) ⌝ }
-{
-    let mut line = [0u8; 64];
-    let mut at = put_bytes(&mut line, 0, b"refused ");
-    at = put_number(&mut line, at, number as u64);
-    at = put_bytes(&mut line, at, b" at ");
-    at = put_number(&mut line, at, place as u64);
     at = put_byte(&mut line, at, 10);
     give(&line[..at], out)
 }

@@ -1,10 +1,11 @@
-// Text into a lent buffer: bytes and decimal numbers, each at a place, with the place behind it as the answer; and a line into the buffer's front.
+// Text into a lent buffer: bytes and decimal numbers, each at a place, with the place behind it as the answer; and a line into the buffer's front, any or a refusal's.
 ghost use mathlib.Core.Path.{_≡_};
 ghost use mathlib.Core.List.{[], _∷_};
 ghost use Prim.Native.Nat.{_+_, _<_, _≤_};
 ghost use lib.ListN.{length};
 ghost use Rattle.text.specs.Decimal.{lengthIn, decimal};
 ghost use Rattle.text.specs.Given.{LineGiven};
+ghost use Rattle.text.specs.Lines.{refusalLine};
 ghost use Rattle.words.specs.Written.{written};
 
 // A piece of a text of numbered lines: the line behind it, and how many bytes it has.
@@ -72,4 +73,17 @@ pub fn give(line: &[u8], out: &mut [u8]) -> usize
         return 0;
     }
     put_bytes(out, 0, line)
+}
+
+// A refusal's line: its number and place.
+pub fn refusal_line(number: u32, place: usize, out: &mut [u8]) -> usize
+    ensures { λ r. ⌜ LineGiven (refusalLine number place) (now (out .entry)) r (now (out .exit)) ⌝ }
+{
+    let mut line = [0u8; 64];
+    let mut at = put_bytes(&mut line, 0, b"refused ");
+    at = put_number(&mut line, at, number as u64);
+    at = put_bytes(&mut line, at, b" at ");
+    at = put_number(&mut line, at, place as u64);
+    at = put_byte(&mut line, at, 10);
+    give(&line[..at], out)
 }

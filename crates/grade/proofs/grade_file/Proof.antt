@@ -5,10 +5,11 @@ use mathlib.Core.Path.{_≡_, refl, _∙_}
 use native.Mathlib.Omega.{arith}
 use borrow.Author.Needs.{needs}
 use lib.ListN.{length}
+use Rattle.text.proofs.HandingLaws.{hands-on, moved, all-handed}
 use Rattle.report.specs.Report.{lineCount}
 use Rattle.report.proofs.HeldIsReport.{rows-are-held}
 use Rattle.grade.specs.Handing.{gradingOfFile}
-use Rattle.grade.proofs.HandingLaws.{FileHeld, piece-of-file, hands-on, moved, all-handed}
+use Rattle.grade.proofs.HandingLaws.{FileHeld, piece-of-file, moves}
 use Rattle.grade.proofs.grade_file.Statement.{statement}
 use Rattle.grade.proofs.grade_file.Tie as tie
 
@@ -60,13 +61,13 @@ report-piece-requires c κs = let held = c .before .before .before .before .loop
 hand-out-requires : tie.Need-hand-out-requires Inv-loop μ-loop
 hand-out-requires c κs =
     let l = c .before .before .before .before .before .before .before .before .before .before .loop in
-    rw (l .inv .1) (hands-on _ _ _ _ _ (piece-of-file _ _ _ _ _ _ _ _ _ (l .inv .0) (c .before .before .before .before .before .report-piece .ensures)))
+    rw (l .inv .1) (hands-on (piece-of-file _ _ _ _ _ _ _ _ _ (l .inv .0) (c .before .before .before .before .before .report-piece .ensures)))
 
 loop-less : tie.Need-loop-less Inv-loop μ-loop
 loop-less c =
     let l = c .before .before .before .before .before .before .before .before .before .before .before .loop in
     let given = piece-of-file _ _ _ _ _ _ _ _ _ (l .inv .0) (c .before .before .before .before .before .before .report-piece .ensures) in
-    omega (arith, moved _ _ _ _ _ given (omega arith), given .within, l .inv .2)
+    omega (arith, moved given (omega arith), given .within, l .inv .2)
 
 loop-again : tie.Need-loop-again Inv-loop μ-loop
 loop-again c =
@@ -88,7 +89,7 @@ returns : tie.Need-returns Inv-loop μ-loop
 returns c =
     let l = c .before .before .before .before .before .before .before .before .before .loop in
     let given = piece-of-file _ _ _ _ _ _ _ _ _ (l .inv .0) (c .before .before .before .before .report-piece .ensures) in
-    l .inv .1 ∙ all-handed _ _ _ _ _ given (l .inv .2) (l .inv .3) (omega arith)
+    l .inv .1 ∙ all-handed given (l .inv .2) (λ more. moves _ _ _ _ _ given more (l .inv .3)) (omega arith)
 
 pub grade-file-spec : {M : Type 1} → statement M
 grade-file-spec =

@@ -4,11 +4,11 @@ use mathlib.Core.Path.{_≡_, sym, ap, _∙_}
 use mathlib.Core.Bool.{true, false}
 use mathlib.Core.List.{[]}
 use native.Mathlib.Omega.{arith}
+use Rattle.text.specs.Lines.{refusalLine}
 use Rattle.circuit.specs.Reading.{accepted, refusal}
 use Rattle.circuit.specs.Refusals.{refusalNumber, refusalPlace, verdictOf}
 use Rattle.circuit.specs.Verdicts.{isRefused}
 use Rattle.circuit.specs.declared.Reading.{Reading as ReadingRecord}
-use Rattle.report.specs.Lines.{refusalLine}
 use Rattle.listing.specs.Listing.{listingOf}
 use Rattle.listing.specs.Told.{circuitTold, readingTold}
 use Rattle.listing.proofs.Putting.{puts-same}

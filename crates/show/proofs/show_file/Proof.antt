@@ -5,10 +5,11 @@ use mathlib.Core.Path.{_≡_, refl, _∙_}
 use native.Mathlib.Omega.{arith}
 use borrow.Author.Needs.{needs}
 use lib.ListN.{length}
+use Rattle.text.proofs.HandingLaws.{hands-on, moved, all-handed}
 use Rattle.circuit.specs.Reading.{readingOf}
 use Rattle.circuit.specs.Answers.{Tells}
 use Rattle.show.specs.Handing.{listingOfFile}
-use Rattle.show.proofs.HandingLaws.{piece-of-file, hands-on, moved, all-handed}
+use Rattle.show.proofs.HandingLaws.{piece-of-file}
 use Rattle.show.proofs.show_file.Statement.{statement}
 use Rattle.show.proofs.show_file.Tie as tie
 
@@ -35,13 +36,13 @@ hand-out-requires : tie.Need-hand-out-requires Inv-loop μ-loop
 hand-out-requires c κs =
     let turn = c .before .before .before .before .before .before .before .loop in
     let of-file = piece-of-file _ _ _ _ _ _ (turn .inv .0) (c .before .before .before .before .before .show-piece .ensures) in
-    rw (turn .inv .1) (hands-on _ _ _ _ _ of-file)
+    rw (turn .inv .1) (hands-on (of-file .given))
 
 loop-less : tie.Need-loop-less Inv-loop μ-loop
 loop-less c =
     let turn = c .before .before .before .before .before .before .before .before .loop in
     let of-file = piece-of-file _ _ _ _ _ _ (turn .inv .0) (c .before .before .before .before .before .before .show-piece .ensures) in
-    omega (arith, moved _ _ _ _ _ of-file (omega arith), of-file .given .within, turn .inv .2)
+    omega (arith, moved (of-file .given) (omega arith), of-file .given .within, turn .inv .2)
 
 loop-again : tie.Need-loop-again Inv-loop μ-loop
 loop-again c =
@@ -57,7 +58,7 @@ returns : tie.Need-returns Inv-loop μ-loop
 returns c =
     let turn = c .before .before .before .before .before .before .loop in
     let of-file = piece-of-file _ _ _ _ _ _ (turn .inv .0) (c .before .before .before .before .show-piece .ensures) in
-    turn .inv .1 ∙ all-handed _ _ _ _ _ of-file (turn .inv .2) (turn .inv .3) (omega arith)
+    turn .inv .1 ∙ all-handed (of-file .given) (turn .inv .2) (λ more. of-file .moves more (turn .inv .3)) (omega arith)
 
 pub show-file-spec : {M : Type 1} → statement M
 show-file-spec =

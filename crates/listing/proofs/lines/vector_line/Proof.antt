@@ -4,8 +4,8 @@ use mathlib.Core.List.{List, _++_, map}
 use native.Mathlib.Omega.{arith}
 use borrow.Author.Needs.{needs}
 use Rattle.text.specs.Ascii.{bytesOf}
+use Rattle.text.specs.Lines.{space, newline}
 use Rattle.switch.specs.Conduction.{Value}
-use Rattle.report.specs.Lines.{space, newline}
 use Rattle.listing.specs.Lines.{spaced, valueLetter, vectorLine}
 use Rattle.listing.proofs.TextLaws.{letters-short, vector-held}
 use Rattle.listing.proofs.Putting.{SoFar, start, piece, byte, next-number, whole}

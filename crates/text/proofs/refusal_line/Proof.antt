@@ -1,13 +1,13 @@
--- `report::refusal_line` meets its contract: each call adds its piece to the line, which has room for it, and the pieces make the promised line. Assumes nothing.
+-- `text::refusal_line` meets its contract: each call adds its piece to the line, which has room for it, and the pieces make the promised line. Assumes nothing.
 use mathlib.Core.Path.{refl, sym}
 use mathlib.Core.List.{_∷_, append-assoc}
 use native.Mathlib.Omega.{arith}
 use borrow.Author.Needs.{needs}
 use lib.Seq.{length-take-le}
-use Rattle.report.specs.Lines.{refusedWord, atWord, refusalLine}
+use Rattle.text.specs.Lines.{refusedWord, atWord, refusalLine}
 use Rattle.text.proofs.GrowingLine.{Line, start, piece, byte, number, promised}
-use Rattle.report.proofs.refusal_line.Statement.{statement}
-use Rattle.report.proofs.refusal_line.Tie as tie
+use Rattle.text.proofs.refusal_line.Statement.{statement}
+use Rattle.text.proofs.refusal_line.Tie as tie
 
 -- the line after each call: all its bytes, and how many of them are written at most. Its text is what the calls have added, one by one
 line-1 : (c : tie.After-put-bytes) → Line 64 8 (c .put-bytes .last .0) (c .put-bytes .result)

@@ -14,22 +14,21 @@ use Rattle.words.proofs.WrittenLaws.{take-written}
 use Rattle.text.specs.Pieces.{textFrom, lineIn}
 use Rattle.text.specs.declared.Piece.{Piece}
 use Rattle.text.proofs.PieceLaws.{stand-length}
-use Rattle.circuit.specs.Reading.{Reading, readingOf}
-use Rattle.circuit.specs.Answers.{Tells}
 use Rattle.circuit.specs.declared.Reading.{Reading as ReadingRecord}
-use Rattle.listing.specs.Listing.{listingOf}
+use Rattle.reader.specs.ReadStages.{ReadByStages}
+use Rattle.listing.specs.Listing.{listingOfFile}
 use Rattle.listing.specs.Promise.{LinesPiece, ListingPiece}
-use Rattle.listing.proofs.ToldLaws.{told-is-reading}
-use Rattle.show.specs.Handing.{listingOfFile, ListingHandsOn, ListingHanded}
+use Rattle.listing.proofs.ToldLaws.{told-is-listing}
+use Rattle.show.specs.Handing.{ListingHandsOn, ListingHanded}
 
 module _ (file : List ℕ) (from : ℕ) (buffer : List ℕ) (piece : Piece) (after : List ℕ) where
   -- a piece of the file's listing
   abbrev pub PieceOfFile : Type 0
   PieceOfFile = LinesPiece (listingOfFile file) from buffer piece after
 
-  pub piece-of-file : (r : ReadingRecord) → Tells (readingOf file) r → ListingPiece r from buffer piece after → PieceOfFile
-  piece-of-file r tells given =
-      subst (λ (reading : Reading). LinesPiece (listingOf reading) from buffer piece after) (told-is-reading file r tells) given
+  pub piece-of-file : (r : ReadingRecord) → ReadByStages file r → ListingPiece r from buffer piece after → PieceOfFile
+  piece-of-file r read given =
+      subst (λ (lines : List (List ℕ)). LinesPiece lines from buffer piece after) (told-is-listing file r (read .tells) (read .circuit)) given
 
   module _ (of-file : PieceOfFile) where
     text : List ℕ

@@ -5,11 +5,7 @@ use mathlib.Core.List.{List}
 use lib.ListN.{length, take}
 use Rattle.text.specs.Pieces.{textFrom, lineIn}
 use Rattle.text.specs.declared.Piece.{Piece}
-use Rattle.circuit.specs.Reading.{readingOf}
-use Rattle.listing.specs.Listing.{listingOf}
-
-abbrev pub listingOfFile : List ℕ → List (List ℕ)
-listingOfFile file = listingOf (readingOf file)
+use Rattle.listing.specs.Listing.{listingOfFile}
 
 -- the front of a buffer is exactly the lines of a file's listing from one on, up to the piece's end
 pub record ListingHandsOn (file : List ℕ) (lines : ℕ) (piece : Piece) (out : List ℕ) : Type 0 where

@@ -163,7 +163,7 @@ fn no_text(before: &[u8]) -> Slip {
 fn no_such_line(word: &[u8]) -> String {
     let names = "`inputs`, `type`, `edge`, `bridge`, `instance` or `vector`";
     let hint = match word {
-        b"refused" => " (a refused file has no text)",
+        b"refused" => " (`show` ends a refused file so: the text is no whole circuit)",
         b"==>" => " (`make` reads the text of one file)",
         _ => "",
     };

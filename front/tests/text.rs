@@ -105,9 +105,9 @@ fn a_word_that_begins_no_line() {
             format!("found `\\u{{1}}\\u{{2}}`, {names}"),
         ),
         (
-            "refused 9 at 5",
-            1,
-            format!("found `refused`, {names} (a refused file has no text)"),
+            "inputs 1\nrefused 9 at 5",
+            2,
+            format!("found `refused`, {names} (`show` ends a refused file so: the text is no whole circuit)"),
         ),
         (
             "==> a <==",

@@ -21,29 +21,57 @@ pub const MOST_LABELS: u8 = 12;
 const HIGHEST_LIST: u8 = 127;
 
 pub fn read(bytes: &[u8]) -> Result<Circuit, Refusal> {
-    refuse_if(bytes.len() > LONGEST_FILE, 1, 0)?;
-    let mut reading = Reading::default();
-    let mut place = 0;
-    while place < bytes.len() {
-        let field = cut(bytes, place)?;
-        reading.take(&field)?;
-        place = field.end();
-    }
-    reading.finish(bytes.len())
+    let (circuit, refusal) = read_to_refusal(bytes);
+    refusal.map_or(Ok(circuit), Err)
 }
 
-/// What is known so far: the circuit, the tag of the field before, the place of
-/// the latest type while it is not judged, and the faults of the instances.
+/// What was read before the refusal, if there is one, and the refusal.
+pub fn read_to_refusal(bytes: &[u8]) -> (Circuit, Option<Refusal>) {
+    let mut reading = Reading::default();
+    let refusal = reading.take_file(bytes).err();
+    if refusal.is_some() {
+        reading.drop_unfinished_type();
+    }
+    (reading.circuit, refusal)
+}
+
+/// What is known so far: the circuit, the tag of the field before, whether the
+/// field that is being taken is an edge, the place of the latest type while it
+/// is not judged, and the faults of the instances.
 #[derive(Default)]
 struct Reading {
     circuit: Circuit,
     latest_tag: Option<u8>,
+    is_at_edge: bool,
     unjudged: Option<usize>,
     faults: usize,
 }
 
 impl Reading {
+    fn take_file(&mut self, bytes: &[u8]) -> Result<(), Refusal> {
+        refuse_if(bytes.len() > LONGEST_FILE, 1, 0)?;
+        let mut place = 0;
+        while place < bytes.len() {
+            let field = cut(bytes, place)?;
+            self.take(&field)?;
+            place = field.end();
+        }
+        self.finish(bytes.len())
+    }
+
+    /// In a refused file the latest type is finished when no edge of it is
+    /// refused and it is complementary.
+    fn drop_unfinished_type(&mut self) {
+        let is_latest_open = matches!(self.latest_tag, Some(2 | 3));
+        let is_finished =
+            !self.is_at_edge && self.circuit.types.last().is_some_and(is_complementary);
+        if is_latest_open && !is_finished {
+            self.circuit.types.pop();
+        }
+    }
+
     fn take(&mut self, field: &Field) -> Result<(), Refusal> {
+        self.is_at_edge = field.tag == 3;
         refuse_if(!(1..=6).contains(&field.tag), 3, field.place)?;
         refuse_if(!self.is_in_order(field.tag), 4, field.place)?;
         if field.tag != 3 {
@@ -58,6 +86,7 @@ impl Reading {
             _ => self.take_vector(field)?,
         }
         self.latest_tag = Some(field.tag);
+        self.is_at_edge = false;
         Ok(())
     }
 
@@ -195,13 +224,12 @@ impl Reading {
         Ok(())
     }
 
-    fn finish(mut self, length: usize) -> Result<Circuit, Refusal> {
+    fn finish(&mut self, length: usize) -> Result<(), Refusal> {
         self.judge_latest_type()?;
-        let circuit = self.circuit;
+        let circuit = &self.circuit;
         let missing =
             circuit.inputs == 0 || circuit.instances.is_empty() || circuit.vectors.is_empty();
-        refuse_if(missing, 14, length)?;
-        Ok(circuit)
+        refuse_if(missing, 14, length)
     }
 }
 

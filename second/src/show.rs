@@ -1,17 +1,22 @@
-//! Showing a circuit: a line for each field in file order, or the one line of a
-//! refusal. An accepted file has its fields in the order of the records.
+//! Showing a circuit: a line for each field that was read, in file order, and
+//! last the line of a refusal. A file has its fields in the order of the records.
 
 use std::fmt::Display;
 
 use crate::circuit::{Circuit, Edge, Instance, ListedBridge, ModuleType, Value};
-use crate::read::read;
+use crate::read::read_to_refusal;
 
 pub fn show_of(bytes: &[u8]) -> String {
-    read(bytes).map_or_else(|refusal| refusal.line(), |circuit| show(&circuit))
+    let (circuit, refusal) = read_to_refusal(bytes);
+    let last = refusal.map_or_else(String::new, |refusal| refusal.line());
+    show(&circuit) + &last
 }
 
 fn show(circuit: &Circuit) -> String {
-    let mut lines = line("inputs", [circuit.inputs]);
+    let mut lines = String::new();
+    if circuit.inputs > 0 {
+        lines += &line("inputs", [circuit.inputs]);
+    }
     for (index, module) in circuit.types.iter().enumerate() {
         lines += &type_line(index + 1, module);
         lines.extend(module.edges.iter().map(edge_line));

@@ -1,5 +1,5 @@
 //! What `show` prints: the inverter byte for byte, a file with every kind of
-//! line, and refused files.
+//! line, and refused files up to their refusal.
 
 use second::builder::FileBuilder;
 use second::make::made_file;
@@ -82,18 +82,54 @@ fn refused_files() {
     assert_eq!(show_of(&[1]), "refused 2 at 0\n");
     assert_eq!(show_of(&[1; 32_769]), "refused 1 at 0\n");
     let misfit = with_type().bridge(1, 0, 0, 3).instance(1, 1, &[1]);
-    assert_eq!(show_of(&misfit.bytes), "refused 11 at 30\n");
+    let before = "inputs 2\ntype 1 2 2 1\nedge 1 2 0\nedge 0 2 0\nbridge 1 n 0 3\n";
+    assert_eq!(
+        show_of(&misfit.bytes),
+        format!("{before}refused 11 at 30\n")
+    );
     for length in 0..every_kind_file().end() {
         let cut = every_kind_file().resized(length);
         let (shown, report) = (show_of(&cut.bytes), report_of(&cut.bytes));
         // Cut between two vectors the file is accepted, with fewer of them.
-        if [165, 171].contains(&length) {
-            assert!(EVERY_KIND_SHOWN.starts_with(&shown));
+        let refusal = if [165, 171].contains(&length) {
+            ""
         } else {
             assert!(report.starts_with("refused "), "{length}");
-            assert_eq!(shown, report);
-        }
+            &report
+        };
+        let before = shown.strip_suffix(refusal).expect("the refusal is last");
+        assert!(EVERY_KIND_SHOWN.starts_with(before), "{length}: {shown}");
     }
+}
+
+/// A type is listed when no edge of it is refused and it is complementary.
+#[test]
+fn unfinished_types() {
+    let finished = "inputs 2\ntype 1 2 2 1\nedge 1 2 0\nedge 0 2 0\n";
+    // An edge with a label that the type does not have, of the first type and of a second one.
+    let edge = with_type().field(3, &[0, 2, 1]);
+    assert_eq!(show_of(&edge.bytes), "inputs 2\nrefused 7 at 23\n");
+    let second = with_type().module(2, 2, 1, &[(0, 2, &[1])]);
+    assert_eq!(
+        show_of(&second.bytes),
+        format!("{finished}refused 7 at 29\n")
+    );
+    // A type without a path to supply, before an instance, a byte of a field, a tag that there is not, and the end.
+    let open = || with_type().module(2, 2, 1, &[(0, 2, &[0])]);
+    let refused = |number, place| format!("{finished}refused {number} at {place}\n");
+    let instance = open().instance(1, -1, &[1]);
+    assert_eq!(show_of(&instance.bytes), refused(9, 23));
+    let byte = open().resized(36);
+    assert_eq!(show_of(&byte.bytes), refused(2, 35));
+    let tag = open().field(7, &[]);
+    assert_eq!(show_of(&tag.bytes), refused(3, 35));
+    assert_eq!(show_of(&open().bytes), refused(9, 23));
+    // The same where the type is complementary.
+    let whole = with_type().resized(24);
+    assert_eq!(show_of(&whole.bytes), refused(2, 23));
+    let tag = with_type().field(7, &[]);
+    assert_eq!(show_of(&tag.bytes), refused(3, 23));
+    assert_eq!(show_of(&with_type().bytes), refused(14, 23));
 }
 
 /// Each line stands for one field of the file, its word for the field's tag.

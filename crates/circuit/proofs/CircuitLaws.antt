@@ -92,17 +92,17 @@ module _ (size n : ℕ) {A : Type 0} (tests : A → ℕ → List ℕ → List Te
 
 -- ---- types
 
-record TypesGood (types : List ModuleType) : Type 0 where
-  few : length types ≤ mostTypes
-  each : Each (λ (i : ℕ) (t : ModuleType). TypeGood t) types
+pub record TypesGood (types : List ModuleType) : Type 0 where
+  pub few : length types ≤ mostTypes
+  pub each : Each (λ (i : ℕ) (t : ModuleType). TypeGood t) types
 
 -- types whose latest is not judged yet
-record TypesSound (types : List ModuleType) : Type 0 where
-  few : length types ≤ mostTypes
-  each : Each (λ (i : ℕ) (t : ModuleType). TypeSound t) types
-  judged : (i : ℕ) (none : ModuleType) → suc i < length types → T (isComplementary (getD types i none))
+pub record TypesSound (types : List ModuleType) : Type 0 where
+  pub few : length types ≤ mostTypes
+  pub each : Each (λ (i : ℕ) (t : ModuleType). TypeSound t) types
+  pub judged : (i : ℕ) (none : ModuleType) → suc i < length types → T (isComplementary (getD types i none))
 
-no-types : TypesSound []
+pub no-types : TypesSound []
 no-types = record { few = omega arith; each = each-none _; judged = λ i none h. absurd (not-suc-le-zero h) }
 
 pub getD-any : {A : Type 0} (as′ : List A) (i : ℕ) (d e : A) → i < length as′ → getD as′ i d ≡ getD as′ i e
@@ -120,11 +120,11 @@ unfolding isEmpty
 no-length [] e = refl
 no-length (a ∷ as′) e = cc
 
-latest-sound : (types : List ModuleType) → isEmpty types ≡ false → TypesSound types → TypeSound (latest types)
+pub latest-sound : (types : List ModuleType) → isEmpty types ≡ false → TypesSound types → TypeSound (latest types)
 unfolding latest
 latest-sound types some s = let h = some-length types some in s .each (length types - 1) noType (omega arith)
 
-edge-keeps : (types : List ModuleType) (t : ModuleType) → isEmpty types ≡ false → TypesSound types → TypeSound t → TypesSound (set types (length types - 1) t)
+pub edge-keeps : (types : List ModuleType) (t : ModuleType) → isEmpty types ≡ false → TypesSound types → TypeSound t → TypesSound (set types (length types - 1) t)
 edge-keeps types t some s new =
     record {
       few = rw (length-set types (length types - 1) t) (s .few);
@@ -138,7 +138,7 @@ edge-keeps types t some s new =
     at i none h (yes e) = let l = some-length types some in rw (e, getD-set-same types (length types - 1) t none (omega arith)) new
     at i none h (no e) = rw (getD-set-other types (length types - 1) i t none e) (s .each i none h)
 
-type-keeps : (types : List ModuleType) (t : ModuleType) → TypesGood types → length types < mostTypes → TypeSound t → TypesSound (types ++ (t ∷ []))
+pub type-keeps : (types : List ModuleType) (t : ModuleType) → TypesGood types → length types < mostTypes → TypeSound t → TypesSound (types ++ (t ∷ []))
 type-keeps types t g room new =
     record {
       few = omega (arith, length-snoc types t);
@@ -160,7 +160,7 @@ failing-refuses typeAt (field f rest) e = go (isUnknown (tagOf (f .tag))) (eqb (
     go false false q = never-passes q
 
 -- types that were judged are complementary, the latest too
-judged-types : (types : List ModuleType) (typeAt : ℕ) (cut : Cut) → TypesSound types → judged types typeAt cut ≡ passes → TypesGood types
+pub judged-types : (types : List ModuleType) (typeAt : ℕ) (cut : Cut) → TypesSound types → judged types typeAt cut ≡ passes → TypesGood types
 unfolding judged notComplementary latest
 judged-types types typeAt cut s e =
     record {
@@ -260,20 +260,20 @@ module _ (size : ℕ) (next : List ModuleType → Cut → Reading)
 
 -- ---- bridges, instances, vectors
 
-record BridgesGood (bridges : List Listed) : Type 0 where
-  few : length bridges ≤ mostBridges
-  each : Each (λ (i : ℕ) (b : Listed). ListedGood b) bridges
+pub record BridgesGood (bridges : List Listed) : Type 0 where
+  pub few : length bridges ≤ mostBridges
+  pub each : Each (λ (i : ℕ) (b : Listed). ListedGood b) bridges
 
-record InstancesGood (P : ℕ) (types : List ModuleType) (bridges : List Listed) (instances : List Instance) : Type 0 where
-  few : length instances ≤ mostInstances
-  each : Each (InstanceGood P types bridges) instances
-  faults : faultCount types bridges instances ≤ mostFaults
+pub record InstancesGood (P : ℕ) (types : List ModuleType) (bridges : List Listed) (instances : List Instance) : Type 0 where
+  pub few : length instances ≤ mostInstances
+  pub each : Each (InstanceGood P types bridges) instances
+  pub faults : faultCount types bridges instances ≤ mostFaults
 
-record VectorsGood (P : ℕ) (vectors : List (List Value)) : Type 0 where
-  few : length vectors ≤ mostVectors
-  each : Each (λ (i : ℕ) (v : List Value). length v ≡ P) vectors
+pub record VectorsGood (P : ℕ) (vectors : List (List Value)) : Type 0 where
+  pub few : length vectors ≤ mostVectors
+  pub each : Each (λ (i : ℕ) (v : List Value). length v ≡ P) vectors
 
-bridge-keeps : (bs : List Listed) (at : ℕ) (body : List ℕ) → BridgesGood bs → firstOf (bridgeTests (length bs) at body) ≡ passes
+pub bridge-keeps : (bs : List Listed) (at : ℕ) (body : List ℕ) → BridgesGood bs → firstOf (bridgeTests (length bs) at body) ≡ passes
     → BridgesGood (bs ++ (listedIn body ∷ []))
 bridge-keeps bs at body g e =
     let new = bridge-pass (length bs) at body e in
@@ -283,7 +283,7 @@ bridge-keeps bs at body g e =
       each = each-snoc (λ (i : ℕ) (b : Listed). ListedGood b) bs (listedIn body) (g .each) (new .1);
     }
 
-instance-keeps : (P : ℕ) (types : List ModuleType) (bridges : List Listed) (is : List Instance) (at : ℕ) (body : List ℕ)
+pub instance-keeps : (P : ℕ) (types : List ModuleType) (bridges : List Listed) (is : List Instance) (at : ℕ) (body : List ℕ)
     → InstancesGood P types bridges is → firstOf (instanceTests (readTo P types bridges is) at body) ≡ passes
     → InstancesGood P types bridges (is ++ (instanceIn body ∷ []))
 instance-keeps P types bridges is at body g e =
@@ -296,7 +296,7 @@ instance-keeps P types bridges is at body g e =
       faults = omega (arith, faults-snoc types bridges is (instanceIn body));
     }
 
-vector-keeps : (P : ℕ) (vs : List (List Value)) (at : ℕ) (body : List ℕ) → VectorsGood P vs → firstOf (vectorTests P (length vs) at body) ≡ passes
+pub vector-keeps : (P : ℕ) (vs : List (List Value)) (at : ℕ) (body : List ℕ) → VectorsGood P vs → firstOf (vectorTests P (length vs) at body) ≡ passes
     → VectorsGood P (vs ++ (vectorIn body ∷ []))
 vector-keeps P vs at body g e =
     let new = vector-pass P (length vs) at body e in

@@ -1,8 +1,9 @@
 -- The laws of reading.
---   StageLaws, GatheredLaws, CircuitLaws, FaultLaws, AnswerLaws   the theorems of specs/Laws
---   Examples                                                      01's examples, computed
---   the others                                                    what the crates that read cite
+--   StageLaws, GatheredLaws, CircuitLaws, BeforeLaws, FaultLaws, AnswerLaws   the theorems of specs/Laws
+--   Examples                                                                  01's examples, computed
+--   the others                                                                what the crates that read cite
 pub mod AnswerLaws
+pub mod BeforeLaws
 pub mod CircuitLaws
 mod Examples
 pub mod FaultLaws

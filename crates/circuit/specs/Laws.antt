@@ -1,5 +1,5 @@
 -- What holds of reading, whatever the file: theorems, each with its name.
--- Their proofs are in proofs/: StageLaws, GatheredLaws, CircuitLaws, FaultLaws, AnswerLaws.
+-- Their proofs are in proofs/: StageLaws, GatheredLaws, CircuitLaws, BeforeLaws, FaultLaws, AnswerLaws.
 use Prim.Native.Nat.{ℕ, _≤_, _<_}
 use mathlib.Core.Path.{_≡_}
 use mathlib.Core.Bool.{Bool, true, false, not, _&&_}
@@ -66,24 +66,32 @@ pub record InstanceGood (P : ℕ) (types : List ModuleType) (bridges : List List
   pub suited : listUnsuited (typeOfInstance types i) bridges (i .choice) ≡ false
   pub filled : listEmpty bridges (i .choice) ≡ false
 
-pub record CircuitGood (c : Circuit) : Type 0 where
-  pub inputs : (1 ≤ c .inputs) × (c .inputs ≤ 64)
+-- a circuit each of whose fields keeps the rules, with at least so many inputs, instances and vectors
+pub record GoodWithLeast (least : ℕ) (c : Circuit) : Type 0 where
+  pub inputs : (least ≤ c .inputs) × (c .inputs ≤ 64)
   pub few-types : length (c .types) ≤ mostTypes
   pub types : Each (λ (i : ℕ) (t : ModuleType). TypeGood t) (c .types)
   pub few-bridges : length (c .bridges) ≤ mostBridges
   pub bridges : Each (λ (i : ℕ) (b : Listed). ListedGood b) (c .bridges)
-  pub some-instance : 1 ≤ length (c .instances)
+  pub some-instance : least ≤ length (c .instances)
   pub few-instances : length (c .instances) ≤ mostInstances
   pub instances : Each (InstanceGood (c .inputs) (c .types) (c .bridges)) (c .instances)
   pub few-faults : faultCount (c .types) (c .bridges) (c .instances) ≤ mostFaults
-  pub some-vector : 1 ≤ length (c .vectors)
+  pub some-vector : least ≤ length (c .vectors)
   pub few-vectors : length (c .vectors) ≤ mostVectors
   pub vectors : Each (λ (i : ℕ) (v : List Value). length v ≡ c .inputs) (c .vectors)
+
+abbrev pub CircuitGood : Circuit → Type 0
+CircuitGood c = GoodWithLeast 1 c
 
 abbrev pub AcceptedIsGood : Type 0
 AcceptedIsGood = (file : List ℕ) (c : Circuit) → readingOf file ≡ accepted c → CircuitGood c
 
 -- ---- what holds of a refusal
+
+-- what was read before it keeps the rules too, but may be nothing
+abbrev pub BeforeIsGood : Type 0
+BeforeIsGood = (file : List ℕ) → GoodWithLeast 0 (readBefore file)
 
 -- a number of the table, and a place in the file or at its end
 pub record RefusalGood (size number place : ℕ) : Type 0 where

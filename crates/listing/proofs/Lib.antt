@@ -2,8 +2,8 @@
 --   Putting, JoinedLaws   a text put piece by piece, or element by element
 --   TextLaws              the texts of a line's fields
 --   PartLaws, SoughtLaws  which line of which part a line's number means
---   ToldLaws              the record that reading gives of a file tells what the file says
---   Examples              the listing of docs/SHOW.md, computed
+--   ToldLaws              the record that reading gives of a file tells what the file says, and its listing
+--   Examples              the listings of docs/SHOW.md, computed
 pub mod Putting
 pub mod JoinedLaws
 pub mod TextLaws

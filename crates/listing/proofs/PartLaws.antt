@@ -14,12 +14,14 @@ use Rattle.switch.specs.Conduction.{Value, Edge}
 use Rattle.switch.specs.Modules.{ModuleType}
 use Rattle.switch.specs.Records.{typeOf}
 use Rattle.switch.specs.declared.ModuleType.{ModuleType as TypeRecord}
-use Rattle.text.specs.Lines.{refusalLine}
 use Rattle.circuit.proofs.CircuitLaws.{getD-any}
 use Rattle.circuit.specs.Circuit.{Circuit, Instance, Listed, numbered, noType}
 use Rattle.circuit.specs.Reading.{Reading, accepted, refusal}
+use Rattle.circuit.specs.declared.Reading.{Reading as ReadingRecord}
+use Rattle.text.specs.Lines.{refusalLine}
 use Rattle.listing.specs.Lines.{inputsLine, typeLine, edgeLine, bridgeLine, instanceLine, vectorLine}
-use Rattle.listing.specs.Listing.{numberedLines, typeLines, allTypeLines, circuitLines, listingOf}
+use Rattle.listing.specs.Listing.{numberedLines, typeLines, allTypeLines, inputsLines, circuitLines, refusalLines, listingOf}
+use Rattle.listing.specs.Told.{circuitTold, readingTold, listingTold}
 use Rattle.listing.specs.Puts.{Puts, PutsLine}
 use Rattle.listing.specs.declared.parts.Part.{Part}
 
@@ -73,19 +75,28 @@ unfolding allTypeLines
 types-filled first [] = tt
 types-filled first (t ∷ types) = filled-append (typeLines first t) (allTypeLines (suc first) types) (type-filled first t) (types-filled (suc first) types)
 
-circuit-filled : (c : Circuit) → Filled (circuitLines c)
-unfolding circuitLines inputsLine
-circuit-filled c = (
-  simp length-append (omega arith),
-  filled-append (allTypeLines 1 (c .types)) _ (types-filled 1 (c .types))
-      (filled-append (map bridgeLine (c .bridges)) _ (bridges-filled (c .bridges))
-      (filled-append (numberedLines instanceLine 1 (c .instances)) _ (instances-filled (c .instances)) (vectors-filled (c .vectors)))),
-)
+pub inputs-filled : (inputs : ℕ) → Filled (inputsLines inputs)
+unfolding inputsLines inputsLine
+inputs-filled zero = tt
+inputs-filled (suc n) = (simp length-append (omega arith), tt)
 
-pub listing-filled : (reading : Reading) → Filled (listingOf reading)
-unfolding listingOf refusalLine
-listing-filled (accepted c) = circuit-filled c
-listing-filled (refusal number place) = (simp length-append (omega arith), tt)
+pub circuit-filled : (c : Circuit) → Filled (circuitLines c)
+unfolding circuitLines
+circuit-filled c =
+    filled-append (inputsLines (c .inputs)) _ (inputs-filled (c .inputs))
+    (filled-append (allTypeLines 1 (c .types)) _ (types-filled 1 (c .types))
+    (filled-append (map bridgeLine (c .bridges)) _ (bridges-filled (c .bridges))
+    (filled-append (numberedLines instanceLine 1 (c .instances)) _ (instances-filled (c .instances)) (vectors-filled (c .vectors)))))
+
+refusal-filled : (reading : Reading) → Filled (refusalLines reading)
+unfolding refusalLines refusalLine
+refusal-filled (accepted c) = tt
+refusal-filled (refusal number place) = (simp length-append (omega arith), tt)
+
+pub listing-filled : (r : ReadingRecord) → Filled (listingTold r)
+unfolding listingTold listingOf
+listing-filled r =
+    filled-append (circuitLines (circuitTold (r .circuit))) (refusalLines (readingTold r)) (circuit-filled (circuitTold (r .circuit))) (refusal-filled (readingTold r))
 
 -- ---- one part
 
@@ -125,6 +136,27 @@ part-later line lines most (suc n) buffer part after other p =
       left = omega (arith, p .left);
       near = omega (arith, p .near);
     }
+
+-- ---- the inputs
+
+inputs-line : (inputs : ℕ) → (inputs ≡ 0 → ⊥) → inputsLines inputs ≡ inputsLine inputs ∷ []
+unfolding inputsLines
+inputs-line zero some = absurd (some refl)
+inputs-line (suc n) some = refl
+
+module _ (inputs n : ℕ) (buffer : List ℕ) where
+  pub inputs-none : inputs ≡ 0 → PutsLine (inputsLines inputs) 1 n buffer (record { put = 0; left = n }) buffer
+  unfolding inputsLines
+  inputs-none e =
+      let none : getD [] n [] ≡ [] = List·getD-eq-default {A = List ℕ} [] [] {n = n} (omega arith) in
+      rw e (record { line = rw none (refl, sym (written-nothing buffer 0)); left = omega arith; near = omega arith })
+
+  pub inputs-here : {put : ℕ} {after : List ℕ} → (inputs ≡ 0 → ⊥) → n ≡ 0 → Puts (inputsLine inputs) buffer 0 put after
+      → PutsLine (inputsLines inputs) 1 n buffer (record { put = put; left = 0 }) after
+  inputs-here some first p = rw (inputs-line inputs some) (part-first (inputsLine inputs) [] 1 n buffer first p)
+
+  pub inputs-past : (inputs ≡ 0 → ⊥) → (n ≡ 0 → ⊥) → PutsLine (inputsLines inputs) 1 n buffer (record { put = 0; left = n - 1 }) buffer
+  inputs-past some later = rw (inputs-line inputs some) (part-past (inputsLine inputs ∷ []) 1 n buffer 1 refl (omega arith) (omega arith))
 
 -- ---- a part, and others behind it
 

@@ -11,20 +11,22 @@ use lib.Dec.{leb}
 use lib.ListN.{length, getD, take, drop, length-append, length-drop, List·getD-eq-default}
 use Rattle.words.specs.Written.{written}
 use Rattle.words.proofs.WrittenLaws.{written-nothing, take-written}
-use Rattle.text.specs.Lines.{refusalLine}
 use Rattle.text.specs.Given.{LineGiven}
 use Rattle.text.specs.Pieces.{lineIn}
 use Rattle.text.proofs.GrowingLine.{at-most-21}
-use Rattle.circuit.specs.Reading.{Reading, refusal, unless}
+use Rattle.circuit.specs.Reading.{Reading, accepted, refusal, unless}
 use Rattle.circuit.specs.Refusals.{numberedVerdict}
 use Rattle.circuit.specs.Verdicts.{isRefused}
+use Rattle.text.specs.Lines.{refusalLine}
+use Rattle.listing.specs.Listing.{refusalLines}
 use Rattle.listing.specs.Puts.{Puts, PutsLine}
 use Rattle.listing.specs.declared.parts.Part.{Part}
 use Rattle.listing.proofs.PartLaws.{Filled, not-here, is-here, here-is, behind-is}
 
--- line n of the lines is line `left` of the rest, and there are at most `most` before it
+-- line n of the lines is line `left` of the rest, past its end as far as past theirs, and there are at most `most` before it
 pub record Sought (lines rest : List (List ℕ)) (n left most : ℕ) (buffer after : List ℕ) : Type 0 where
   pub line : getD lines n [] ≡ getD rest left []
+  pub past : n - length lines ≡ left - length rest
   pub same : after ≡ buffer
   pub near : n ≤ left + most
 
@@ -32,16 +34,8 @@ pub record Sought (lines rest : List (List ℕ)) (n left most : ℕ) (buffer aft
 abbrev pub PutsSought : List (List ℕ) → ℕ → ℕ → List ℕ → ℕ → List ℕ → Type 0
 PutsSought lines n most buffer put after = Puts (getD lines n []) buffer 0 put after × (0 < put → n ≤ most)
 
-pub sought-first : (line : List ℕ) (lines : List (List ℕ)) (n most : ℕ) (buffer : List ℕ) {put : ℕ} {after : List ℕ} → n ≡ 0
-    → Puts line buffer 0 put after → PutsSought (line ∷ lines) n most buffer put after
-sought-first line lines zero most buffer e p = (p, λ (some : _). omega arith)
-sought-first line lines (suc n) most buffer e p = absurd (omega arith)
-
-pub sought-later : (line : List ℕ) (lines : List (List ℕ)) (n : ℕ) (buffer : List ℕ) → (n ≡ 0 → ⊥) → Sought (line ∷ lines) lines n (n - 1) 1 buffer buffer
-sought-later line lines zero buffer other = absurd (other refl)
-sought-later line lines (suc n) buffer other =
-    let e : suc n - 1 ≡ n = omega arith in
-    record { line = rw e; same = refl; near = omega arith }
+pub sought-start : (lines : List (List ℕ)) (n : ℕ) (buffer : List ℕ) → Sought lines lines n n 0 buffer buffer
+sought-start lines n buffer = record { line = refl; past = refl; same = refl; near = omega arith }
 
 module _ (lines a b : List (List ℕ)) (n left most more : ℕ) (buffer now : List ℕ) (so-far : Sought lines (a ++ b) n left most buffer now)
     (part : Part) (after : List ℕ) (p : PutsLine a more left now part after) where
@@ -50,26 +44,53 @@ module _ (lines a b : List (List ℕ)) (n left most more : ℕ) (buffer now : Li
       let behind = not-here a b left now (p .line) filled none in
       record {
         line = so-far .line ∙ behind-is a b left (behind .0) ∙ ap (λ (k : ℕ). getD b k []) (sym (p .left));
+        past = omega (arith, so-far .past, p .left, behind .0, length-append a b);
         same = behind .1 ∙ so-far .same;
         near = omega (arith, so-far .near, p .near);
       }
 
-  pub sought-found : (part .put ≡ 0 → ⊥) → PutsSought lines n (most + more) buffer (part .put) after
-  sought-found some =
+  pub sought-found : (all : ℕ) → most + more ≤ all → (part .put ≡ 0 → ⊥) → PutsLine lines all n buffer part after
+  sought-found all within some =
       let here = is-here a b left now (p .line) some in
-      let line-is : getD lines n [] ≡ getD a left [] = so-far .line ∙ here-is a b left now (p .line) some in (
-        rw (line-is, ← (so-far .same)) (p .line),
-        λ (any : 0 < part .put). omega (arith, so-far .near, p .near, p .left),
-      )
+      let line-is : getD lines n [] ≡ getD a left [] = so-far .line ∙ here-is a b left now (p .line) some in
+      record {
+        line = rw (line-is, ← (so-far .same)) (p .line);
+        left = omega (arith, so-far .past, p .left, here, length-append a b);
+        near = omega (arith, so-far .near, p .near);
+      }
 
 pub sought-last : (lines a : List (List ℕ)) (n left most more : ℕ) (buffer now : List ℕ) → Sought lines a n left most buffer now
-    → (part : Part) (after : List ℕ) → PutsLine a more left now part after → PutsSought lines n (most + more) buffer (part .put) after
-sought-last lines a n left most more buffer now so-far part after p = (
-  rw (so-far .line, ← (so-far .same)) (p .line),
+    → (part : Part) (after : List ℕ) → PutsLine a more left now part after → PutsLine lines (most + more) n buffer part after
+sought-last lines a n left most more buffer now so-far part after p = record {
+  line = rw (so-far .line, ← (so-far .same)) (p .line);
+  left = omega (arith, so-far .past, p .left);
+  near = omega (arith, so-far .near, p .near);
+}
+
+-- what a part puts
+pub part-puts : (lines : List (List ℕ)) (n most : ℕ) (buffer : List ℕ) (part : Part) (after : List ℕ) → PutsLine lines most n buffer part after
+    → PutsSought lines n most buffer (part .put) after
+part-puts lines n most buffer part after p = (
+  p .line,
   λ (any : 0 < part .put).
-      let none : part .put ≡ 0 → ⊥ = λ (e : part .put ≡ 0). omega arith in
-      omega (arith, so-far .near, p .near, p .left, is-here a [] left now (p .line) none),
+      let some : part .put ≡ 0 → ⊥ = λ (e : part .put ≡ 0). omega arith in
+      omega (arith, p .near, p .left, is-here lines [] n buffer (p .line) some),
 )
+
+-- the rest is one line
+pub sought-one : (lines rest : List (List ℕ)) (line : List ℕ) (n left most : ℕ) (buffer now : List ℕ) {put : ℕ} {after : List ℕ}
+    → Sought lines rest n left most buffer now → rest ≡ line ∷ [] → left ≡ 0 → Puts line now 0 put after → PutsSought lines n most buffer put after
+sought-one lines rest line n left most buffer now so-far alone first p =
+    let line-is : getD lines n [] ≡ line
+    = so-far .line ∙ ap (λ (k : ℕ). getD rest k []) first ∙ ap (λ (l : List (List ℕ)). getD l 0 []) alone in
+    (rw (line-is, ← (so-far .same)) p, λ (some : _). omega (arith, so-far .near))
+
+-- the rest ends before the line
+pub sought-past : (lines rest : List (List ℕ)) (n left most : ℕ) (buffer now : List ℕ) → Sought lines rest n left most buffer now → length rest ≤ left
+    → PutsSought lines n most buffer 0 now
+sought-past lines rest n left most buffer now so-far ended =
+    let none : getD lines n [] ≡ [] = so-far .line ∙ List·getD-eq-default rest [] ended in
+    (rw none (refl, so-far .same ∙ sym (written-nothing buffer 0)), λ (some : 0 < 0). absurd (omega arith))
 
 -- ---- a refusal
 
@@ -90,6 +111,12 @@ accepted-told (suc n) place reading e = absurd (never e)
   where
     never : true ≡ false → ⊥
     never z = let o : _≡_ {A = ℕ} 0 1 = cc in omega arith
+
+-- a refusal has one line
+pub refusal-few : (reading : Reading) → length (refusalLines reading) ≤ 1
+unfolding refusalLines
+refusal-few (accepted c) = omega arith
+refusal-few (refusal number place) = omega arith
 
 pub refusal-short : (number place : ℕ) → length (refusalLine number place) ≤ 512
 unfolding refusalLine
@@ -134,11 +161,6 @@ line-there lines n some = go (decLt n (length lines))
     go (no h) =
         let past : getD lines n [] ≡ [] = List·getD-eq-default lines [] (omega arith) in
         absurd (omega (arith, ap length past))
-
--- past the one line of a refusal there is none
-pub refusal-alone : (line : List ℕ) (n most : ℕ) (buffer : List ℕ) → (n ≡ 0 → ⊥) → PutsSought (line ∷ []) n most buffer 0 buffer
-refusal-alone line zero most buffer other = absurd (other refl)
-refusal-alone line (suc n) most buffer other = ((refl, sym (written-nothing buffer 0)), λ (some : 0 < 0). absurd (omega arith))
 
 -- ---- what was put at the front of a buffer
 

@@ -1,8 +1,8 @@
--- The record that reading gives of a file tells what the file says: each array's used places are the list that it was made from. Assumes nothing.
+-- The record that reading gives of a file tells what the file says, and its listing: each array's used places are the list that it was made from. Assumes nothing.
 use Prim.Native.Nat.{ℕ, zero, suc, _-_, _≤_, _<_, min}
 use mathlib.Core.Path.{_≡_, refl, sym, ap, _∙_}
 use mathlib.Core.Bool.{_&&_}
-use mathlib.Core.List.{List, [], _∷_, map}
+use mathlib.Core.List.{List, [], _∷_, map, append-nil}
 use native.Mathlib.Omega.{arith}
 use borrow.Author.Tests.{ne-eqb}
 use lib.Dec.{T}
@@ -24,12 +24,16 @@ use Rattle.circuit.specs.Records.{unusedInstance, choiceByte, instanceRecord, u
 use Rattle.circuit.specs.Table.{Verdict, passes, refusedAt}
 use Rattle.circuit.specs.Refusals.{verdictOf}
 use Rattle.circuit.specs.Answers.{Tells}
-use Rattle.circuit.specs.Laws.{choiceGood, TypeGood, InstanceGood, CircuitGood}
+use Rattle.circuit.specs.Before.{readBefore}
+use Rattle.circuit.specs.Laws.{choiceGood, TypeGood, InstanceGood, GoodWithLeast}
 use Rattle.circuit.specs.declared.Reading.{Reading as ReadingRecord}
+use Rattle.circuit.proofs.BeforeLaws.{before-is-good}
 use Rattle.circuit.proofs.CircuitLaws.{accepted-is-good}
+use Rattle.circuit.proofs.GatheredLaws.{before-is-circuit}
 use Rattle.circuit.proofs.RangeLaws.{in-between}
 use Rattle.circuit.proofs.TypeLaws.{take-padded, edges-ranges, type-back}
-use Rattle.listing.specs.Told.{bridgeTold, listedTold, choiceTold, referenceTold, instanceWith, instanceTold, vectorTold, typesTold, circuitTold, readingTold, ToldIsReading}
+use Rattle.listing.specs.Listing.{circuitLines, refusalLines, listingOf, AcceptedListing}
+use Rattle.listing.specs.Told.{bridgeTold, listedTold, choiceTold, referenceTold, instanceWith, instanceTold, vectorTold, typesTold, circuitTold, readingTold, listingTold, ToldIsReading, ToldIsListing}
 
 -- ---- lists
 
@@ -85,7 +89,7 @@ labels-few t good =
     let labels = both (between 2 (mostNodes - 1) (t .highest) && between 2 (t .highest) (t .output)) (between 1 mostLabels (t .labels)) ranges .1 in
     in-between 1 12 (t .labels) labels .1
 
-module _ (c : Circuit) (good : CircuitGood c) where
+module _ {least : ℕ} (c : Circuit) (good : GoodWithLeast least c) where
   instance-type : (i : Instance) → T (between 1 (length (c .types)) (i .type)) → TypeGood (typeOfInstance (c .types) i)
   unfolding numbered
   instance-type i t = go (i .type) (in-between 1 (length (c .types)) (i .type) t)
@@ -154,7 +158,7 @@ vector-back inputs v size few =
 
 -- ---- the circuit
 
-module _ (c : Circuit) (good : CircuitGood c) where
+module _ {least : ℕ} (c : Circuit) (good : GoodWithLeast least c) where
   types-back : typesTold (circuitRecord c) ≡ c .types
   unfolding typesTold circuitRecord
   types-back =
@@ -211,3 +215,18 @@ tells-same file r (refusal number place) e told = told-of r (refusedAt number pl
 
 pub told-is-reading : ToldIsReading
 told-is-reading file r told = tells-same file r (readingOf file) refl told
+
+-- ---- the listing
+
+pub told-is-listing : ToldIsListing
+unfolding listingTold
+told-is-listing file r told gathered =
+    ap (λ (c : Circuit). listingOf c (readingTold r)) (ap circuitTold gathered ∙ circuit-back (readBefore file) (before-is-good file))
+    ∙ ap (λ (reading : Reading). listingOf (readBefore file) reading) (told-is-reading file r told)
+
+accepted-listing : AcceptedListing
+unfolding listingOf refusalLines
+accepted-listing file c e =
+    ap (λ (reading : Reading). listingOf (readBefore file) reading) e
+    ∙ ap (λ (d : Circuit). listingOf d (accepted c)) (before-is-circuit file c e)
+    ∙ append-nil (circuitLines c)

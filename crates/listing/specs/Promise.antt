@@ -6,8 +6,7 @@ use lib.ListN.{length}
 use Rattle.text.specs.Pieces.{PieceGiven, lineIn}
 use Rattle.text.specs.declared.Piece.{Piece}
 use Rattle.circuit.specs.declared.Reading.{Reading as ReadingRecord}
-use Rattle.listing.specs.Listing.{listingOf}
-use Rattle.listing.specs.Told.{readingTold}
+use Rattle.listing.specs.Told.{listingTold}
 
 -- a piece of some lines
 pub record LinesPiece (lines : List (List ℕ)) (from : ℕ) (buffer : List ℕ) (piece : Piece) (after : List ℕ) : Type 0 where
@@ -15,4 +14,4 @@ pub record LinesPiece (lines : List (List ℕ)) (from : ℕ) (buffer : List ℕ)
   pub moves : from < length lines → 512 ≤ length buffer → 0 < piece .count
 
 abbrev pub ListingPiece : ReadingRecord → ℕ → List ℕ → Piece → List ℕ → Type 0
-ListingPiece reading from buffer piece after = LinesPiece (listingOf (readingTold reading)) from buffer piece after
+ListingPiece reading from buffer piece after = LinesPiece (listingTold reading) from buffer piece after

@@ -1,4 +1,4 @@
--- The reading that the code's record of one tells. Every record tells one, also a record that no file gives.
+-- The reading that the code's record of one tells, and its listing. Every record tells one, also a record that no file gives.
 use Prim.Native.Nat.{ℕ, zero, suc, min}
 use mathlib.Core.Bool.{cond}
 use mathlib.Core.Path.{_≡_}
@@ -14,14 +14,17 @@ use Rattle.switch.specs.Records.{typeOf, valueOf}
 use Rattle.circuit.specs.Circuit.{Circuit, Instance, Listed, numbered, noType}
 use Rattle.circuit.specs.Circuit.{Reference, primary, outputOf, Choice, exhaustive, no-faults, list}
 use Rattle.circuit.specs.Reading.{Reading, accepted, unless, readingOf}
+use Rattle.circuit.specs.Records.{circuitRecord}
 use Rattle.circuit.specs.Refusals.{verdictOf}
 use Rattle.circuit.specs.Answers.{Tells}
+use Rattle.circuit.specs.Before.{readBefore}
 use Rattle.circuit.specs.declared.Bridge.{Bridge as BridgeRecord}
 use Rattle.circuit.specs.declared.Circuit.{Circuit as CircuitRecord}
 use Rattle.circuit.specs.declared.Instance.{Instance as InstanceRecord}
 use Rattle.circuit.specs.declared.Reading.{Reading as ReadingRecord}
 use Rattle.circuit.specs.declared.Reference.{Reference as ReferenceRecord}
 use Rattle.circuit.specs.declared.Vector.{Vector as VectorRecord}
+use Rattle.listing.specs.Listing.{listingOf, listingOfFile}
 
 -- kind 0 is between two nodes, any other between a node and a label
 unfoldable pub bridgeTold : ℕ → ℕ → ℕ → Bridge
@@ -71,6 +74,16 @@ circuitTold r = record {
 unfoldable pub readingTold : ReadingRecord → Reading
 readingTold r = unless (verdictOf (r .refusal)) (accepted (circuitTold (r .circuit)))
 
+-- the listing of what a record tells
+unfoldable pub listingTold : ReadingRecord → List (List ℕ)
+listingTold r = listingOf (circuitTold (r .circuit)) (readingTold r)
+
 -- the record that reading gives of a file tells what the file says
 abbrev pub ToldIsReading : Type 0
 ToldIsReading = (file : List ℕ) (r : ReadingRecord) → Tells (readingOf file) r → readingTold r ≡ readingOf file
+
+-- and what was read of it, and so its listing
+abbrev pub ToldIsListing : Type 0
+ToldIsListing =
+    (file : List ℕ) (r : ReadingRecord) → Tells (readingOf file) r → r .circuit ≡ circuitRecord (readBefore file)
+    → listingTold r ≡ listingOfFile file

@@ -1,4 +1,4 @@
-// The listing that `show` prints of a file: the lines of its circuit in file order, or of its refusal, piece by piece into a lent buffer.
+// The listing that `show` prints of a file: the lines of what was read in file order, then that of a refusal, piece by piece into a lent buffer.
 mod least;
 mod lines;
 mod parts;
@@ -8,12 +8,13 @@ ghost use Prim.Native.Nat.{_<_, _≤_};
 ghost use lib.ListN.{length, getD};
 ghost use Rattle.text.specs.Given.{LineGiven};
 ghost use Rattle.text.specs.Pieces.{lineIn};
-ghost use Rattle.listing.specs.Listing.{circuitLines, listingOf};
-ghost use Rattle.listing.specs.Told.{circuitTold, readingTold};
+ghost use Rattle.listing.specs.Listing.{circuitLines};
+ghost use Rattle.listing.specs.Told.{circuitTold, listingTold};
 ghost use Rattle.listing.specs.Promise.{ListingPiece};
-ghost use Rattle.listing.specs.Puts.{Puts};
-use crate::lines::inputs_line;
+ghost use Rattle.listing.specs.Puts.{Puts, PutsLine};
+use crate::parts::Part;
 use crate::parts::bridge_part;
+use crate::parts::inputs_part;
 use crate::parts::instance_part;
 use crate::parts::type_part;
 use crate::parts::vector_part;
@@ -26,24 +27,24 @@ use text::Piece;
 use text::give;
 use text::refusal_line;
 
-// Line n of a circuit at the front of a buffer; the answer is its length, 0 where the circuit has no such line. There are at most 1681.
-fn circuit_line(line: &mut [u8], c: Circuit, n: usize) -> usize
+// Line n of a circuit at the front of a buffer, or how far n is past the last. There are at most 1681.
+fn circuit_line(line: &mut [u8], c: Circuit, n: usize) -> Part
     requires { ⌜ 512 ≤ length (now line) ⌝ }
-    ensures { λ r. ⌜ Puts (getD (circuitLines (circuitTold c)) n []) (now (line .entry)) 0 r (now (line .exit)) ⌝ }
-    ensures { λ r. ⌜ (0 < r → n ≤ 1681) ⌝ }
+    ensures { λ r. ⌜ PutsLine (circuitLines (circuitTold c)) 1681 n (now (line .entry)) r (now (line .exit)) ⌝ }
 {
-    if n == 0 {
-        return inputs_line(line, 0, c.inputs);
+    let part = inputs_part(line, c.inputs, n);
+    if part.put != 0 {
+        return part;
     }
     let types = c.types;
-    let part = type_part(line, types, c.type_count, n - 1);
+    let part = type_part(line, types, c.type_count, part.left);
     if part.put != 0 {
-        return part.put;
+        return part;
     }
     let bridges = c.bridges;
     let part = bridge_part(line, bridges, c.bridge_count, part.left);
     if part.put != 0 {
-        return part.put;
+        return part;
     }
     let instances = c.instances;
     let part = instance_part(
@@ -55,35 +56,37 @@ fn circuit_line(line: &mut [u8], c: Circuit, n: usize) -> usize
         part.left,
     );
     if part.put != 0 {
-        return part.put;
+        return part;
     }
     let vectors = c.vectors;
-    let part = vector_part(line, vectors, c.vector_count, c.inputs, part.left);
-    part.put
+    vector_part(line, vectors, c.vector_count, c.inputs, part.left)
 }
 
-// Line n of a file's listing at the front of a buffer.
+// Line n of a file's listing at the front of a buffer; the answer is its length, 0 where the listing has no such line. A refusal's line is the last.
 fn listed_line(line: &mut [u8], reading: Reading, n: usize) -> usize
     requires { ⌜ 512 ≤ length (now line) ⌝ }
-    ensures { λ r. ⌜ Puts (getD (listingOf (readingTold reading)) n []) (now (line .entry)) 0 r (now (line .exit)) ⌝ }
+    ensures { λ r. ⌜ Puts (getD (listingTold reading) n []) (now (line .entry)) 0 r (now (line .exit)) ⌝ }
     ensures { λ r. ⌜ (0 < r → n ≤ 1681) ⌝ }
 {
+    let circuit = reading.circuit;
+    let part = circuit_line(line, circuit, n);
+    if part.put != 0 {
+        return part.put;
+    }
     let refusal = reading.refusal;
-    if refuses(refusal) {
-        if n == 0 {
+    if part.left == 0 {
+        if refuses(refusal) {
             return refusal_line(number_of(refusal), place_of(refusal), line);
         }
-        return 0;
     }
-    let circuit = reading.circuit;
-    circuit_line(line, circuit, n)
+    0
 }
 
 // Line n of a file's listing into the front of a buffer, if there is room.
 fn one_line(reading: Reading, n: usize, out: &mut [u8]) -> usize
-    ensures { λ r. ⌜ LineGiven (lineIn (listingOf (readingTold reading)) n) (now (out .entry)) r (now (out .exit)) ⌝ }
+    ensures { λ r. ⌜ LineGiven (lineIn (listingTold reading) n) (now (out .entry)) r (now (out .exit)) ⌝ }
     ensures { λ r. ⌜ (0 < r → n ≤ 1681) ⌝ }
-    ensures { λ r. ⌜ length (lineIn (listingOf (readingTold reading)) n) ≤ 512 ⌝ }
+    ensures { λ r. ⌜ length (lineIn (listingTold reading) n) ≤ 512 ⌝ }
 {
     let mut line = [0u8; 512];
     let count = listed_line(&mut line, reading, n);

@@ -6,12 +6,13 @@ ghost use lib.ListN.{length, take};
 ghost use Rattle.switch.specs.Records.{edgesOf, typeOf};
 ghost use Rattle.circuit.specs.Circuit.{numbered, noType};
 ghost use Rattle.listing.specs.Lines.{edgeLine, bridgeLine, instanceLine, vectorLine};
-ghost use Rattle.listing.specs.Listing.{numberedLines, typeLines, allTypeLines};
+ghost use Rattle.listing.specs.Listing.{numberedLines, typeLines, allTypeLines, inputsLines};
 ghost use Rattle.listing.specs.Told.{listedTold, instanceTold, vectorTold};
 ghost use Rattle.listing.specs.Puts.{PutsLine};
 use crate::least::at_most;
 use crate::lines::bridge_line;
 use crate::lines::edge_line;
+use crate::lines::inputs_line;
 use crate::lines::instance_line;
 use crate::lines::type_line;
 use crate::lines::vector_line;
@@ -30,6 +31,26 @@ use switch::ModuleType;
 pub struct Part {
     pub put: usize,
     pub left: usize,
+}
+
+// The line of the inputs, none where no inputs field was read.
+pub fn inputs_part(line: &mut [u8], inputs: usize, n: usize) -> Part
+    requires { ⌜ 512 ≤ length (now line) ⌝ }
+    ensures { λ r. ⌜ PutsLine (inputsLines inputs) 1 n (now (line .entry)) r (now (line .exit)) ⌝ }
+{
+    if inputs == 0 {
+        return Part { put: 0, left: n };
+    }
+    if n == 0 {
+        return Part {
+            put: inputs_line(line, 0, inputs),
+            left: 0,
+        };
+    }
+    Part {
+        put: 0,
+        left: n - 1,
+    }
 }
 
 fn edge_part(line: &mut [u8], edges: [Edge; MOST_EDGES], count: usize, n: usize) -> Part

@@ -5,11 +5,7 @@ use lib.ListN.{length}
 use Rattle.text.specs.Pieces.{lineIn}
 use Rattle.text.specs.Handing.{TextHandsOn, TextHanded}
 use Rattle.text.specs.declared.Piece.{Piece}
-use Rattle.circuit.specs.Reading.{readingOf}
-use Rattle.listing.specs.Listing.{listingOf}
-
-abbrev pub listingOfFile : List ℕ → List (List ℕ)
-listingOfFile file = listingOf (readingOf file)
+use Rattle.listing.specs.Listing.{listingOfFile}
 
 -- the front of a buffer is exactly the lines of a file's listing from one on, up to the piece's end
 abbrev pub ListingHandsOn : List ℕ → ℕ → Piece → List ℕ → Type 0

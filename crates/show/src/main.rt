@@ -1,4 +1,4 @@
-// Looks into circuit files: for each, the circuit that it tells, a line for each field, or its refusal (docs/SHOW.md).
+// Looks into circuit files: for each, what was read, a line for each field, and then its refusal if it is refused (docs/SHOW.md).
 mod handing;
 
 ghost use Prim.Native.Nat.{_≤_};

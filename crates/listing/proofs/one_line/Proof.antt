@@ -6,8 +6,7 @@ use native.Mathlib.Omega.{arith}
 use lib.ListN.{length, take, replicate, length-take}
 use lib.Seq.{length-take-le}
 use Rattle.text.specs.Pieces.{lineIn}
-use Rattle.listing.specs.Listing.{listingOf}
-use Rattle.listing.specs.Told.{readingTold}
+use Rattle.listing.specs.Told.{listingTold}
 use Rattle.listing.proofs.SoughtLaws.{given-some, put-within, take-put}
 use borrow.Author.Needs.{needs}
 use Rattle.listing.proofs.one_line.Statement.{statement}
@@ -15,7 +14,7 @@ use Rattle.listing.proofs.one_line.Tie as tie
 
 -- the line in the local buffer
 text-of : (c : tie.After-listed-line) → List ℕ
-text-of c = lineIn (listingOf (readingTold (c .before .before .before .args .reading))) (c .before .before .before .args .n)
+text-of c = lineIn (listingTold (c .before .before .before .args .reading)) (c .before .before .before .args .n)
 
 fits : (c : tie.After-listed-line) → (length (text-of c) ≤ 512) × (take (c .listed-line .result) (c .listed-line .last .0) ≡ text-of c) × (c .listed-line .result ≤ 512)
 unfolding text-of lineIn

@@ -8,8 +8,7 @@ use borrow.Rule.Slice.PartMut.{putMid, put-same}
 use lib.ListN.{length}
 use Rattle.text.specs.Pieces.{LinesStand, lineIn}
 use Rattle.text.proofs.PieceLaws.{stand-none, stand-next, stand-length, more-fits, no-room}
-use Rattle.listing.specs.Listing.{listingOf}
-use Rattle.listing.specs.Told.{readingTold}
+use Rattle.listing.specs.Told.{listingTold}
 use Rattle.listing.proofs.PartLaws.{filled-at, listing-filled}
 use Rattle.listing.proofs.SoughtLaws.{given-some, given-none, line-there}
 use Rattle.listing.proofs.show_piece.Statement.{statement}
@@ -23,8 +22,8 @@ some-put from next (suc count) long size total forth near more room short full =
 
 abbrev Inv-loop : tie.InvT-loop
 Inv-loop reading from out₀ next₀ count₀ out next count =
-    LinesStand (lineIn (listingOf (readingTold reading))) from out₀ next count out
-    × (count ≤ length out) × (length out ≡ length out₀) × (next ≤ max from (length (listingOf (readingTold reading)))) × (next ≤ from + count)
+    LinesStand (lineIn (listingTold reading)) from out₀ next count out
+    × (count ≤ length out) × (length out ≡ length out₀) × (next ≤ max from (length (listingTold reading))) × (next ≤ from + count)
 
 abbrev μ-loop : tie.MeasureT-loop
 μ-loop reading from out₀ next₀ count₀ out next count = length out₀ - count
@@ -80,7 +79,7 @@ returns c =
     let turn = c .before .before .before .before .before .loop in
     let handed = c .before .before .before .one-line .ensures .0 in
     let start = c .before .before .before .before .before .before .before in
-    let lines : List (List ℕ) = listingOf (readingTold (start .args .reading)) in
+    let lines : List (List ℕ) = listingTold (start .args .reading) in
     let none : c .before .before .before .one-line .result ≡ 0 = c .if1 .taken in
     let kept = ap (λ (l : List ℕ). putMid (turn .count) (length (turn .out) - turn .count) (turn .out) l) (given-none _ _ _ _ handed none)
     ∙ put-same (turn .count) (length (turn .out) - turn .count) (turn .out) in

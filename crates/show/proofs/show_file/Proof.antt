@@ -1,4 +1,4 @@
--- `show::show_file` meets its contract. The loop's invariant: the record tells what the file says, and the lines before the next were handed over.
+-- `show::show_file` meets its contract. The loop's invariant: the record is what was read of the file, and the lines before the next were handed over.
 -- Each turn hands over a line at least. Assumes nothing.
 use Prim.Native.Nat.{_-_, _≤_}
 use mathlib.Core.Path.{_≡_, refl, _∙_}
@@ -6,16 +6,15 @@ use native.Mathlib.Omega.{arith}
 use borrow.Author.Needs.{needs}
 use lib.ListN.{length}
 use Rattle.text.proofs.HandingLaws.{hands-on, moved, all-handed}
-use Rattle.circuit.specs.Reading.{readingOf}
-use Rattle.circuit.specs.Answers.{Tells}
-use Rattle.show.specs.Handing.{listingOfFile}
+use Rattle.reader.specs.ReadStages.{ReadByStages}
+use Rattle.listing.specs.Listing.{listingOfFile}
 use Rattle.show.proofs.HandingLaws.{piece-of-file}
 use Rattle.show.proofs.show_file.Statement.{statement}
 use Rattle.show.proofs.show_file.Tie as tie
 
 abbrev Inv-loop : tie.InvT-loop
 Inv-loop out₀ file reading handed₀ next₀ out handed next =
-    Tells (readingOf file) reading × (handed .lines ≡ next) × (next ≤ length (listingOfFile file)) × (512 ≤ length out) × (length out ≡ length out₀)
+    ReadByStages file reading × (handed .lines ≡ next) × (next ≤ length (listingOfFile file)) × (512 ≤ length out) × (length out ≡ length out₀)
 
 abbrev μ-loop : tie.MeasureT-loop
 μ-loop out₀ file reading handed₀ next₀ out handed next = length (listingOfFile file) - next
@@ -27,7 +26,7 @@ none-handed-requires : tie.Need-none-handed-requires Inv-loop μ-loop
 none-handed-requires c κs = search needs
 
 loop-holds : tie.Need-loop-holds Inv-loop μ-loop
-loop-holds c = (c .before .read-stages .ensures .tells, c .none-handed .ensures, omega arith, c .before .before .before .before .pre, refl)
+loop-holds c = (c .before .read-stages .ensures, c .none-handed .ensures, omega arith, c .before .before .before .before .pre, refl)
 
 show-piece-requires : tie.Need-show-piece-requires Inv-loop μ-loop
 show-piece-requires c κs = search needs

@@ -1,5 +1,5 @@
--- What was read of a file before the field by which it is refused, or before its end: what is known there, the latest type only where it
--- is finished.
+-- What was read of a file before the field by which it is refused: what is known there, the latest type only where it is finished. Of a
+-- file that is refused at its end, or accepted, all of it.
 use Prim.Native.Nat.{ℕ, _-_}
 use mathlib.Core.Bool.{Bool, false, cond, _&&_, _||_}
 use mathlib.Core.List.{List}

@@ -4,7 +4,7 @@ use Rattle.circuit.proofs.GatheredLaws.{gathered-is-before, before-is-circuit}
 use Rattle.text.proofs.PieceLaws.{one-piece, pieces-join, piece-moves}
 use Rattle.report.proofs.ReportLaws.{report-is-lines, lines-fit}
 use Rattle.report.proofs.HeldIsReport.{rows-are-held}
-use Rattle.listing.proofs.ToldLaws.{told-is-reading}
+use Rattle.listing.proofs.ToldLaws.{told-is-reading, told-is-listing, accepted-listing}
 use Rattle.demands.proofs.OneProof.{one-holds, grading-keeps-the-rest}
 use Rattle.demands.proofs.RightProof.{promise-can-be-met, rightly-is-right}
 use Rattle.demands.proofs.Outcomes.{one-outcome-only}
@@ -75,6 +75,8 @@ all-proved = record {
   lines-fit = lines-fit;
   rows-are-held = rows-are-held;
   told-is-reading = told-is-reading;
+  told-is-listing = told-is-listing;
+  accepted-listing = accepted-listing;
   gathered-is-before = gathered-is-before;
   before-is-circuit = before-is-circuit;
   all-known = all-known;

@@ -1,5 +1,5 @@
--- What a line of the table of known results (specs/KnownResults) can claim of a file's grading, its report or the buffers, and when a claim holds.
--- `joins`, by which a node floats and a cell is marked, decides `Joined` (switch, `JoinsDecides`).
+-- What a line of the table of known results (specs/KnownResults) can claim of a file's grading, its report or the buffers, and when a claim
+-- holds. `joins`, by which a node floats and a cell is marked, decides `Joined` (switch, `JoinsDecides`).
 use Prim.Native.Nat.{ℕ, suc, _+_, _-_, _*_}
 use Prim.Native.String.{String}
 use mathlib.Core.Path.{_≡_}

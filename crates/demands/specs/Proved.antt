@@ -3,7 +3,8 @@
 use Rattle.circuit.specs.Laws.{GatheredIsBefore, BeforeIsCircuit}
 use Rattle.text.specs.Pieces.{OnePiece, PiecesJoin, PieceMoves}
 use Rattle.report.specs.Promise.{ReportIsLines, LinesFit, RowsAreHeld}
-use Rattle.listing.specs.Told.{ToldIsReading}
+use Rattle.listing.specs.Told.{ToldIsReading, ToldIsListing}
+use Rattle.listing.specs.Listing.{AcceptedListing}
 use Rattle.demands.specs.One.{OneHolds, PromiseCanBeMet, OneOutcomeOnly, GradingKeepsTheRest}
 use Rattle.demands.specs.Two.{ValuesArePaths, CellIsPath, FloatingNeverMarks, ColumnIsOfItsVector}
 use Rattle.demands.specs.Two.{ClassesCountOnce, NamingAgainAddsNothing, OtherEndAddsNothing}
@@ -74,6 +75,8 @@ pub record AllProved : Type 2 where
   pub lines-fit : LinesFit
   pub rows-are-held : RowsAreHeld
   pub told-is-reading : ToldIsReading
+  pub told-is-listing : ToldIsListing
+  pub accepted-listing : AcceptedListing
   pub gathered-is-before : GatheredIsBefore
   pub before-is-circuit : BeforeIsCircuit
   -- known results

@@ -224,7 +224,7 @@ told-is-listing file r told gathered =
     ap (λ (c : Circuit). listingOf c (readingTold r)) (ap circuitTold gathered ∙ circuit-back (readBefore file) (before-is-good file))
     ∙ ap (λ (reading : Reading). listingOf (readBefore file) reading) (told-is-reading file r told)
 
-accepted-listing : AcceptedListing
+pub accepted-listing : AcceptedListing
 unfolding listingOf refusalLines
 accepted-listing file c e =
     ap (λ (reading : Reading). listingOf (readBefore file) reading) e

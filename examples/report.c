@@ -1,5 +1,5 @@
 /*
- * The whole report from C, in buffers of just the size that the file needs: each row by its names, its class and its marks.
+ * The whole report from C of the circuit file on standard input, in buffers of just the size that the file needs: each row by its names, its class and its marks.
  * Status as that of examples/found.c.
  */
 #include "togyamiru.h"

@@ -7,7 +7,7 @@ use mathlib.Core.List.{List, [], _∷_, _++_}
 use native.Mathlib.Omega.{arith}
 use lib.Dec.{T}
 use lib.ListN.{getD}
-use Rattle.text.specs.Ascii.{bytesOf}
+use Rattle.print_lines.specs.Ascii.{bytesOf}
 use Rattle.circuit.specs.Circuit.{Circuit, Instance, Reference, primary, outputOf, no-faults}
 use Rattle.circuit.specs.Reading.{Reading, accepted, refusal, readingOf}
 use Rattle.circuit.specs.Records.{emptyCircuit}

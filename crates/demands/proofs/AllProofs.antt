@@ -1,10 +1,10 @@
 -- All statements, proved: each field of AllProved by the theorem of its name.
 use Rattle.demands.specs.Proved.{AllProved}
 use Rattle.circuit.proofs.GatheredLaws.{gathered-is-before, before-is-circuit}
-use Rattle.text.proofs.PieceLaws.{one-piece, pieces-join, piece-moves}
-use Rattle.report.proofs.ReportLaws.{report-is-lines, lines-fit}
-use Rattle.report.proofs.HeldIsReport.{rows-are-held}
-use Rattle.listing.proofs.ToldLaws.{told-is-reading, told-is-listing, accepted-listing}
+use Rattle.print_lines.proofs.PieceLaws.{one-piece, pieces-join, piece-moves}
+use Rattle.print_report.proofs.ReportLaws.{report-is-lines, lines-fit}
+use Rattle.print_report.proofs.HeldIsReport.{rows-are-held}
+use Rattle.print_circuit.proofs.ToldLaws.{told-is-reading, told-is-listing, accepted-listing}
 use Rattle.demands.proofs.OneProof.{one-holds, grading-keeps-the-rest}
 use Rattle.demands.proofs.RightProof.{promise-can-be-met, rightly-is-right}
 use Rattle.demands.proofs.Outcomes.{one-outcome-only}

@@ -21,17 +21,17 @@ use Rattle.circuit.specs.declared.Reading.{Reading as ReadingRecord}
 use Rattle.circuit.specs.declared.Reference.{Reference}
 use Rattle.circuit.specs.declared.refusal.Refusal.the-variants.{Unfinished}
 use Rattle.circuit.proofs.CircuitLaws.{accepted-is-good}
-use Rattle.fields.specs.declared.Field.{Field}
-use Rattle.bridges.specs.ListSums.{listsOf, ListedBridges}
-use Rattle.bridges.specs.declared.lists.Lists.{Lists}
-use Rattle.instances.specs.ReadInstances.{HeldTo}
+use Rattle.read_fields.specs.declared.Field.{Field}
+use Rattle.read_bridges.specs.ListSums.{listsOf, ListedBridges}
+use Rattle.read_bridges.specs.declared.lists.Lists.{Lists}
+use Rattle.read_instances.specs.ReadInstances.{HeldTo}
 use Rattle.grading.specs.Codes.{CodesFit}
 use Rattle.grading.specs.Given.{CircuitGiven, Read}
 use Rattle.grading.specs.Promise.{countsOf}
 use Rattle.grading.specs.declared.Answer.the-variants.{ShortMatrix}
-use Rattle.rows.specs.Model.{instanceCodes}
-use Rattle.marks.specs.Model.{InstanceGiven}
-use Rattle.report.specs.Held.{RowsHeld}
+use Rattle.grade_rows.specs.Model.{instanceCodes}
+use Rattle.grade_marks.specs.Model.{InstanceGiven}
+use Rattle.print_report.specs.Held.{RowsHeld}
 use Rattle.demands.specs.Files.{inverterFields, oneUnder}
 use Rattle.demands.proofs.Computing.{computing}
 

@@ -26,7 +26,7 @@ use Rattle.grading.specs.Rows as rows
 use Rattle.grading.specs.Rows.{Row, rowsOf, rowValues, CellMarked, markOf, rowWords, matrixOf}
 use Rattle.grading.specs.Grading.{over}
 use Rattle.grading.proofs.Everywhere.{every-at}
-use Rattle.classes.proofs.FoundMeaning.{words-are}
+use Rattle.grade_classes.proofs.FoundMeaning.{words-are}
 use Rattle.grading.proofs.SameClass.{Placed, rows-placed}
 use Rattle.grading.proofs.ValueLaws.{type-good, type-accepted}
 use Rattle.demands.specs.Calls.{Call, GradedAs, cellAt}

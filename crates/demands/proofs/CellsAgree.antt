@@ -14,7 +14,7 @@ use Rattle.words.proofs.Rows.{row-word, upTo-le-one}
 use Rattle.circuit.specs.Circuit.{Circuit}
 use Rattle.grading.specs.Rows.{Row, rowsOf, cell, markOf, rowWords, matrixOf}
 use Rattle.grading.specs.Grading.{over}
-use Rattle.classes.proofs.FoundMeaning.{words-are}
+use Rattle.grade_classes.proofs.FoundMeaning.{words-are}
 use Rattle.demands.specs.Calls.{Call, GradedAs, cellAt}
 use Rattle.demands.specs.Two.{noRow, rowAt, vectorOf, MatrixCell, markIn, CellsTell}
 use Rattle.demands.proofs.Gave.{gave}

@@ -18,7 +18,7 @@ use Rattle.grading.specs.Grading.{Counts, Grading, gradingOf, countsIn, numberI
 use Rattle.grading.specs.Promise.{numberOf, placeOf, countsOf}
 use Rattle.grading.specs.declared.Answer.{Answer}
 use Rattle.grading.specs.declared.Answer.the-variants.{Graded, Refused, ShortMatrix, ShortClasses}
-use Rattle.grader.proofs.grade.grade as grade
+use Rattle.grade_file.proofs.grade.grade as grade
 use Rattle.togyamiru.specs.Entry.{sixNumbers, EntryPromise}
 use Rattle.togyamiru.proofs.togyamiru_grade as togyamiru-grade
 use Rattle.demands.specs.Calls.{Kept, Refuses, isGraded}

@@ -19,7 +19,7 @@ use Rattle.circuit.specs.Table.{Verdict, passes, refusedAt, firstOf, misplaced,
 use Rattle.circuit.specs.Reading.{Reading, accepted, unless, readFrom}
 use Rattle.circuit.proofs.Verdicts.{first-passes}
 use Rattle.circuit.proofs.Tested.{holds, and-T}
-use Rattle.fields.proofs.Cuts.{behind, standing, cut-broken, cut-field}
+use Rattle.read_fields.proofs.Cuts.{behind, standing, cut-broken, cut-field}
 use Rattle.demands.specs.Files.{fieldBytes as bytesOfField}
 use Rattle.demands.specs.AlikeFiles.{TagAndBody, fieldsOf, notVector}
 use Rattle.demands.specs.SplitFiles.{AcceptedIsSplit, SplitOnce}

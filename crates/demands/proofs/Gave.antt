@@ -18,7 +18,7 @@ use Rattle.grading.specs.Grading as grading
 use Rattle.grading.specs.Promise.{numberOf, countsOf, Meets}
 use Rattle.grading.specs.declared.Answer.{Answer}
 use Rattle.grading.specs.declared.Answer.the-variants.{Graded, Refused, ShortMatrix, ShortClasses}
-use Rattle.classes.proofs.FoundMeaning.{numbers-are}
+use Rattle.grade_classes.proofs.FoundMeaning.{numbers-are}
 use Rattle.demands.specs.Calls.{Call, GradedAs, isGraded, classAt}
 
 pub record Gave (call : Call) (c : Circuit) : Type 0 where

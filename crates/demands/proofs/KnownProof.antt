@@ -2,12 +2,12 @@
 use mathlib.Core.Path.{refl}
 use Rattle.words.specs.Bits.{firstTo}
 use Rattle.words.specs.Rows.{markAt, marksOf, firstMarkOf}
-use Rattle.text.specs.Decimal.{digitsOf, lengthIn, decimal}
-use Rattle.text.specs.Lines.{refusalLine}
+use Rattle.print_lines.specs.Decimal.{digitsOf, lengthIn, decimal}
+use Rattle.print_lines.specs.Lines.{refusalLine}
 use Rattle.grading.specs.Codes.{codeOf}
-use Rattle.report.specs.Lines.{firstLine, kindLetter, digitsOfMarks, rowLine}
+use Rattle.print_report.specs.Lines.{firstLine, kindLetter, digitsOfMarks, rowLine}
 use Rattle.demands.specs.Calls.{cellAt}
-use Rattle.report.specs.Report.{kindOf, firstEnd, secondEnd, lineOf, rowLines, countsLine, reportLines, reportOf}
+use Rattle.print_report.specs.Report.{kindOf, firstEnd, secondEnd, lineOf, rowLines, countsLine, reportLines, reportOf}
 use Rattle.demands.specs.Claims.{marksFrom, marksIn, floatsUnder, floatsOf, floatsIn, Holds, no-more, _and_}
 use Rattle.demands.specs.KnownResults.{AllKnown}
 use Rattle.demands.proofs.Computing.{computing}

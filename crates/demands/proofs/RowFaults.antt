@@ -15,7 +15,7 @@ use Rattle.circuit.specs.Laws.{CircuitGood}
 use Rattle.grading.specs.Rows.{Row, rowsOfInstance, rowsFrom, rowsOf}
 use Rattle.grading.specs.Statements.{RowOf}
 use Rattle.grading.proofs.Everywhere.{Every, every-nil, every-append, every-map, place-of}
-use Rattle.marks.proofs.RowMeaning.{faults-suit}
+use Rattle.grade_marks.proofs.RowMeaning.{faults-suit}
 use Rattle.grading.proofs.SameClass.{rows-placed}
 use Rattle.grading.proofs.ValueLaws.{instance-good}
 

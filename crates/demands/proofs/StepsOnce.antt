@@ -5,14 +5,14 @@ use mathlib.Core.List.{List}
 use native.Mathlib.Omega.{arith}
 use lib.ListN.{length}
 use Rattle.circuit.specs.Fields.{Field, clean, broken, field, cutFrom}
-use Rattle.fields.specs.Steps.{fieldIn, FieldAt, StepIs, NextIs}
-use Rattle.fields.specs.declared.Field.{Field as FieldRecord}
-use Rattle.fields.specs.declared.Step.{Step}
-use Rattle.fields.specs.declared.Step.the-variants.{Whole, Broken, End}
-use Rattle.fields.specs.declared.Next.{Next}
-use Rattle.fields.specs.declared.Next.the-variants.{Found, Other}
-use Rattle.fields.proofs.Bodies.{length-body}
-use Rattle.fields.proofs.Places.{cut-tells}
+use Rattle.read_fields.specs.Steps.{fieldIn, FieldAt, StepIs, NextIs}
+use Rattle.read_fields.specs.declared.Field.{Field as FieldRecord}
+use Rattle.read_fields.specs.declared.Step.{Step}
+use Rattle.read_fields.specs.declared.Step.the-variants.{Whole, Broken, End}
+use Rattle.read_fields.specs.declared.Next.{Next}
+use Rattle.read_fields.specs.declared.Next.the-variants.{Found, Other}
+use Rattle.read_fields.proofs.Bodies.{length-body}
+use Rattle.read_fields.proofs.Places.{cut-tells}
 
 module _ (file : List ℕ) where
   module _ (at : ℕ) where

@@ -14,16 +14,16 @@ use Rattle.circuit.proofs.AnswerLaws.{verdict-tells, answers-unique}
 use Rattle.grading.specs.Grading.{Grading}
 use Rattle.grading.specs.Promise.{Promise}
 use Rattle.grading.specs.declared.Answer.{Answer}
-use Rattle.text.specs.Given.{LineGiven}
-use Rattle.text.proofs.PieceLaws.{one-piece}
+use Rattle.print_lines.specs.Given.{LineGiven}
+use Rattle.print_lines.proofs.PieceLaws.{one-piece}
 use Rattle.togyamiru.specs.Entry.{EntryMeets}
 use Rattle.togyamiru.proofs.RowsLaws.{rows-once}
 use Rattle.demands.specs.Unique.{Unique}
-use Rattle.modules.proofs.TypesOnce.{types-once}
-use Rattle.bridges.proofs.BridgesOnce.{bridges-once}
-use Rattle.instances.proofs.InstancesOnce.{instances-once}
-use Rattle.vectors.proofs.VectorsOnce.{vectors-once}
-use Rattle.reader.proofs.StagesOnce.{stages-once}
+use Rattle.read_types.proofs.TypesOnce.{types-once}
+use Rattle.read_bridges.proofs.BridgesOnce.{bridges-once}
+use Rattle.read_instances.proofs.InstancesOnce.{instances-once}
+use Rattle.read_vectors.proofs.VectorsOnce.{vectors-once}
+use Rattle.read_file.proofs.StagesOnce.{stages-once}
 use Rattle.grading.specs.declared.Answer.the-variants.{ShortMatrix}
 use Rattle.demands.proofs.Outcomes.{same-counts, one-outcome-only}
 use Rattle.demands.proofs.StepsOnce.{step-once, next-once}
@@ -58,71 +58,71 @@ unique = record {
   words-marks = record { asks-nothing = λ κs a. tt; one-outcome = λ κs a asked one other p q. both (p ∙ sym q) refl };
   words-first-mark = record { asks-nothing = λ κs a. tt; one-outcome = λ κs a asked one other p q. both (p ∙ sym q) refl };
   words-first-ones = record { asks-nothing = λ κs a. tt; one-outcome = λ κs a asked one other p q. both (p ∙ sym q) refl };
-  text-put-byte = record { can-be-met = λ κs. ((lent (0 ∷ []), (0, (0, tt))), omega arith); one-outcome = λ κs a asked one other p q. both (p .0 ∙ sym (q .0)) (ap (λ x. (x, (tt, (tt, tt)))) (p .1 ∙ sym (q .1))) };
-  text-put-bytes = record { can-be-met = λ κs. ((lent [], (0, (lent [], tt))), omega arith); one-outcome = λ κs a asked one other p q. both (p .0 ∙ sym (q .0)) (ap (λ x. (x, (tt, (tt, tt)))) (p .1 ∙ sym (q .1))) };
-  text-put-number = record { can-be-met = λ κs. ((lent (replicate 20 0), (0, (0, tt))), omega arith); one-outcome = λ κs a asked one other p q. both (p .0 ∙ sym (q .0)) (ap (λ x. (x, (tt, (tt, tt)))) (p .1 ∙ sym (q .1))) };
-  text-give = record {
+  print-lines-put-byte = record { can-be-met = λ κs. ((lent (0 ∷ []), (0, (0, tt))), omega arith); one-outcome = λ κs a asked one other p q. both (p .0 ∙ sym (q .0)) (ap (λ x. (x, (tt, (tt, tt)))) (p .1 ∙ sym (q .1))) };
+  print-lines-put-bytes = record { can-be-met = λ κs. ((lent [], (0, (lent [], tt))), omega arith); one-outcome = λ κs a asked one other p q. both (p .0 ∙ sym (q .0)) (ap (λ x. (x, (tt, (tt, tt)))) (p .1 ∙ sym (q .1))) };
+  print-lines-put-number = record { can-be-met = λ κs. ((lent (replicate 20 0), (0, (0, tt))), omega arith); one-outcome = λ κs a asked one other p q. both (p .0 ∙ sym (q .0)) (ap (λ x. (x, (tt, (tt, tt)))) (p .1 ∙ sym (q .1))) };
+  print-lines-give = record {
     asks-nothing = λ κs a. tt;
     one-outcome = λ κs a asked one other p q. let same = given-once p q in both (same .0) (λ i. (tt, (same .1 i, tt)));
   };
-  text-refusal-line = record {
+  print-lines-refusal-line = record {
     asks-nothing = λ κs a. tt;
     one-outcome = λ κs a asked one other p q. let same = given-once p q in both (same .0) (λ i. (tt, (tt, (same .1 i, tt))));
   };
-  joining-complementary = record {
+  join-nodes-complementary = record {
     Asked = λ κs a. EdgesGiven (a .1 .0) (a .1 .1 .0) (a .1 .1 .1 .0) (now (a .0));
     Told = λ κs a r s. r ≡ isComplementary (typeWith (a .1 .0) (a .1 .1 .0) (a .1 .1 .1 .0) (now (a .0)));
     asks = λ M 𝓤 H A mem run κs a g. refl;
     tells = λ M 𝓤 H A mem run κs a g r s. refl;
     sole = record { can-be-met = λ κs. ((lent [], (2, (2, (1, tt)))), edges-given); one-outcome = λ κs a asked one other p q. both (p ∙ sym q) refl };
   };
-  joining-check-type = record { can-be-met = λ κs. ((bareType, tt), type-given); one-outcome = λ κs a asked one other p q. both (p ∙ sym q) refl };
-  joining-joining = record {
+  join-nodes-check-type = record { can-be-met = λ κs. ((bareType, tt), type-given); one-outcome = λ κs a asked one other p q. both (p ∙ sym q) refl };
+  join-nodes-joining = record {
     Asked = λ κs a. EdgesGiven (a .1 .0) (a .1 .1 .0) (a .1 .1 .1 .0) (now (a .0));
     Told = λ κs a r s. r ≡ railsOf (typeWith (a .1 .0) (a .1 .1 .0) (a .1 .1 .1 .0) (now (a .0))) (now (a .1 .1 .1 .1 .0)) (now (a .1 .1 .1 .1 .1 .0));
     asks = λ M 𝓤 H A mem run κs a g. refl;
     tells = λ M 𝓤 H A mem run κs a g r s. refl;
     sole = record { can-be-met = λ κs. ((lent [], (2, (2, (1, (lent (replicate 48 0), (lent (replicate 48 0), tt)))))), edges-given); one-outcome = λ κs a asked one other p q. both (p ∙ sym q) refl };
   };
-  joining-joining-of = record { can-be-met = λ κs. ((bareType, (lent (replicate 48 0), (lent (replicate 48 0), tt))), type-given); one-outcome = λ κs a asked one other p q. both (p ∙ sym q) refl };
-  joining-join-type = record { can-be-met = λ κs. ((bareType, (lent (replicate 48 0), (lent (replicate 48 0), tt))), type-given); one-outcome = λ κs a asked one other p q. both (p ∙ sym q) refl };
-  joining-output-planes = record { asks-nothing = λ κs a. tt; one-outcome = λ κs a asked one other p q. both (p ∙ sym q) refl };
+  join-nodes-joining-of = record { can-be-met = λ κs. ((bareType, (lent (replicate 48 0), (lent (replicate 48 0), tt))), type-given); one-outcome = λ κs a asked one other p q. both (p ∙ sym q) refl };
+  join-nodes-join-type = record { can-be-met = λ κs. ((bareType, (lent (replicate 48 0), (lent (replicate 48 0), tt))), type-given); one-outcome = λ κs a asked one other p q. both (p ∙ sym q) refl };
+  join-nodes-output-planes = record { asks-nothing = λ κs a. tt; one-outcome = λ κs a asked one other p q. both (p ∙ sym q) refl };
   circuit-is-between = record { asks-nothing = λ κs a. tt; one-outcome = λ κs a asked one other p q. both (p ∙ sym q) refl };
   circuit-refuses = record { asks-nothing = λ κs a. tt; one-outcome = λ κs a asked one other p q. both (p ∙ sym q) refl };
   circuit-or-if = record { asks-nothing = λ κs a. tt; one-outcome = λ κs a asked one other p q. both (verdict-tells (one .0) (other .0) (p ∙ sym q)) refl };
   circuit-number-of = record { asks-nothing = λ κs a. tt; one-outcome = λ κs a asked one other p q. both (p ∙ sym q) refl };
   circuit-place-of = record { asks-nothing = λ κs a. tt; one-outcome = λ κs a asked one other p q. both (p ∙ sym q) refl };
-  fields-step-at = record { can-be-met = λ κs. ((lent [], (0, tt)), omega arith); one-outcome = λ κs a asked one other p q. both (step-once (now (a .0)) (a .1 .0) (one .0) (other .0) p q) refl };
-  fields-field-of = record { can-be-met = λ κs. ((lent [], (0, (0, tt))), omega arith); one-outcome = λ κs a asked one other p q. both (next-once (now (a .0)) (a .1 .0) (a .1 .1 .0) (one .0) (other .0) p q) refl };
-  fields-byte = record { can-be-met = λ κs. ((lent [], (emptyField, (0, tt))), omega arith); one-outcome = λ κs a asked one other p q. both (p ∙ sym q) refl };
-  fields-two-bytes = record { can-be-met = λ κs. ((lent [], (emptyField, (0, tt))), (omega arith, omega arith)); one-outcome = λ κs a asked one other p q. both (p ∙ sym q) refl };
-  modules-no-type = record { asks-nothing = λ κs a. tt; one-outcome = λ κs a asked one other p q. both (p ∙ sym q) refl };
-  modules-read-types = record { can-be-met = λ κs. ((lent [], (0, tt)), omega arith); one-outcome = λ κs a asked one other p q. both (types-once (now (a .0)) (a .1 .0) (one .0) (other .0) p q) refl };
-  bridges-no-bridge = record { asks-nothing = λ κs a. tt; one-outcome = λ κs a asked one other p q. both (p ∙ sym q) refl };
-  bridges-lists-of = record {
+  read-fields-step-at = record { can-be-met = λ κs. ((lent [], (0, tt)), omega arith); one-outcome = λ κs a asked one other p q. both (step-once (now (a .0)) (a .1 .0) (one .0) (other .0) p q) refl };
+  read-fields-field-of = record { can-be-met = λ κs. ((lent [], (0, (0, tt))), omega arith); one-outcome = λ κs a asked one other p q. both (next-once (now (a .0)) (a .1 .0) (a .1 .1 .0) (one .0) (other .0) p q) refl };
+  read-fields-byte = record { can-be-met = λ κs. ((lent [], (emptyField, (0, tt))), omega arith); one-outcome = λ κs a asked one other p q. both (p ∙ sym q) refl };
+  read-fields-two-bytes = record { can-be-met = λ κs. ((lent [], (emptyField, (0, tt))), (omega arith, omega arith)); one-outcome = λ κs a asked one other p q. both (p ∙ sym q) refl };
+  read-types-no-type = record { asks-nothing = λ κs a. tt; one-outcome = λ κs a asked one other p q. both (p ∙ sym q) refl };
+  read-types-read-types = record { can-be-met = λ κs. ((lent [], (0, tt)), omega arith); one-outcome = λ κs a asked one other p q. both (types-once (now (a .0)) (a .1 .0) (one .0) (other .0) p q) refl };
+  read-bridges-no-bridge = record { asks-nothing = λ κs a. tt; one-outcome = λ κs a asked one other p q. both (p ∙ sym q) refl };
+  read-bridges-lists-of = record {
     can-be-met = λ κs. ((noBridges, (0, tt)), bridges-listed);
     one-outcome = λ κs a listed one other p q.
         both (p (listed .bridges) (listed .counted) (listed .within) (listed .ranges) (listed .is)
         ∙ sym (q (listed .bridges) (listed .counted) (listed .within) (listed .ranges) (listed .is))) refl;
   };
-  bridges-read-bridges = record { can-be-met = λ κs. ((lent [], (0, tt)), omega arith); one-outcome = λ κs a asked one other p q. both (bridges-once (now (a .0)) (a .1 .0) (one .0) (other .0) p q) refl };
-  instances-no-instance = record { asks-nothing = λ κs a. tt; one-outcome = λ κs a asked one other p q. both (p ∙ sym q) refl };
-  instances-read-instances = record {
+  read-bridges-read-bridges = record { can-be-met = λ κs. ((lent [], (0, tt)), omega arith); one-outcome = λ κs a asked one other p q. both (bridges-once (now (a .0)) (a .1 .0) (one .0) (other .0) p q) refl };
+  read-instances-no-instance = record { asks-nothing = λ κs a. tt; one-outcome = λ κs a asked one other p q. both (p ∙ sym q) refl };
+  read-instances-read-instances = record {
     can-be-met = λ κs. ((lent [], (0, (0, (0, (noTypes, (noLists, tt)))))), (omega arith, (omega arith, held-to-none)));
     one-outcome = λ κs a asked one other p q.
         both (instances-once (now (a .0)) (a .1 .0) (a .1 .1 .0) (a .1 .1 .1 .0) (a .1 .1 .1 .1 .0) (a .1 .1 .1 .1 .1 .0) (asked .1 .1) (one .0) (other .0) p q) refl;
   };
-  vectors-no-vector = record { asks-nothing = λ κs a. tt; one-outcome = λ κs a asked one other p q. both (p ∙ sym q) refl };
-  vectors-read-vectors = record { can-be-met = λ κs. ((lent [], (0, (0, tt))), (omega arith, omega arith)); one-outcome = λ κs a asked one other p q. both (vectors-once (now (a .0)) (a .1 .0) (a .1 .1 .0) (one .0) (other .0) p q) refl };
-  reader-read-stages = record { asks-nothing = λ κs a. tt; one-outcome = λ κs a asked one other p q. both (stages-once (now (a .0)) (one .0) (other .0) p q) refl };
-  reader-read = record { asks-nothing = λ κs a. tt; one-outcome = λ κs a asked one other p q. both (answers-unique (readingOf (now (a .0))) (one .0) (other .0) p q) refl };
+  read-vectors-no-vector = record { asks-nothing = λ κs a. tt; one-outcome = λ κs a asked one other p q. both (p ∙ sym q) refl };
+  read-vectors-read-vectors = record { can-be-met = λ κs. ((lent [], (0, (0, tt))), (omega arith, omega arith)); one-outcome = λ κs a asked one other p q. both (vectors-once (now (a .0)) (a .1 .0) (a .1 .1 .0) (one .0) (other .0) p q) refl };
+  read-file-read-stages = record { asks-nothing = λ κs a. tt; one-outcome = λ κs a asked one other p q. both (stages-once (now (a .0)) (one .0) (other .0) p q) refl };
+  read-file-read = record { asks-nothing = λ κs a. tt; one-outcome = λ κs a asked one other p q. both (answers-unique (readingOf (now (a .0))) (one .0) (other .0) p q) refl };
   grading-number-of = record { asks-nothing = λ κs a. tt; one-outcome = λ κs a asked one other p q. both (p ∙ sym q) refl };
   grading-place-of = record { asks-nothing = λ κs a. tt; one-outcome = λ κs a asked one other p q. both (p ∙ sym q) refl };
   grading-counts-of = record { asks-nothing = λ κs a. tt; one-outcome = λ κs a asked one other p q. both (same-counts (one .0) (other .0) (p ∙ sym q)) refl };
-  rows-list-rows = record { can-be-met = λ κs. ((unusedInstance, (bareType, (noBridges, (0, (0, (lent [], (0, tt))))))), ((omega arith, omega arith, omega arith, omega arith), omega (arith, codes-of-none 2 1 (take 0 noBridges)))); one-outcome = λ κs a asked one other p q. both (p .end ∙ sym (q .end)) (ap (λ x. (tt, (tt, (tt, (tt, (tt, (x, (tt, tt)))))))) (p .listed ∙ sym (q .listed))) };
-  rows-rows-of = record { can-be-met = λ κs. ((circuit-given .0, tt), circuit-given .1); one-outcome = λ κs a given one other p q. both (p (given .circuit) (given .is) (given .good) ∙ sym (q (given .circuit) (given .is) (given .good))) refl };
-  signals-put-signals = record { can-be-met = λ κs. ((replicate 256 unusedVector, (0, (lent (replicate 768 0), (lent (replicate 768 0), tt)))), (omega arith, (refl, refl))); one-outcome = λ κs a asked one other p q. both refl (λ i. (tt, (tt, ((p .0 ∙ sym (q .0)) i, ((p .1 ∙ sym (q .1)) i, tt))))) };
-  marks-mark-instance = record {
+  grade-rows-list-rows = record { can-be-met = λ κs. ((unusedInstance, (bareType, (noBridges, (0, (0, (lent [], (0, tt))))))), ((omega arith, omega arith, omega arith, omega arith), omega (arith, codes-of-none 2 1 (take 0 noBridges)))); one-outcome = λ κs a asked one other p q. both (p .end ∙ sym (q .end)) (ap (λ x. (tt, (tt, (tt, (tt, (tt, (x, (tt, tt)))))))) (p .listed ∙ sym (q .listed))) };
+  grade-rows-rows-of = record { can-be-met = λ κs. ((circuit-given .0, tt), circuit-given .1); one-outcome = λ κs a given one other p q. both (p (given .circuit) (given .is) (given .good) ∙ sym (q (given .circuit) (given .is) (given .good))) refl };
+  grade-inputs-put-signals = record { can-be-met = λ κs. ((replicate 256 unusedVector, (0, (lent (replicate 768 0), (lent (replicate 768 0), tt)))), (omega arith, (refl, refl))); one-outcome = λ κs a asked one other p q. both refl (λ i. (tt, (tt, ((p .0 ∙ sym (q .0)) i, ((p .1 ∙ sym (q .1)) i, tt))))) };
+  grade-marks-mark-instance = record {
     can-be-met = λ κs. ((bareType, (record { «type_number» = 0; choice = 0; references = firstInput }, (0, (0, (lent (replicate 2048 0), (0, (0, (lent (replicate 768 0), (lent (replicate 768 0), (lent [], tt)))))))))), instance-given);
     one-outcome = λ κs a asked one other p q.
         both refl (λ i. (
@@ -148,7 +148,7 @@ unique = record {
           ),
         ));
   };
-  classes-class-instance = record {
+  grade-classes-class-instance = record {
     can-be-met = λ κs. ((lent (replicate 2048 0), (0, (0, (unusedInstance, (lent [], (lent [], (0, tt))))))), ((omega arith, omega arith, omega arith), (codes-fit (replicate 2048 0), (omega arith, omega arith, refl))));
     one-outcome = λ κs a asked one other p q.
         let classes = p .classes-are ∙ sym (q .classes-are) in
@@ -156,7 +156,7 @@ unique = record {
         both (λ i. record { count = (p .count-is ∙ sym (q .count-is)) i; found = found i })
         (λ i. ((p .keys-are ∙ sym (q .keys-are)) i, (tt, (tt, (tt, (tt, (classes i, (tt, tt))))))));
   };
-  grader-grade-read = record {
+  grade-file-grade-read = record {
     can-be-met = λ κs. ((readingOfNone, (lent [], (lent [], tt))), none-read);
     one-outcome = λ κs a read one other p q.
         let same =
@@ -165,7 +165,7 @@ unique = record {
         in
         both (same .0) (λ i. (tt, (same .1 i, (same .2 i, tt))));
   };
-  grader-grade = record {
+  grade-file-grade = record {
     asks-nothing = λ κs a. tt;
     one-outcome = λ κs a asked one other p q.
         let same =
@@ -173,30 +173,30 @@ unique = record {
         in
         both (same .0) (λ i. (tt, (same .1 i, (same .2 i, tt))));
   };
-  report-first-line = record {
+  print-report-first-line = record {
     asks-nothing = λ κs a. tt;
     one-outcome = λ κs a asked one other p q. let same = given-once p q in both (same .0) (λ i. (tt, (tt, (tt, (tt, (same .1 i, tt))))));
   };
-  report-row-line = record {
+  print-report-row-line = record {
     asks-nothing = λ κs a. tt;
     one-outcome = λ κs a asked one other p q. let same = given-once p q in both (same .0) (λ i. (tt, (tt, (tt, (same .1 i, tt)))));
   };
-  report-report-piece = record {
+  print-report-report-piece = record {
     can-be-met = λ κs. ((ShortMatrix 0, (lent [], (lent [], (lent [], (0, (lent [], tt)))))), rows-held);
     one-outcome = λ κs a asked one other p q.
         let same = one-piece _ _ _ _ _ _ _ _ (p .of-held) (q .of-held) in both (same .0) (λ i. (tt, (tt, (tt, (tt, (tt, (same .1 i, tt)))))));
   };
-  listing-show-piece = record {
+  print-circuit-show-piece = record {
     asks-nothing = λ κs a. tt;
     one-outcome = λ κs a asked one other p q.
         let same = one-piece _ _ _ _ _ _ _ _ (p .given) (q .given) in both (same .0) (λ i. (tt, (tt, (same .1 i, tt))));
   };
-  files-unread = record {
+  program-io-unread = record {
     asks-nothing = λ κs a. tt;
     one-outcome = λ κs a asked one other p q.
         both (λ i. record { «is_read» = (p .0 ∙ sym (q .0)) i; count = (p .1 ∙ sym (q .1)) i }) refl;
   };
-  files-nothing = record {
+  program-io-nothing = record {
     asks-nothing = λ κs a. tt;
     one-outcome = λ κs a asked one other p q.
         both (λ i. record { «is_lost» = (p .0 ∙ sym (q .0)) i; «has_report» = (p .1 ∙ sym (q .1)) i }) refl;

@@ -14,7 +14,7 @@ use Rattle.circuit.specs.Circuit.{Circuit, joinLists}
 use Rattle.circuit.specs.Known.{Known, start, tagOf, taken, knownAfter}
 use Rattle.circuit.specs.Table.{Verdict, passes, refusedAt, firstOf, fieldTests, endTests}
 use Rattle.circuit.specs.Reading.{Reading, accepted, refusal, unless, readFrom, readingOf}
-use Rattle.fields.proofs.Cuts.{behind, standing, cut-clean, cut-field}
+use Rattle.read_fields.proofs.Cuts.{behind, standing, cut-clean, cut-field}
 use Rattle.demands.specs.Files.{fieldBytes as bytesOfField}
 use Rattle.demands.specs.AlikeFiles.{TagAndBody, fieldsOf}
 

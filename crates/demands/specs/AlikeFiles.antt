@@ -7,7 +7,7 @@ use mathlib.Core.Logic.{_⊎_}
 use mathlib.Core.List.{List, [], _∷_, _++_, map}
 use lib.Dec.{T, eqb}
 use lib.ListN.{length, getD}
-use Rattle.text.specs.Ascii.{bytesOf}
+use Rattle.print_lines.specs.Ascii.{bytesOf}
 use Rattle.switch.specs.Modules.{allOf}
 use Rattle.circuit.specs.Limits.{mostBytes, mostVectors}
 use Rattle.circuit.specs.Circuit.{Circuit, joinLists}

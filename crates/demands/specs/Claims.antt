@@ -8,7 +8,7 @@ use mathlib.Core.List.{List, [], _∷_, _++_, map}
 use lib.Dec.{eqb, leb}
 use lib.ListN.{length}
 use Rattle.words.specs.Tables.{table}
-use Rattle.text.specs.Ascii.{bytesOf}
+use Rattle.print_lines.specs.Ascii.{bytesOf}
 use Rattle.switch.specs.Conduction.{Value, between, ground, supply}
 use Rattle.switch.specs.Modules.{ModuleType, linksOf}
 use Rattle.switch.specs.Bridges.{Bridge}
@@ -20,7 +20,7 @@ use Rattle.grading.specs.Grading.{Counts, Grading, graded, refused, gradingOf, 
 use Rattle.grading.specs.Grading.{classesAfterGrading}
 use Rattle.grading.specs.Codes.{codeOf}
 use Rattle.demands.specs.Calls.{cellAt}
-use Rattle.report.specs.Report.{reportOf}
+use Rattle.print_report.specs.Report.{reportOf}
 
 -- ---- what a claim speaks of
 

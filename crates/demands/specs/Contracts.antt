@@ -23,7 +23,7 @@ use denote.Triple.Clauses.{Ended, Lasts, AtExit, closing}
 use denote.Triple.Spec.{Meets}
 use Rattle.grading.specs.Promise.{numberOf, placeOf, countsOf}
 use Rattle.grading.specs.declared.Answer.{Answer}
-use Rattle.grader.proofs.grade.grade as grade
+use Rattle.grade_file.proofs.grade.grade as grade
 use Rattle.togyamiru.proofs.togyamiru_grade as togyamiru-grade
 use Rattle.demands.specs.Calls.{Call, Kept, Refuses, isGraded}
 use Rattle.demands.specs.Determined.{MeetsDemands}

@@ -4,7 +4,7 @@ use Prim.Native.String.{String}
 use mathlib.Core.List.{List, [], _∷_, _++_, map}
 use lib.ListN.{length, replicate}
 use Rattle.words.specs.Tables.{table}
-use Rattle.text.specs.Ascii.{bytesOf}
+use Rattle.print_lines.specs.Ascii.{bytesOf}
 use Rattle.switch.specs.Bridges.{Bridge, nodes, input}
 use Rattle.circuit.specs.Circuit.{Reference, primary, outputOf, Choice, exhaustive, no-faults, list, joinLists}
 use Rattle.circuit.specs.Records.{choiceByte}

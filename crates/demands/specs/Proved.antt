@@ -1,10 +1,10 @@
 -- All that is stated of the grader, in one record: a field for each statement that docs/TRUST.md cites. `all-proved` (proofs/AllProofs) has
 -- this type, so a statement whose proof is gone, or proves something else, is refused; .ci/parts/8-trust holds docs/TRUST.md to the fields.
 use Rattle.circuit.specs.Laws.{GatheredIsBefore, BeforeIsCircuit}
-use Rattle.text.specs.Pieces.{OnePiece, PiecesJoin, PieceMoves}
-use Rattle.report.specs.Promise.{ReportIsLines, LinesFit, RowsAreHeld}
-use Rattle.listing.specs.Told.{ToldIsReading, ToldIsListing}
-use Rattle.listing.specs.Listing.{AcceptedListing}
+use Rattle.print_lines.specs.Pieces.{OnePiece, PiecesJoin, PieceMoves}
+use Rattle.print_report.specs.Promise.{ReportIsLines, LinesFit, RowsAreHeld}
+use Rattle.print_circuit.specs.Told.{ToldIsReading, ToldIsListing}
+use Rattle.print_circuit.specs.Listing.{AcceptedListing}
 use Rattle.demands.specs.One.{OneHolds, PromiseCanBeMet, OneOutcomeOnly, GradingKeepsTheRest}
 use Rattle.demands.specs.Two.{ValuesArePaths, CellIsPath, FloatingNeverMarks, ColumnIsOfItsVector}
 use Rattle.demands.specs.Two.{ClassesCountOnce, NamingAgainAddsNothing, OtherEndAddsNothing}

@@ -16,53 +16,53 @@ use Rattle.demands.specs.Contracts.{AskedBy, ToldBy, AsksNothing, AtRetu
 use Rattle.words.proofs.marks as words-marks
 use Rattle.words.proofs.first_mark as words-first-mark
 use Rattle.words.proofs.first_ones as words-first-ones
-use Rattle.text.proofs.put_byte as text-put-byte
-use Rattle.text.proofs.put_bytes as text-put-bytes
-use Rattle.text.proofs.put_number as text-put-number
-use Rattle.text.proofs.give as text-give
-use Rattle.text.proofs.refusal_line as text-refusal-line
-use Rattle.joining.proofs.complementary.complementary as joining-complementary
-use Rattle.joining.proofs.complementary.check_type as joining-check-type
-use Rattle.joining.proofs.rails.joining as joining-joining
-use Rattle.joining.proofs.rails.joining_of as joining-joining-of
-use Rattle.joining.proofs.rails.join_type as joining-join-type
-use Rattle.joining.proofs.rails.output_planes as joining-output-planes
+use Rattle.print_lines.proofs.put_byte as print-lines-put-byte
+use Rattle.print_lines.proofs.put_bytes as print-lines-put-bytes
+use Rattle.print_lines.proofs.put_number as print-lines-put-number
+use Rattle.print_lines.proofs.give as print-lines-give
+use Rattle.print_lines.proofs.refusal_line as print-lines-refusal-line
+use Rattle.join_nodes.proofs.complementary.complementary as join-nodes-complementary
+use Rattle.join_nodes.proofs.complementary.check_type as join-nodes-check-type
+use Rattle.join_nodes.proofs.rails.joining as join-nodes-joining
+use Rattle.join_nodes.proofs.rails.joining_of as join-nodes-joining-of
+use Rattle.join_nodes.proofs.rails.join_type as join-nodes-join-type
+use Rattle.join_nodes.proofs.rails.output_planes as join-nodes-output-planes
 use Rattle.circuit.proofs.ranges.is_between as circuit-is-between
 use Rattle.circuit.proofs.refusal.refuses as circuit-refuses
 use Rattle.circuit.proofs.refusal.or_if as circuit-or-if
 use Rattle.circuit.proofs.refusal.number_of as circuit-number-of
 use Rattle.circuit.proofs.refusal.place_of as circuit-place-of
-use Rattle.fields.proofs.step_at as fields-step-at
-use Rattle.fields.proofs.field_of as fields-field-of
-use Rattle.fields.proofs.byte as fields-byte
-use Rattle.fields.proofs.two_bytes as fields-two-bytes
-use Rattle.modules.proofs.types.no_type as modules-no-type
-use Rattle.modules.proofs.types.read_types as modules-read-types
-use Rattle.bridges.proofs.no_bridge as bridges-no-bridge
-use Rattle.bridges.proofs.lists.lists_of as bridges-lists-of
-use Rattle.bridges.proofs.read_bridges as bridges-read-bridges
-use Rattle.instances.proofs.no_instance as instances-no-instance
-use Rattle.instances.proofs.read_instances as instances-read-instances
-use Rattle.vectors.proofs.no_vector as vectors-no-vector
-use Rattle.vectors.proofs.read_vectors as vectors-read-vectors
-use Rattle.reader.proofs.read.read_stages as reader-read-stages
-use Rattle.reader.proofs.read.read as reader-read
+use Rattle.read_fields.proofs.step_at as read-fields-step-at
+use Rattle.read_fields.proofs.field_of as read-fields-field-of
+use Rattle.read_fields.proofs.byte as read-fields-byte
+use Rattle.read_fields.proofs.two_bytes as read-fields-two-bytes
+use Rattle.read_types.proofs.types.no_type as read-types-no-type
+use Rattle.read_types.proofs.types.read_types as read-types-read-types
+use Rattle.read_bridges.proofs.no_bridge as read-bridges-no-bridge
+use Rattle.read_bridges.proofs.lists.lists_of as read-bridges-lists-of
+use Rattle.read_bridges.proofs.read_bridges as read-bridges-read-bridges
+use Rattle.read_instances.proofs.no_instance as read-instances-no-instance
+use Rattle.read_instances.proofs.read_instances as read-instances-read-instances
+use Rattle.read_vectors.proofs.no_vector as read-vectors-no-vector
+use Rattle.read_vectors.proofs.read_vectors as read-vectors-read-vectors
+use Rattle.read_file.proofs.read.read_stages as read-file-read-stages
+use Rattle.read_file.proofs.read.read as read-file-read
 use Rattle.grading.proofs.answers.number_of as grading-number-of
 use Rattle.grading.proofs.answers.place_of as grading-place-of
 use Rattle.grading.proofs.answers.counts_of as grading-counts-of
-use Rattle.rows.proofs.list_rows as rows-list-rows
-use Rattle.rows.proofs.rows_of as rows-rows-of
-use Rattle.signals.proofs.put_signals as signals-put-signals
-use Rattle.marks.proofs.instance.mark_instance as marks-mark-instance
-use Rattle.classes.proofs.class_instance as classes-class-instance
-use Rattle.grader.proofs.grade.grade_read as grader-grade-read
-use Rattle.grader.proofs.grade.grade as grader-grade
-use Rattle.report.proofs.first_line as report-first-line
-use Rattle.report.proofs.row_line as report-row-line
-use Rattle.report.proofs.report_piece as report-report-piece
-use Rattle.listing.proofs.show_piece as listing-show-piece
-use Rattle.files.proofs.input.unread as files-unread
-use Rattle.files.proofs.output.nothing as files-nothing
+use Rattle.grade_rows.proofs.list_rows as grade-rows-list-rows
+use Rattle.grade_rows.proofs.rows_of as grade-rows-rows-of
+use Rattle.grade_inputs.proofs.put_signals as grade-inputs-put-signals
+use Rattle.grade_marks.proofs.instance.mark_instance as grade-marks-mark-instance
+use Rattle.grade_classes.proofs.class_instance as grade-classes-class-instance
+use Rattle.grade_file.proofs.grade.grade_read as grade-file-grade-read
+use Rattle.grade_file.proofs.grade.grade as grade-file-grade
+use Rattle.print_report.proofs.first_line as print-report-first-line
+use Rattle.print_report.proofs.row_line as print-report-row-line
+use Rattle.print_report.proofs.report_piece as print-report-report-piece
+use Rattle.print_circuit.proofs.show_piece as print-circuit-show-piece
+use Rattle.program_io.proofs.input.unread as program-io-unread
+use Rattle.program_io.proofs.output.nothing as program-io-nothing
 use Rattle.togyamiru.proofs.togyamiru_grade as togyamiru-grade
 use Rattle.togyamiru.proofs.togyamiru_rows as togyamiru-rows
 
@@ -101,54 +101,54 @@ pub record Unique : Type 2 where
   pub words-marks : Sole words-marks.ended words-marks.Reads.Asked words-marks.Reads.Learnt
   pub words-first-mark : Sole words-first-mark.ended words-first-mark.Reads.Asked words-first-mark.Reads.Learnt
   pub words-first-ones : Sole words-first-ones.ended words-first-ones.Reads.Asked words-first-ones.Reads.Learnt
-  pub text-put-byte : SoleWhereMet text-put-byte.ended text-put-byte.Reads.Asked text-put-byte.Reads.Learnt
-  pub text-put-bytes : SoleWhereMet text-put-bytes.ended text-put-bytes.Reads.Asked text-put-bytes.Reads.Learnt
-  pub text-put-number : SoleWhereMet text-put-number.ended text-put-number.Reads.Asked text-put-number.Reads.Learnt
-  pub text-give : Sole text-give.ended text-give.Reads.Asked text-give.Reads.Learnt
-  pub text-refusal-line : Sole text-refusal-line.ended text-refusal-line.Reads.Asked text-refusal-line.Reads.Learnt
-  pub joining-complementary : SoleByClauses joining-complementary.ended (λ M. joining-complementary.clauses {M = M})
-  pub joining-check-type : SoleWhereMet joining-check-type.ended joining-check-type.Reads.Asked joining-check-type.Reads.Learnt
-  pub joining-joining : SoleByClauses joining-joining.ended (λ M. joining-joining.clauses {M = M})
-  pub joining-joining-of : SoleWhereMet joining-joining-of.ended joining-joining-of.Reads.Asked joining-joining-of.Reads.Learnt
-  pub joining-join-type : SoleWhereMet joining-join-type.ended joining-join-type.Reads.Asked joining-join-type.Reads.Learnt
-  pub joining-output-planes : Sole joining-output-planes.ended joining-output-planes.Reads.Asked joining-output-planes.Reads.Learnt
+  pub print-lines-put-byte : SoleWhereMet print-lines-put-byte.ended print-lines-put-byte.Reads.Asked print-lines-put-byte.Reads.Learnt
+  pub print-lines-put-bytes : SoleWhereMet print-lines-put-bytes.ended print-lines-put-bytes.Reads.Asked print-lines-put-bytes.Reads.Learnt
+  pub print-lines-put-number : SoleWhereMet print-lines-put-number.ended print-lines-put-number.Reads.Asked print-lines-put-number.Reads.Learnt
+  pub print-lines-give : Sole print-lines-give.ended print-lines-give.Reads.Asked print-lines-give.Reads.Learnt
+  pub print-lines-refusal-line : Sole print-lines-refusal-line.ended print-lines-refusal-line.Reads.Asked print-lines-refusal-line.Reads.Learnt
+  pub join-nodes-complementary : SoleByClauses join-nodes-complementary.ended (λ M. join-nodes-complementary.clauses {M = M})
+  pub join-nodes-check-type : SoleWhereMet join-nodes-check-type.ended join-nodes-check-type.Reads.Asked join-nodes-check-type.Reads.Learnt
+  pub join-nodes-joining : SoleByClauses join-nodes-joining.ended (λ M. join-nodes-joining.clauses {M = M})
+  pub join-nodes-joining-of : SoleWhereMet join-nodes-joining-of.ended join-nodes-joining-of.Reads.Asked join-nodes-joining-of.Reads.Learnt
+  pub join-nodes-join-type : SoleWhereMet join-nodes-join-type.ended join-nodes-join-type.Reads.Asked join-nodes-join-type.Reads.Learnt
+  pub join-nodes-output-planes : Sole join-nodes-output-planes.ended join-nodes-output-planes.Reads.Asked join-nodes-output-planes.Reads.Learnt
   pub circuit-is-between : Sole circuit-is-between.ended circuit-is-between.Reads.Asked circuit-is-between.Reads.Learnt
   pub circuit-refuses : Sole circuit-refuses.ended circuit-refuses.Reads.Asked circuit-refuses.Reads.Learnt
   pub circuit-or-if : Sole circuit-or-if.ended circuit-or-if.Reads.Asked circuit-or-if.Reads.Learnt
   pub circuit-number-of : Sole circuit-number-of.ended circuit-number-of.Reads.Asked circuit-number-of.Reads.Learnt
   pub circuit-place-of : Sole circuit-place-of.ended circuit-place-of.Reads.Asked circuit-place-of.Reads.Learnt
-  pub fields-step-at : SoleWhereMet fields-step-at.ended fields-step-at.Reads.Asked fields-step-at.Reads.Learnt
-  pub fields-field-of : SoleWhereMet fields-field-of.ended fields-field-of.Reads.Asked fields-field-of.Reads.Learnt
-  pub fields-byte : SoleWhereMet fields-byte.ended fields-byte.Reads.Asked fields-byte.Reads.Learnt
-  pub fields-two-bytes : SoleWhereMet fields-two-bytes.ended fields-two-bytes.Reads.Asked fields-two-bytes.Reads.Learnt
-  pub modules-no-type : Sole modules-no-type.ended modules-no-type.Reads.Asked modules-no-type.Reads.Learnt
-  pub modules-read-types : SoleWhereMet modules-read-types.ended modules-read-types.Reads.Asked modules-read-types.Reads.Learnt
-  pub bridges-no-bridge : Sole bridges-no-bridge.ended bridges-no-bridge.Reads.Asked bridges-no-bridge.Reads.Learnt
-  pub bridges-lists-of : SoleWhereMet bridges-lists-of.ended bridges-lists-of.Reads.Asked bridges-lists-of.Reads.Learnt
-  pub bridges-read-bridges : SoleWhereMet bridges-read-bridges.ended bridges-read-bridges.Reads.Asked bridges-read-bridges.Reads.Learnt
-  pub instances-no-instance : Sole instances-no-instance.ended instances-no-instance.Reads.Asked instances-no-instance.Reads.Learnt
-  pub instances-read-instances :
-      SoleWhereMet instances-read-instances.ended instances-read-instances.Reads.Asked instances-read-instances.Reads.Learnt
-  pub vectors-no-vector : Sole vectors-no-vector.ended vectors-no-vector.Reads.Asked vectors-no-vector.Reads.Learnt
-  pub vectors-read-vectors : SoleWhereMet vectors-read-vectors.ended vectors-read-vectors.Reads.Asked vectors-read-vectors.Reads.Learnt
-  pub reader-read-stages : Sole reader-read-stages.ended reader-read-stages.Reads.Asked reader-read-stages.Reads.Learnt
-  pub reader-read : Sole reader-read.ended reader-read.Reads.Asked reader-read.Reads.Learnt
+  pub read-fields-step-at : SoleWhereMet read-fields-step-at.ended read-fields-step-at.Reads.Asked read-fields-step-at.Reads.Learnt
+  pub read-fields-field-of : SoleWhereMet read-fields-field-of.ended read-fields-field-of.Reads.Asked read-fields-field-of.Reads.Learnt
+  pub read-fields-byte : SoleWhereMet read-fields-byte.ended read-fields-byte.Reads.Asked read-fields-byte.Reads.Learnt
+  pub read-fields-two-bytes : SoleWhereMet read-fields-two-bytes.ended read-fields-two-bytes.Reads.Asked read-fields-two-bytes.Reads.Learnt
+  pub read-types-no-type : Sole read-types-no-type.ended read-types-no-type.Reads.Asked read-types-no-type.Reads.Learnt
+  pub read-types-read-types : SoleWhereMet read-types-read-types.ended read-types-read-types.Reads.Asked read-types-read-types.Reads.Learnt
+  pub read-bridges-no-bridge : Sole read-bridges-no-bridge.ended read-bridges-no-bridge.Reads.Asked read-bridges-no-bridge.Reads.Learnt
+  pub read-bridges-lists-of : SoleWhereMet read-bridges-lists-of.ended read-bridges-lists-of.Reads.Asked read-bridges-lists-of.Reads.Learnt
+  pub read-bridges-read-bridges : SoleWhereMet read-bridges-read-bridges.ended read-bridges-read-bridges.Reads.Asked read-bridges-read-bridges.Reads.Learnt
+  pub read-instances-no-instance : Sole read-instances-no-instance.ended read-instances-no-instance.Reads.Asked read-instances-no-instance.Reads.Learnt
+  pub read-instances-read-instances :
+      SoleWhereMet read-instances-read-instances.ended read-instances-read-instances.Reads.Asked read-instances-read-instances.Reads.Learnt
+  pub read-vectors-no-vector : Sole read-vectors-no-vector.ended read-vectors-no-vector.Reads.Asked read-vectors-no-vector.Reads.Learnt
+  pub read-vectors-read-vectors : SoleWhereMet read-vectors-read-vectors.ended read-vectors-read-vectors.Reads.Asked read-vectors-read-vectors.Reads.Learnt
+  pub read-file-read-stages : Sole read-file-read-stages.ended read-file-read-stages.Reads.Asked read-file-read-stages.Reads.Learnt
+  pub read-file-read : Sole read-file-read.ended read-file-read.Reads.Asked read-file-read.Reads.Learnt
   pub grading-number-of : Sole grading-number-of.ended grading-number-of.Reads.Asked grading-number-of.Reads.Learnt
   pub grading-place-of : Sole grading-place-of.ended grading-place-of.Reads.Asked grading-place-of.Reads.Learnt
   pub grading-counts-of : Sole grading-counts-of.ended grading-counts-of.Reads.Asked grading-counts-of.Reads.Learnt
-  pub rows-list-rows : SoleWhereMet rows-list-rows.ended rows-list-rows.Reads.Asked rows-list-rows.Reads.Learnt
-  pub rows-rows-of : SoleWhereMet rows-rows-of.ended rows-rows-of.Reads.Asked rows-rows-of.Reads.Learnt
-  pub signals-put-signals : SoleWhereMet signals-put-signals.ended signals-put-signals.Reads.Asked signals-put-signals.Reads.Learnt
-  pub marks-mark-instance : SoleWhereMet marks-mark-instance.ended marks-mark-instance.Reads.Asked marks-mark-instance.Reads.Learnt
-  pub classes-class-instance :
-      SoleWhereMet classes-class-instance.ended classes-class-instance.Reads.Asked classes-class-instance.Reads.Learnt
-  pub grader-grade-read : SoleWhereMet grader-grade-read.ended grader-grade-read.Reads.Asked grader-grade-read.Reads.Learnt
-  pub grader-grade : Sole grader-grade.ended grader-grade.Reads.Asked grader-grade.Reads.Learnt
-  pub report-first-line : Sole report-first-line.ended report-first-line.Reads.Asked report-first-line.Reads.Learnt
-  pub report-row-line : Sole report-row-line.ended report-row-line.Reads.Asked report-row-line.Reads.Learnt
-  pub report-report-piece : SoleWhereMet report-report-piece.ended report-report-piece.Reads.Asked report-report-piece.Reads.Learnt
-  pub listing-show-piece : Sole listing-show-piece.ended listing-show-piece.Reads.Asked listing-show-piece.Reads.Learnt
-  pub files-unread : Sole files-unread.ended files-unread.Reads.Asked files-unread.Reads.Learnt
-  pub files-nothing : Sole files-nothing.ended files-nothing.Reads.Asked files-nothing.Reads.Learnt
+  pub grade-rows-list-rows : SoleWhereMet grade-rows-list-rows.ended grade-rows-list-rows.Reads.Asked grade-rows-list-rows.Reads.Learnt
+  pub grade-rows-rows-of : SoleWhereMet grade-rows-rows-of.ended grade-rows-rows-of.Reads.Asked grade-rows-rows-of.Reads.Learnt
+  pub grade-inputs-put-signals : SoleWhereMet grade-inputs-put-signals.ended grade-inputs-put-signals.Reads.Asked grade-inputs-put-signals.Reads.Learnt
+  pub grade-marks-mark-instance : SoleWhereMet grade-marks-mark-instance.ended grade-marks-mark-instance.Reads.Asked grade-marks-mark-instance.Reads.Learnt
+  pub grade-classes-class-instance :
+      SoleWhereMet grade-classes-class-instance.ended grade-classes-class-instance.Reads.Asked grade-classes-class-instance.Reads.Learnt
+  pub grade-file-grade-read : SoleWhereMet grade-file-grade-read.ended grade-file-grade-read.Reads.Asked grade-file-grade-read.Reads.Learnt
+  pub grade-file-grade : Sole grade-file-grade.ended grade-file-grade.Reads.Asked grade-file-grade.Reads.Learnt
+  pub print-report-first-line : Sole print-report-first-line.ended print-report-first-line.Reads.Asked print-report-first-line.Reads.Learnt
+  pub print-report-row-line : Sole print-report-row-line.ended print-report-row-line.Reads.Asked print-report-row-line.Reads.Learnt
+  pub print-report-report-piece : SoleWhereMet print-report-report-piece.ended print-report-report-piece.Reads.Asked print-report-report-piece.Reads.Learnt
+  pub print-circuit-show-piece : Sole print-circuit-show-piece.ended print-circuit-show-piece.Reads.Asked print-circuit-show-piece.Reads.Learnt
+  pub program-io-unread : Sole program-io-unread.ended program-io-unread.Reads.Asked program-io-unread.Reads.Learnt
+  pub program-io-nothing : Sole program-io-nothing.ended program-io-nothing.Reads.Asked program-io-nothing.Reads.Learnt
   pub togyamiru-grade : Sole togyamiru-grade.ended togyamiru-grade.Reads.Asked togyamiru-grade.Reads.Learnt
   pub togyamiru-rows : Sole togyamiru-rows.ended togyamiru-rows.Reads.Asked togyamiru-rows.Reads.Learnt

@@ -1,4 +1,4 @@
--- What holds inside one module, from meaning to statements; the code that computes it is in the crate `joining`:
+-- What holds inside one module, from meaning to statements; the code that computes it is in the crate `join_nodes`:
 --   Conduction, Modules, Bridges   the words of 01; a reader needs these three
 --   Deciding                       Boolean tests that compute what the three say of paths
 --   Records, Promises              the code's records in those words, and the words that a caller is promised

@@ -1,4 +1,4 @@
-// Switch-level modules: the limits of a module type and the records that the other crates hand on. No function: the code is in the crate `joining`.
+// Switch-level modules: the limits of a module type and the records that the other crates hand on. No function: the code is in the crate `join_nodes`.
 
 // The limits of a module type: its edges, its nodes (0 to 31), its labels, and the labels of one edge.
 pub const MOST_EDGES: usize = 64;

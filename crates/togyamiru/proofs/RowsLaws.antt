@@ -25,9 +25,9 @@ use Rattle.grading.specs.declared.Counts.{Counts as CountsRecord}
 use Rattle.grading.specs.declared.Answer.{Answer}
 use Rattle.grading.specs.declared.Answer.the-variants.{Graded, Refused, ShortClasses}
 use Rattle.grading.proofs.RowLaws.{few-rows}
-use Rattle.grader.proofs.Assembly.{faults-are}
-use Rattle.grader.proofs.GradingLaws.{refused-meets, Accepted, good-here}
-use Rattle.rows.specs.Model.{codesOf}
+use Rattle.grade_file.proofs.Assembly.{faults-are}
+use Rattle.grade_file.proofs.GradingLaws.{refused-meets, Accepted, good-here}
+use Rattle.grade_rows.specs.Model.{codesOf}
 use Rattle.togyamiru.specs.RowsEntry.{rowsAfterReading, threeNumbers, rowsBufferAfter, RowsMeets, RowsPromise}
 use Rattle.togyamiru.specs.RowsModel.{RowsAnswered, RowsAnswer}
 

@@ -2,11 +2,11 @@
 use circuit::Reading;
 use circuit::limits::MOST_FAULTS;
 use circuit::refusal::refuses;
-use grader::grade::grade_read;
+use grade_file::grade::grade_read;
+use grade_rows::rows_of;
 use grading::Answer;
 use grading::Counts;
-use reader::read::read_stages;
-use rows::rows_of;
+use read_file::read::read_stages;
 ghost use Prim.Native.Nat.{_≤_};
 ghost use mathlib.Core.Bool.{true, false};
 ghost use mathlib.Core.Path.{_≡_};

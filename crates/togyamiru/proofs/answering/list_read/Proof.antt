@@ -7,7 +7,7 @@ use borrow.Author.Needs.{needs}
 use Rattle.circuit.specs.Reading.{readingOf}
 use Rattle.circuit.specs.Answers.{Tells}
 use Rattle.circuit.specs.declared.Reading.{Reading as ReadingRecord}
-use Rattle.grader.proofs.GradingLaws.{Accepted, accepted-here, good-here, given}
+use Rattle.grade_file.proofs.GradingLaws.{Accepted, accepted-here, good-here, given}
 use Rattle.togyamiru.proofs.RowsLaws.{refused-rows, faults-few, short-rows, rows-listed}
 use Rattle.togyamiru.proofs.answering.list_read.Statement.{statement}
 use Rattle.togyamiru.proofs.answering.list_read.Tie as tie

@@ -1,2 +1,0 @@
--- What the crate `classes` computes.
-pub mod Model

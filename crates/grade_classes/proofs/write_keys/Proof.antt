@@ -1,0 +1,84 @@
+-- `classes::write_keys` meets its contract. The loop's invariant: the keys of the rows before the present one are written, so that this and later rows are
+-- as they were. Assumes nothing.
+use mathlib.Core.Path.{_≡_, sym}
+use Prim.Native.Nat.{_-_, _≤_}
+use native.Mathlib.Omega.{arith}
+use denote.Ref.{now}
+use borrow.Author.Needs.{needs}
+use Rattle.words.specs.Written.{written}
+use Rattle.grading.specs.Codes.{CodesFit}
+use Rattle.grade_classes.specs.Model.{keysOf}
+use Rattle.grade_classes.proofs.ClassLaws.{keyed-none, row-kept, keyed-more}
+use Rattle.grade_classes.proofs.write_keys.Statement.{statement}
+use Rattle.grade_classes.proofs.write_keys.Tie as tie
+
+abbrev Inv-loop : tie.InvT-loop
+Inv-loop rows₀ from to firsts r₀ rows r = (from ≤ r) × (r ≤ to) × (rows ≡ written rows₀ from (keysOf rows₀ firsts from r))
+
+abbrev μ-loop : tie.MeasureT-loop
+μ-loop rows₀ from to firsts r₀ rows r = to - r
+
+first-labels-requires : tie.Need-first-labels-requires Inv-loop μ-loop
+first-labels-requires c κs = search needs
+
+loop-holds : tie.Need-loop-holds Inv-loop μ-loop
+loop-holds c = (omega arith, omega arith, sym (keyed-none _ _ _))
+
+mul-key-of : tie.Need-mul-key-of Inv-loop μ-loop
+mul-key-of c = search needs
+
+element-copy-out-key-of : tie.Need-element-copy-out-key-of Inv-loop μ-loop
+element-copy-out-key-of c = search needs
+
+key-of-requires : tie.Need-key-of-requires Inv-loop μ-loop
+unfolding CodesFit
+key-of-requires c κs =
+    let h = c .before .before in
+    let start = h .before .before in
+    rw (row-kept (now (start .args .rows)) _ (start .args .from) (h .loop .r) (omega arith) (omega arith) (h .loop .inv .2))
+    (start .pre .1 .1 (h .loop .r) (omega arith) (omega arith))
+
+mul-rows : tie.Need-mul-rows Inv-loop μ-loop
+mul-rows c = search needs
+
+element-write-rows : tie.Need-element-write-rows Inv-loop μ-loop
+element-write-rows c = search needs
+
+add-r : tie.Need-add-r Inv-loop μ-loop
+add-r c = search needs
+
+loop-less : tie.Need-loop-less Inv-loop μ-loop
+loop-less c = search needs
+
+loop-again : tie.Need-loop-again Inv-loop μ-loop
+loop-again c =
+    let h = c .before .before .before in
+    let x = h .before .before .args in (
+      omega arith,
+      omega arith,
+      rw (c .key-of .ensures) (keyed-more (now (x .rows)) _ (x .from) (h .loop .r) (omega arith) (omega arith) (h .loop .inv .2)),
+    )
+
+returns : tie.Need-returns Inv-loop μ-loop
+returns c =
+    let h = c .before in
+    let last : h .loop .r ≡ h .before .before .args .to = omega arith in
+    rw (← last, ← h .before .first-labels .ensures) (h .loop .inv .2)
+
+pub write-keys-spec : {M : Type 1} → statement M
+write-keys-spec =
+    tie.close
+    (tie.spec
+    Inv-loop
+    μ-loop
+    first-labels-requires
+    loop-holds
+    mul-key-of
+    element-copy-out-key-of
+    key-of-requires
+    mul-rows
+    element-write-rows
+    add-r
+    loop-less
+    loop-again
+    returns)

@@ -1,0 +1,2 @@
+-- What the crate `grade_classes` computes.
+pub mod Model

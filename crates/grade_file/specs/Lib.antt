@@ -1,0 +1,2 @@
+-- What the crate `grade_file` computes.
+pub mod Model

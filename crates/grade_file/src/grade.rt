@@ -1,0 +1,100 @@
+// Grading a file: reading, the refusals of the buffers, and then the rows, instance by instance.
+use circuit::Circuit;
+use circuit::Reading;
+use circuit::limits::MOST_FAULTS;
+use circuit::refusal::refuses;
+use grade_classes::class_instance;
+use grade_inputs::put_signals;
+use grade_marks::instance::mark_instance;
+use grade_rows::list_rows;
+use grading::Answer;
+use grading::Counts;
+use read_file::read::read_stages;
+ghost use Prim.Native.Nat.{_*_, _≤_};
+ghost use mathlib.Core.Path.{_≡_};
+ghost use lib.ListN.{length};
+ghost use Rattle.circuit.specs.Circuit.{Circuit as CircuitMeant};
+ghost use Rattle.circuit.specs.Records.{circuitRecord};
+ghost use Rattle.circuit.specs.Laws.{CircuitGood};
+ghost use Rattle.grading.specs.Given.{CircuitGiven, Read};
+ghost use Rattle.grading.specs.Promise.{Promise, PromiseOfRead};
+ghost use Rattle.grade_file.specs.Model.{Graded};
+
+fn counted(vectors: usize, faults: usize, classes: u16, found: usize) -> Counts
+    ensures { λ r. ⌜ r ≡ record { vectors = vectors; faults = faults; classes = classes; found = found } ⌝ }
+{
+    Counts {
+        vectors,
+        faults,
+        classes: classes as usize,
+        found,
+    }
+}
+
+// The counts of a circuit whose buffers are long enough, with its rows and classes written.
+fn grade_circuit(c: Circuit, matrix: &mut [u64], classes: &mut [u16]) -> Counts
+    requires { ⌜ CircuitGiven c × (4 * (c .faults) ≤ length (now matrix)) × (c .faults ≤ length (now classes)) ⌝ }
+    ensures { λ r. ⌜ ((meant : CircuitMeant) → c ≡ circuitRecord meant → CircuitGood meant → Graded meant r (now (matrix .entry)) (now (classes .entry)) (now (matrix .exit)) (now (classes .exit))) ⌝ }
+{
+    let vectors = c.vector_count;
+    let bridges = c.bridges;
+    let mut ones = [0u64; 768];
+    let mut zeros = [0u64; 768];
+    put_signals(c.vectors, (vectors + 63) / 64, &mut ones, &mut zeros);
+    let mut codes = [0u32; MOST_FAULTS];
+    let mut count: u16 = 0;
+    let mut found: usize = 0;
+    let mut from: usize = 0;
+    let mut i: usize = 0;
+    while i < c.instance_count {
+        let one = c.instances[i];
+        let t = c.types[(one.type_number as usize) - 1];
+        let to = list_rows(one, t, bridges, c.bridge_count, i, &mut codes, from);
+        mark_instance(
+            t,
+            one,
+            i,
+            vectors,
+            &codes,
+            from,
+            to,
+            &mut ones,
+            &mut zeros,
+            matrix,
+        );
+        let new = class_instance(&mut codes, from, to, one, matrix, classes, count);
+        count = new.count;
+        found += new.found;
+        from = to;
+        i += 1;
+    }
+    counted(vectors, c.faults, count, found)
+}
+
+// A file as it was read, for a caller that keeps its circuit: the counts, with the matrix and the classes written, or a refusal, with both as they were.
+pub fn grade_read(reading: Reading, matrix: &mut [u64], classes: &mut [u16]) -> Answer
+    requires { ⌜ Read reading ⌝ }
+    ensures { λ r. ⌜ PromiseOfRead reading (now (matrix .entry)) (now (classes .entry)) r (now (matrix .exit)) (now (classes .exit)) ⌝ }
+{
+    let refusal = reading.refusal;
+    if refuses(refusal) {
+        return Answer::Refused(refusal);
+    }
+    let c = reading.circuit;
+    let faults = c.faults;
+    let words = 4 * faults;
+    if matrix.len() < words {
+        return Answer::ShortMatrix(words);
+    }
+    if classes.len() < faults {
+        return Answer::ShortClasses(faults);
+    }
+    Answer::Graded(grade_circuit(c, matrix, classes))
+}
+
+// Any bytes and any buffers.
+pub fn grade(file: &[u8], matrix: &mut [u64], classes: &mut [u16]) -> Answer
+    ensures { λ r. ⌜ Promise (now (file .entry)) (now (matrix .entry)) (now (classes .entry)) r (now (matrix .exit)) (now (classes .exit)) ⌝ }
+{
+    grade_read(read_stages(file), matrix, classes)
+}

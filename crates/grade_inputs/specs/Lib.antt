@@ -1,0 +1,3 @@
+-- What the crate `grade_inputs` computes.
+pub mod Inputs
+pub mod Turning

@@ -1,0 +1,2 @@
+-- What the crate `grade_marks` computes.
+pub mod Model

@@ -1,0 +1,124 @@
+-- `rows::listed` meets its contract. The loop's invariant: the codes of the list's bridges among the first `i` are written. Assumes nothing.
+use Prim.Native.Nat.{_-_, _≤_, _<_}
+use mathlib.Core.Path.{_≡_}
+use mathlib.Core.Logic.{⊎-elim}
+use native.Mathlib.Numerals.{add-one}
+use native.Mathlib.Omega.{arith}
+use borrow.Author.Needs.{needs}
+use lib.ListN.{length, take}
+use Rattle.circuit.specs.Records.{unusedBridge}
+use Rattle.grade_rows.specs.Model.{listedCodes}
+use Rattle.grade_rows.proofs.RowWriting.{Wrote, wrote-nothing, recordCode, listed-place, listed-more, listed-same, listed-end}
+use Rattle.grade_rows.proofs.listed.Statement.{statement}
+use Rattle.grade_rows.proofs.listed.Tie as tie
+
+abbrev Inv-loop : tie.InvT-loop
+Inv-loop rows₀ at instance list count bridges next₀ i₀ rows next i =
+    (i ≤ count) × Wrote rows₀ at (listedCodes instance list (take i bridges)) rows next
+
+abbrev μ-loop : tie.MeasureT-loop
+μ-loop rows₀ at instance list count bridges next₀ i₀ rows next i = count - i
+
+long : (c : tie.Start Inv-loop μ-loop) → length (c .args .t5) ≡ 256
+long c = search needs
+
+-- where the bridge is of the list there is a place for its code
+place : (c : tie.Then1 Inv-loop μ-loop)
+    → c .before .before .before .before .loop .next < length (c .before .before .before .before .before .before .args .rows .now)
+place c =
+    let start = c .before .before .before .before .before .before in
+    let a = start .args in
+    let l = c .before .before .before .before .loop in
+    listed-place (a .instance) (a .list) (a .t5) (a .count) (a .rows .now) (a .at) (start .pre .1)
+    unusedBridge (l .i) (omega (arith, long start)) (omega arith)
+    (l .rows) (l .next) (l .inv .1) (c .if1 .taken)
+
+loop-holds : tie.Need-loop-holds Inv-loop μ-loop
+unfolding listedCodes
+loop-holds c = (omega arith, wrote-nothing)
+
+mul-b : tie.Need-mul-b Inv-loop μ-loop
+mul-b c = omega arith
+
+array-copy-out-b : tie.Need-array-copy-out-b Inv-loop μ-loop
+array-copy-out-b c = omega arith
+
+cast-code : tie.Need-cast-code Inv-loop μ-loop
+cast-code c = omega (arith, c .struct-known2 .given)
+
+cast-code-2 : tie.Need-cast-code-2 Inv-loop μ-loop
+cast-code-2 c = omega (arith, c .struct-known3 .given)
+
+cast-code-3 : tie.Need-cast-code-3 Inv-loop μ-loop
+cast-code-3 c = omega (arith, c .struct-known4 .given)
+
+code-requires : tie.Need-code-requires Inv-loop μ-loop
+code-requires c κs = omega (arith, c .struct-known4 .given, c .before .struct-known3 .given, c .before .before .struct-known2 .given)
+
+mul-rows : tie.Need-mul-rows Inv-loop μ-loop
+mul-rows c = omega (arith, place (c .before .before .before .before))
+
+slice-write-rows : tie.Need-slice-write-rows Inv-loop μ-loop
+slice-write-rows c = omega (arith, place (c .before .before .before .before))
+
+add-next : tie.Need-add-next Inv-loop μ-loop
+add-next c = omega (arith, place (c .before .before .before .before))
+
+add-i : tie.Need-add-i Inv-loop μ-loop
+add-i c = omega arith
+
+loop-less : tie.Need-loop-less Inv-loop μ-loop
+loop-less c = omega arith
+
+loop-again : tie.Need-loop-again Inv-loop μ-loop
+unfolding recordCode
+loop-again c =
+    let start = c .before .before .before .before .before .before in
+    let a = start .args in
+    let l = c .before .before .before .before .loop in
+    let inside : l .i < length (a .t5) = omega (arith, long start) in (
+      omega arith,
+      rw (add-one (l .i))
+          (⊎-elim
+          (λ w.
+          rw (w .5, w .6, w .4 .ensures)
+          (listed-more (a .instance) (a .list) (a .t5) (a .count) (a .rows .now) (a .at) (start .pre .1) unusedBridge (l .i) inside (omega arith)
+          (l .rows) (l .next) (l .inv .1) (w .0 .taken)))
+          (λ w.
+          rw (w .1, w .2)
+          (listed-same (a .instance) (a .list) (a .t5) (a .count) (a .rows .now) (a .at) (start .pre .1) unusedBridge (l .i) inside (omega arith)
+          (l .rows) (l .next) (l .inv .1) (w .0 .left)))
+          (c .if1 .came)),
+    )
+
+same-length : tie.Need-same-length Inv-loop μ-loop
+same-length c = c .before .loop .inv .1 .long
+
+returns : tie.Need-returns Inv-loop μ-loop
+returns c =
+    let start = c .before .before .before in
+    let a = start .args in
+    let l = c .before .loop in
+    listed-end (a .instance) (a .list) (a .t5) (a .count) (a .rows .now) (a .at) (start .pre .1) (l .i) (omega arith) (l .rows) (l .next) (l .inv .1)
+
+pub listed-spec : {M : Type 1} → statement M
+listed-spec =
+    tie.close
+    (tie.spec
+    Inv-loop
+    μ-loop
+    loop-holds
+    mul-b
+    array-copy-out-b
+    cast-code
+    cast-code-2
+    cast-code-3
+    code-requires
+    mul-rows
+    slice-write-rows
+    add-next
+    add-i
+    loop-less
+    loop-again
+    same-length
+    returns)

@@ -1,0 +1,2 @@
+-- What the crate `grade_rows` computes.
+pub mod Model

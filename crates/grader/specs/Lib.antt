@@ -1,2 +1,0 @@
--- What the crate `grader` computes.
-pub mod Model

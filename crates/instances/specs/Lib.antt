@@ -1,3 +1,0 @@
--- What the functions of the crate `instances` promise. What reading means is in the crate `circuit`.
-pub mod Choices
-pub mod ReadInstances

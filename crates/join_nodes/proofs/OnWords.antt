@@ -1,0 +1,189 @@
+-- The words of conduction: a transistor's word from its label's planes, the or over an edge's labels, the words and nodes of the first edges, and that of a
+-- type that a file can give no edge has a node past the highest. Each law is over the bit's position, the place in a list, or the length. Assumes nothing.
+use Prim.Native.Nat.{ℕ, zero, suc, _+_, _-_, _*_, _^_, _≤_, _<_, min, max, zero-le}
+use mathlib.Core.Path.{_≡_, refl, sym, _∙_}
+use mathlib.Core.Bool.{Bool, true, false, cond, _||_, or-assoc, or-false}
+use mathlib.Core.List.{List, [], _∷_, _++_}
+use native.Mathlib.Omega.{arith}
+use lib.Bits.{bitAnd, bitOr, and-le-l, or-lt}
+use lib.ListN.{length, getD, take, replicate, length-replicate, getD-replicate}
+use lib.Pow.{pow-pos}
+use lib.Seq.{take-suc}
+use Rattle.words.specs.Bits.{bit, ofBool}
+use Rattle.words.specs.Each.{wordOfEach}
+use Rattle.words.specs.Tables.{upTo}
+use Rattle.words.specs.Written.{written}
+use Rattle.words.proofs.Laws.{bit-le-one, bit-zero, bit-or, bit-not-under, ofBool-le-one, word-of-bits, bit-word, word-lt}
+use Rattle.words.proofs.Tables.{length-table, getD-table, table-cong, up-past, fill-more, getD-fill}
+use Rattle.words.proofs.EachLaws.{each-before, each-in, each-written}
+use Rattle.words.proofs.WrittenLaws.{length-written}
+use Rattle.switch.specs.Conduction.{Channel, p-channel, n-channel, Edge, channelOf, transistorOn, anyOf, edgeOn}
+use Rattle.switch.specs.Records.{edgeOf, noEdge, TypeGiven, valueOf, valuesAt}
+use Rattle.switch.specs.declared.Edge.{Edge as EdgeRecord}
+use Rattle.switch.specs.declared.ModuleType.{ModuleType as TypeRecord}
+use Rattle.switch.proofs.Ranges.{given-type, given-edge}
+use Rattle.join_nodes.specs.Model.{isP, transistorWord, onWord, edgeWords, onWords, firstNodes, secondNodes, endsOf, WideEdges, WideOn}
+use Rattle.join_nodes.specs.declared.Ends.{Ends}
+
+-- ---- a transistor's word
+
+p-bit : (a b : ℕ) → b ≤ 1 → min b (1 - a) ≡ ofBool (transistorOn p-channel (valueOf a b))
+unfolding transistorOn valueOf
+p-bit zero zero h = refl
+p-bit zero (suc b) h = omega arith
+p-bit (suc a) b h = omega arith
+
+n-bit : (a b : ℕ) → a ≤ 1 → a ≡ ofBool (transistorOn n-channel (valueOf a b))
+unfolding transistorOn valueOf
+n-bit zero zero h = refl
+n-bit zero (suc b) h = refl
+n-bit (suc a) b h = omega arith
+
+pub transistor-p : (ones zeros : ℕ) → ones < 2 ^ 64 → zeros < 2 ^ 64 → bitAnd zeros ((2 ^ 64 - 1) - ones) ≡ transistorWord true ones zeros
+unfolding transistorWord
+transistor-p ones zeros h k =
+    let w : ℕ = bitAnd zeros ((2 ^ 64 - 1) - ones) in
+    word-of-bits w (λ (v : ℕ). ofBool (transistorOn p-channel (valueOf (bit ones v) (bit zeros v))))
+    (omega (arith, and-le-l zeros ((2 ^ 64 - 1) - ones)))
+    (λ v l. bit-not-under 64 zeros ones v h l ∙ p-bit (bit ones v) (bit zeros v) (bit-le-one zeros v))
+
+pub transistor-n : (ones zeros : ℕ) → ones < 2 ^ 64 → ones ≡ transistorWord false ones zeros
+unfolding transistorWord
+transistor-n ones zeros h =
+    word-of-bits ones (λ (v : ℕ). ofBool (transistorOn n-channel (valueOf (bit ones v) (bit zeros v)))) h
+    (λ v l. n-bit (bit ones v) (bit zeros v) (bit-le-one ones v))
+
+transistor-lt : (p : Bool) (ones zeros : ℕ) → transistorWord p ones zeros < 2 ^ 64
+unfolding transistorWord
+transistor-lt p ones zeros =
+    let on : ℕ → Bool = λ (v : ℕ). transistorOn (cond p p-channel n-channel) (valueOf (bit ones v) (bit zeros v)) in
+    word-lt (λ (v : ℕ). ofBool (on v)) (λ v. ofBool-le-one (on v))
+
+channel-told : (ch : Channel) → cond (isP ch) p-channel n-channel ≡ ch
+unfolding isP
+channel-told p-channel = refl
+channel-told n-channel = refl
+
+pub bit-transistorWord : (ch : Channel) (ones zeros v : ℕ) → v < 64
+    → bit (transistorWord (isP ch) ones zeros) v ≡ ofBool (transistorOn ch (valueOf (bit ones v) (bit zeros v)))
+unfolding transistorWord
+bit-transistorWord ch ones zeros v l =
+    let on : ℕ → Bool = λ (u : ℕ). transistorOn ch (valueOf (bit ones u) (bit zeros u)) in
+    rw channel-told (bit-word (λ (u : ℕ). ofBool (on u)) (λ u. ofBool-le-one (on u)) v l)
+
+-- ---- the or over the labels of an edge
+
+-- over the first j labels
+unfoldable pub orTo : Bool → List ℕ → List ℕ → List ℕ → ℕ → ℕ
+orTo p ones zeros labels zero = 0
+orTo p ones zeros labels (suc j) =
+    let l = getD labels j 0 in bitOr (orTo p ones zeros labels j) (transistorWord p (getD ones l 0) (getD zeros l 0))
+
+orTo-lt : (p : Bool) (ones zeros labels : List ℕ) (j : ℕ) → orTo p ones zeros labels j < 2 ^ 64
+unfolding orTo
+orTo-lt p ones zeros labels zero = pow-pos 64
+orTo-lt p ones zeros labels (suc j) =
+    let l : ℕ = getD labels j 0 in
+    or-lt 64 (orTo p ones zeros labels j) (transistorWord p (getD ones l 0) (getD zeros l 0)) (orTo-lt p ones zeros labels j)
+    (transistor-lt p (getD ones l 0) (getD zeros l 0))
+
+max-or : (a b : Bool) → max (ofBool a) (ofBool b) ≡ ofBool (a || b)
+max-or true true = refl
+max-or true false = refl
+max-or false true = refl
+max-or false false = refl
+
+any-last : {A : Type 0} (test : A → Bool) (xs : List A) (a : A) → anyOf test (xs ++ (a ∷ [])) ≡ (anyOf test xs || test a)
+unfolding anyOf
+any-last test [] a = or-false (test a)
+any-last test (x ∷ xs) a = rw (any-last test xs a) (sym (or-assoc (test x) (anyOf test xs) (test a)))
+
+bit-orTo : (ch : Channel) (ones zeros labels : List ℕ) (v j : ℕ) → v < 64 → j ≤ length labels
+    → bit (orTo (isP ch) ones zeros labels j) v ≡ ofBool (anyOf (λ (l : ℕ). transistorOn ch (valuesAt ones zeros v l)) (take j labels))
+unfolding orTo anyOf valuesAt
+bit-orTo ch ones zeros labels v zero h k = bit-zero v
+bit-orTo ch ones zeros labels v (suc j) h k =
+    let l : ℕ = getD labels j 0 in
+    let test : ℕ → Bool = λ (m : ℕ). transistorOn ch (valuesAt ones zeros v m) in
+    rw (bit-or, bit-transistorWord ch (getD ones l 0) (getD zeros l 0) v h, bit-orTo ch ones zeros labels v j h (omega arith), take-suc labels j 0 k, any-last)
+    (max-or (anyOf test (take j labels)) (test l))
+
+-- the or over the labels of an edge record is its edge's word
+pub on-word-is : (o : ℕ) (ones zeros : List ℕ) (r : EdgeRecord) → r .count ≤ length (r .labels)
+    → orTo (isP (channelOf o (edgeOf r))) ones zeros (r .labels) (r .count) ≡ onWord o ones zeros (edgeOf r)
+unfolding onWord edgeOn edgeOf
+on-word-is o ones zeros r k =
+    let ch : Channel = channelOf o (edgeOf r) in
+    word-of-bits (orTo (isP ch) ones zeros (r .labels) (r .count))
+    (λ (v : ℕ). ofBool (edgeOn o (valuesAt ones zeros v) (edgeOf r)))
+    (orTo-lt (isP ch) ones zeros (r .labels) (r .count))
+    (λ v h. bit-orTo ch ones zeros (r .labels) v (r .count) h k)
+
+pub bit-onWord : (o : ℕ) (ones zeros : List ℕ) (e : Edge) (v : ℕ) → v < 64 → bit (onWord o ones zeros e) v ≡ ofBool (edgeOn o (valuesAt ones zeros v) e)
+unfolding onWord
+bit-onWord o ones zeros e =
+    bit-word (λ (v : ℕ). ofBool (edgeOn o (valuesAt ones zeros v) e)) (λ v. ofBool-le-one (edgeOn o (valuesAt ones zeros v) e))
+
+-- ---- the words and the nodes of the first n edges
+
+pub getD-onWords : (o : ℕ) (ones zeros : List ℕ) (edges : List EdgeRecord) (n i : ℕ) → i < n → n ≤ 64
+    → getD (onWords o ones zeros edges n) i 0 ≡ onWord o ones zeros (edgeOf (getD edges i noEdge))
+unfolding onWords
+getD-onWords o ones zeros edges = getD-fill 64 (λ (i : ℕ). onWord o ones zeros (edgeOf (getD edges i noEdge)))
+
+pub getD-firstNodes : (edges : List EdgeRecord) (n i : ℕ) → i < n → n ≤ 64 → getD (firstNodes edges n) i 0 ≡ getD edges i noEdge .first
+unfolding firstNodes
+getD-firstNodes edges = getD-fill 64 (λ (i : ℕ). getD edges i noEdge .first)
+
+pub getD-secondNodes : (edges : List EdgeRecord) (n i : ℕ) → i < n → n ≤ 64 → getD (secondNodes edges n) i 0 ≡ getD edges i noEdge .second
+unfolding secondNodes
+getD-secondNodes edges = getD-fill 64 (λ (i : ℕ). getD edges i noEdge .second)
+
+pub bit-onWords : (o : ℕ) (ones zeros : List ℕ) (edges : List EdgeRecord) (n i v : ℕ) → i < n → n ≤ 64 → v < 64
+    → bit (getD (onWords o ones zeros edges n) i 0) v ≡ ofBool (edgeOn o (valuesAt ones zeros v) (edgeOf (getD edges i noEdge)))
+bit-onWords o ones zeros edges n i v h k l =
+    rw (getD-onWords o ones zeros edges n i h k) (bit-onWord o ones zeros (edgeOf (getD edges i noEdge)) v l)
+
+-- ---- edges with some words each
+
+module _ (o : ℕ) (ones zeros : List ℕ) (edges : List EdgeRecord) (width : ℕ) where
+  abbrev wordAt : ℕ → ℕ → ℕ
+  wordAt w i = onWord o (wordOfEach width w 12 ones) (wordOfEach width w 12 zeros) (edgeOf (getD edges i noEdge))
+
+  pub wide-on-none : WideOn o ones zeros edges 0 width (replicate (width * 64) 0)
+  unfolding wordOfEach onWords
+  wide-on-none = record {
+    long = length-replicate (width * 64) 0;
+    each = λ w k.
+        table-cong 64 (λ (m : ℕ). getD (replicate (width * 64) 0) (width * m + w) 0) (upTo 0 (wordAt w)) (λ m h.
+        getD-replicate (width * 64) (width * m + w) 0 0 (each-in width w 64 m h k) ∙ sym (up-past 0 (wordAt w) m zero-le));
+  }
+
+  -- one edge more, by its words at its place
+  pub wide-on-more : (i : ℕ) (on : List ℕ) → i < 64 → WideOn o ones zeros edges i width on
+      → WideOn o ones zeros edges (suc i) width (written on (width * i) (edgeWords o ones zeros width (edgeOf (getD edges i noEdge))))
+  unfolding onWords edgeWords
+  wide-on-more i on h wide =
+      let e : Edge = edgeOf (getD edges i noEdge) in
+      let whole : length (edgeWords o ones zeros width e) ≡ width = length-table width (λ (w : ℕ). wordAt w i) in
+      record {
+        long = length-written on (width * i) (edgeWords o ones zeros width e) (omega (arith, wide .long, each-before width i 64 h)) ∙ wide .long;
+        each = λ w k.
+            each-written width w 64 i on (edgeWords o ones zeros width e) (wide .long) whole k h
+            ∙ rw (wide .each w k, getD-table width (λ (u : ℕ). wordAt u i) 0 w k) (fill-more 64 (wordAt w) i h);
+      }
+
+-- ---- the edges of a type that a file can give
+
+-- no edge has a node past the highest
+pub wide-edges : (r : TypeRecord) → TypeGiven r → (ends : Ends) (on : List ℕ) (width : ℕ) → ends ≡ endsOf (r .edges) (r .count) → width ≤ 4
+    → length on ≡ width * 64 → WideEdges (ends .firsts) (ends .seconds) on (r .count) width (r .highest + 1)
+unfolding edgeOf
+wide-edges r given ends on width e few long = record {
+  places = given .places;
+  first = λ i l. rw (e, getD-firstNodes (r .edges) (r .count) i l (given .places)) (omega (arith, given-edge r given i l .first));
+  second = λ i l. rw (e, getD-secondNodes (r .edges) (r .count) i l (given .places)) (omega (arith, given-edge r given i l .second));
+  few-nodes = omega (arith, given-type r given .highest);
+  few-words = few;
+  on-words = long;
+}

@@ -1,0 +1,87 @@
+-- `joining::conduction::on_words` meets its contract. The loop's invariant: the words of the first `i` edges stand, and the others are 0. Assumes nothing.
+use mathlib.Core.Path.{_≡_, sym, _∙_}
+use Prim.Native.Nat.{_+_, _*_, _≤_, _<_, _-_}
+use native.Mathlib.Numerals.{add-one}
+use native.Mathlib.Omega.{arith}
+use lib.ListN.{length-replicate}
+use denote.Ref.{now}
+use Rattle.words.proofs.EachLaws.{each-before}
+use Rattle.join_nodes.specs.Model.{WideOn}
+use Rattle.join_nodes.proofs.OnWords.{wide-on-none, wide-on-more}
+use Rattle.join_nodes.proofs.conduction.on_words.Statement.{statement}
+use Rattle.join_nodes.proofs.conduction.on_words.Tie as tie
+
+abbrev Inv-loop : tie.InvT-loop
+Inv-loop count output ones zeros width on₀ edges i₀ on i = (i ≤ count) × WideOn output ones zeros edges i width on
+
+abbrev μ-loop : tie.MeasureT-loop
+μ-loop count output ones zeros width on₀ edges i₀ on i = count - i
+
+loop-holds : tie.Need-loop-holds Inv-loop μ-loop
+loop-holds c =
+    let start = c .before .before .before in
+    let a = start .args in
+    (omega arith, rw (start .pre .1 .1) (wide-on-none (a .output) (now (a .ones)) (now (a .zeros)) (a .t1) (a .width)))
+
+mul-e : tie.Need-mul-e Inv-loop μ-loop
+mul-e c = omega arith
+
+array-copy-out-e : tie.Need-array-copy-out-e Inv-loop μ-loop
+array-copy-out-e c = omega arith
+
+-- the words of a turn's edge have their places
+room : (c : tie.After-e Inv-loop μ-loop) → let a = c .before .before .before .before .before .before .args in
+    (a .width * c .before .before .loop .i + a .width ≤ a .width * 64) × (a .width ≤ 4)
+room c =
+    let start = c .before .before .before .before .before .before in
+    let few : c .before .before .loop .i < 64 = omega (arith, start .pre .0 .places) in
+    (each-before (start .args .width) (c .before .before .loop .i) 64 few, start .pre .1 .0 .0)
+
+mul-edge-words : tie.Need-mul-edge-words Inv-loop μ-loop
+mul-edge-words c = omega (arith, room (c .before))
+
+edge-words-requires : tie.Need-edge-words-requires Inv-loop μ-loop
+edge-words-requires c κs =
+    let start = c .before .before .before .before .before .before .before in
+    let loop = c .before .before .before .loop in
+    (start .pre .0 .edges (loop .i) (c .before .before .loop-test .taken), (start .pre .1 .0, rw (loop .inv .1 .long) (room (c .before) .0)))
+
+add-i : tie.Need-add-i Inv-loop μ-loop
+add-i c = omega arith
+
+loop-less : tie.Need-loop-less Inv-loop μ-loop
+loop-less c = omega arith
+
+loop-again : tie.Need-loop-again Inv-loop μ-loop
+loop-again c =
+    let call = c .before .before in
+    let a = call .before .before .before .before .before .before .before .before .args in
+    let loop = call .before .before .before .before .loop in
+    (omega arith, rw (add-one, call .edge-words .ensures) (wide-on-more (a .output) (now (a .ones)) (now (a .zeros)) (a .t1) (a .width) (loop .i) (loop .on) (omega arith) (loop .inv .1)))
+
+same-length : tie.Need-same-length Inv-loop μ-loop
+same-length c =
+    let start = c .before .before .before .before .before in
+    rw (start .pre .1 .1) (c .before .loop .inv .1 .long ∙ sym (length-replicate (start .args .width * 64) 0))
+
+returns : tie.Need-returns Inv-loop μ-loop
+returns c =
+    let done : c .before .loop .i ≡ c .before .before .before .before .before .args .count = omega arith in
+    rw done at (c .before .loop .inv .1)
+
+pub on-words-spec : {M : Type 1} → statement M
+on-words-spec =
+    tie.close
+    (tie.spec
+    Inv-loop
+    μ-loop
+    loop-holds
+    mul-e
+    array-copy-out-e
+    mul-edge-words
+    edge-words-requires
+    add-i
+    loop-less
+    loop-again
+    same-length
+    returns)

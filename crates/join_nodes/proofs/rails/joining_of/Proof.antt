@@ -1,0 +1,105 @@
+-- `joining::rails::joining_of` meets its contract: the rounds' words over the type's columns are the type's. Assumes nothing.
+use mathlib.Core.Path.{_≡_, refl}
+use mathlib.Core.List.{List}
+use Prim.Native.Nat.{ℕ, _+_}
+use native.Mathlib.Omega.{arith}
+use borrow.Author.Needs.{needs}
+use lib.ListN.{length}
+use denote.Ref.{now}
+use Rattle.switch.proofs.Ranges.{edges-fit}
+use Rattle.join_nodes.specs.Model.{WideEdges}
+use Rattle.join_nodes.proofs.OnWords.{wide-edges}
+use Rattle.join_nodes.proofs.RailWords.{rails-are}
+use Rattle.join_nodes.proofs.rails.joining_of.Statement.{statement}
+use Rattle.join_nodes.proofs.rails.joining_of.Tie as tie
+
+cast-nodes : tie.Need-cast-nodes
+cast-nodes c = search needs
+
+add-nodes : tie.Need-add-nodes
+add-nodes c = search needs
+
+slice-aggregate-on-words : tie.Need-slice-aggregate-on-words
+slice-aggregate-on-words c = search needs
+
+on-words-requires : tie.Need-on-words-requires
+on-words-requires c κs =
+    let start = c .before .before .before .before .before in
+    (edges-fit (start .args .t) (start .pre), ((omega arith, search needs, search needs), refl))
+
+ends-of-requires : tie.Need-ends-of-requires
+ends-of-requires c κs = search needs
+
+slice-aggregate-joined-to : tie.Need-slice-aggregate-joined-to
+slice-aggregate-joined-to c = search needs
+
+slice-aggregate-joined-to-2 : tie.Need-slice-aggregate-joined-to-2
+slice-aggregate-joined-to-2 c = search needs
+
+slice-aggregate-joined-to-3 : tie.Need-slice-aggregate-joined-to-3
+slice-aggregate-joined-to-3 c = search needs
+
+-- the start, and the edges, from where the columns are told
+abbrev start : tie.After-ends-of → tie.Start
+start c = c .before .before .before .before .before .before .before .before
+
+edges-told : (c : tie.After-ends-of) (on : List ℕ) → length on ≡ 256
+    → WideEdges (c .ends-of .result .firsts) (c .ends-of .result .seconds) on (start c .args .t .count) 4 (start c .args .t .highest + 1)
+edges-told c on long = wide-edges (start c .args .t) (start c .pre) (c .ends-of .result) on 4 (c .ends-of .ensures) (omega arith) long
+
+joined-to-requires : tie.Need-joined-to-requires
+joined-to-requires c κs =
+    let call = c .before .before .before .before .before .before .before in
+    (edges-told call _ (call .before .before .on-words .ensures .long), (omega arith, (refl, refl)))
+
+slice-aggregate-joined-to-4 : tie.Need-slice-aggregate-joined-to-4
+slice-aggregate-joined-to-4 c = search needs
+
+slice-aggregate-joined-to-5 : tie.Need-slice-aggregate-joined-to-5
+slice-aggregate-joined-to-5 c = search needs
+
+slice-aggregate-joined-to-6 : tie.Need-slice-aggregate-joined-to-6
+slice-aggregate-joined-to-6 c = search needs
+
+joined-to-requires-2 : tie.Need-joined-to-requires-2
+joined-to-requires-2 c κs =
+    let call = c .before .before .before .before .before .before .before .before .before .before .before .before .before .before .before in
+    (edges-told call _ (call .before .before .on-words .ensures .long), (omega arith, (refl, refl)))
+
+returns : tie.Need-returns
+returns c =
+    let second = c .before .before in
+    let first = second .before .before .before .before .before .before .before .before in
+    let call = first .before .before .before .before .before .before .before .before in
+    rails-are
+    (start call .args .t)
+    (start call .pre .places)
+    (now (start call .args .ones))
+    (now (start call .args .zeros))
+    _
+    (call .ends-of .result)
+    (call .ends-of .ensures)
+    (call .before .before .on-words .ensures)
+    _
+    _
+    (first .joined-to .ensures .0)
+    (second .joined-to2 .ensures .0)
+
+pub joining-of-spec : {M : Type 1} → statement M
+joining-of-spec =
+    tie.close
+    (tie.spec
+    cast-nodes
+    add-nodes
+    slice-aggregate-on-words
+    on-words-requires
+    ends-of-requires
+    slice-aggregate-joined-to
+    slice-aggregate-joined-to-2
+    slice-aggregate-joined-to-3
+    joined-to-requires
+    slice-aggregate-joined-to-4
+    slice-aggregate-joined-to-5
+    slice-aggregate-joined-to-6
+    joined-to-requires-2
+    returns)

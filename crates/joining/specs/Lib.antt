@@ -1,2 +1,0 @@
--- What the functions of the crate `joining` compute on the way. What they mean, and what the public ones promise, is in the crate `switch`.
-pub mod Model

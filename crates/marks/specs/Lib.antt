@@ -1,2 +1,0 @@
--- What the crate `marks` computes.
-pub mod Model

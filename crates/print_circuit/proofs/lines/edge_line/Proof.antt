@@ -1,0 +1,76 @@
+-- `listing::lines::edge_line` meets its contract: each call adds its piece to the text, which has room for it. Assumes nothing.
+use mathlib.Core.Path.{refl}
+use native.Mathlib.Omega.{arith}
+use borrow.Author.Needs.{needs}
+use Rattle.print_lines.specs.Ascii.{bytesOf}
+use Rattle.switch.specs.Records.{edgeOf}
+use Rattle.print_circuit.specs.Lines.{edgeLine}
+use Rattle.print_circuit.proofs.Putting.{SoFar, start, piece, byte, next-number, whole}
+use Rattle.print_circuit.proofs.lines.edge_line.Statement.{statement}
+use Rattle.print_circuit.proofs.lines.edge_line.Tie as tie
+
+-- the text after each call: what the calls have added, one by one, and how many bytes that is at most
+line-1 : (c : tie.After-put-bytes) → SoFar (c .before .before .before .before .before .args .out .now) (c .before .before .before .before .before .args .at) 512 4 (c .put-bytes .last .0) (c .put-bytes .result)
+line-1 c = piece (start (c .before .before .before .before .before .pre)) 4 (bytesOf "edge") (omega arith) (omega arith) (c .put-bytes .ensures)
+
+line-2 : (c : tie.After-put-spaced) → SoFar (c .before .before .before .before .before .before .before .before .before .before .args .out .now) (c .before .before .before .before .before .before .before .before .before .before .args .at) 512 26 (c .put-spaced .last .0) (c .put-spaced .result)
+line-2 c = next-number (line-1 (c .before .before .before .before .before)) _ (omega arith) (c .put-spaced .ensures)
+
+line-3 : (c : tie.After-put-spaced2) → SoFar (c .before .before .before .before .before .before .before .before .before .before .before .before .before .before .before .args .out .now) (c .before .before .before .before .before .before .before .before .before .before .before .before .before .before .before .args .at) 512 48 (c .put-spaced2 .last .0) (c .put-spaced2 .result)
+line-3 c = next-number (line-2 (c .before .before .before .before .before)) _ (omega arith) (c .put-spaced2 .ensures)
+
+line-4 : (c : tie.After-put-labels) → SoFar (c .before .before .before .before .before .before .before .before .before .before .before .before .before .before .before .before .before .before .before .before .args .out .now) (c .before .before .before .before .before .before .before .before .before .before .before .before .before .before .before .before .before .before .before .before .args .at) 512 136 (c .put-labels .last .0) (c .put-labels .result)
+line-4 c = piece (line-3 (c .before .before .before .before .before)) 88 _ (omega (arith, (c .put-labels .ensures) .0 .0, (c .put-labels .ensures) .1)) (omega arith) ((c .put-labels .ensures) .0)
+
+line-5 : (c : tie.After-put-byte) → SoFar (c .before .before .before .before .before .before .before .before .before .before .before .before .before .before .before .before .before .before .before .before .before .before .before .before .args .out .now) (c .before .before .before .before .before .before .before .before .before .before .before .before .before .before .before .before .before .before .before .before .before .before .before .before .args .at) 512 137 (c .put-byte .last .0) (c .put-byte .result)
+line-5 c = byte (line-4 (c .before .before .before .before)) 10 (omega arith) (c .put-byte .ensures)
+
+slice-aggregate-put-bytes : tie.Need-slice-aggregate-put-bytes
+slice-aggregate-put-bytes c = search needs
+
+put-bytes-requires : tie.Need-put-bytes-requires
+put-bytes-requires c κs = search needs
+
+cast-put-spaced : tie.Need-cast-put-spaced
+cast-put-spaced c = search needs
+
+put-spaced-requires : tie.Need-put-spaced-requires
+put-spaced-requires c κs = let l = line-1 (c .before .before .before .before) in omega arith
+
+cast-put-spaced-2 : tie.Need-cast-put-spaced-2
+cast-put-spaced-2 c = search needs
+
+put-spaced-requires-2 : tie.Need-put-spaced-requires-2
+put-spaced-requires-2 c κs = let l = line-2 (c .before .before .before .before) in omega arith
+
+cast-put-labels : tie.Need-cast-put-labels
+cast-put-labels c = search needs
+
+put-labels-requires : tie.Need-put-labels-requires
+put-labels-requires c κs = let l = line-3 (c .before .before .before .before) in omega arith
+
+put-byte-requires : tie.Need-put-byte-requires
+put-byte-requires c κs = let l = line-4 (c .before .before .before) in omega arith
+
+same-length : tie.Need-same-length
+same-length c = search needs
+
+returns : tie.Need-returns
+unfolding start piece byte next-number edgeLine edgeOf line-1 line-2 line-3 line-4 line-5
+returns c = whole (line-5 (c .before .before)) refl
+
+pub edge-line-spec : {M : Type 1} → statement M
+edge-line-spec =
+    tie.close
+    (tie.spec
+    slice-aggregate-put-bytes
+    put-bytes-requires
+    cast-put-spaced
+    put-spaced-requires
+    cast-put-spaced-2
+    put-spaced-requires-2
+    cast-put-labels
+    put-labels-requires
+    put-byte-requires
+    same-length
+    returns)

@@ -1,0 +1,62 @@
+-- `listing::lines::put_reference` meets its contract. Assumes nothing.
+use mathlib.Core.Path.{refl}
+use native.Mathlib.Omega.{arith}
+use Rattle.print_lines.specs.Ascii.{bytesOf}
+use Rattle.print_circuit.proofs.Putting.{SoFar, start, piece, number, puts-same, whole}
+use Rattle.print_circuit.proofs.TextLaws.{reference-earlier, reference-primary}
+use borrow.Author.Needs.{needs}
+use Rattle.print_circuit.proofs.lines.put_reference.Statement.{statement}
+use Rattle.print_circuit.proofs.lines.put_reference.Tie as tie
+
+-- the text after each call: what the calls have added, one by one, and how many bytes that is at most
+line-1 : (c : tie.After-put-bytes) → SoFar (c .before .before .before .before .before .args .out .now) (c .before .before .before .before .before .args .at) 23 2 (c .put-bytes .last .0) (c .put-bytes .result)
+line-1 c = piece (start (c .before .before .before .before .before .pre)) 2 (bytesOf " -") (omega arith) (omega arith) (c .put-bytes .ensures)
+
+line-2 : (c : tie.After-put-number) → SoFar (c .before .before .before .before .before .before .before .before .before .before .args .out .now) (c .before .before .before .before .before .before .before .before .before .before .args .at) 23 23 (c .put-number .last .0) (c .put-number .result)
+line-2 c = number (line-1 (c .before .before .before .before .before)) _ (omega arith) (c .put-number .ensures)
+
+slice-aggregate-put-bytes : tie.Need-slice-aggregate-put-bytes
+slice-aggregate-put-bytes c = search needs
+
+put-bytes-requires : tie.Need-put-bytes-requires
+put-bytes-requires c κs = search needs
+
+cast-put-number : tie.Need-cast-put-number
+cast-put-number c = search needs
+
+put-number-requires : tie.Need-put-number-requires
+put-number-requires c κs = search needs
+
+same-length : tie.Need-same-length
+same-length c = search needs
+
+returns : tie.Need-returns
+unfolding start piece number line-1 line-2
+returns c = puts-same _ _ (reference-earlier (c .before .before .before .before .before .before .before .before .before .before .before .before .args .reference) (c .before .before .before .before .before .before .before .before .before .before .if1 .taken)) (whole (line-2 (c .before .before)) refl)
+
+cast-put-spaced : tie.Need-cast-put-spaced
+cast-put-spaced c = search needs
+
+put-spaced-requires : tie.Need-put-spaced-requires
+put-spaced-requires c κs = search needs
+
+same-length-2 : tie.Need-same-length-2
+same-length-2 c = search needs
+
+returns-2 : tie.Need-returns-2
+returns-2 c = puts-same _ _ (reference-primary (c .before .before .before .before .before .before .before .args .reference) (c .before .before .before .before .before .if1 .left)) (c .before .before .put-spaced .ensures)
+
+pub put-reference-spec : {M : Type 1} → statement M
+put-reference-spec =
+    tie.close
+    (tie.spec
+    slice-aggregate-put-bytes
+    put-bytes-requires
+    cast-put-number
+    put-number-requires
+    same-length
+    returns
+    cast-put-spaced
+    put-spaced-requires
+    same-length-2
+    returns-2)

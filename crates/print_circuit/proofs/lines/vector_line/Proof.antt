@@ -1,0 +1,75 @@
+-- `listing::lines::vector_line` meets its contract: each call adds its piece to the text, which has room for it. Assumes nothing.
+use mathlib.Core.Path.{ap}
+use mathlib.Core.List.{List, _++_, map}
+use native.Mathlib.Omega.{arith}
+use borrow.Author.Needs.{needs}
+use Rattle.print_lines.specs.Ascii.{bytesOf}
+use Rattle.print_lines.specs.Lines.{space, newline}
+use Rattle.switch.specs.Conduction.{Value}
+use Rattle.print_circuit.specs.Lines.{spaced, valueLetter, vectorLine}
+use Rattle.print_circuit.proofs.TextLaws.{letters-short, vector-held}
+use Rattle.print_circuit.proofs.Putting.{SoFar, start, piece, byte, next-number, whole}
+use Rattle.print_circuit.proofs.lines.vector_line.Statement.{statement}
+use Rattle.print_circuit.proofs.lines.vector_line.Tie as tie
+
+-- the text after each call: what the calls have added, one by one, and how many bytes that is at most
+line-1 : (c : tie.After-put-bytes) → SoFar (c .before .before .before .before .args .out .now) (c .before .before .before .before .args .at) 512 6 (c .put-bytes .last .0) (c .put-bytes .result)
+line-1 c = piece (start (c .before .before .before .before .pre)) 6 (bytesOf "vector") (omega arith) (omega arith) (c .put-bytes .ensures)
+
+line-2 : (c : tie.After-put-spaced) → SoFar (c .before .before .before .before .before .before .before .before .args .out .now) (c .before .before .before .before .before .before .before .before .args .at) 512 28 (c .put-spaced .last .0) (c .put-spaced .result)
+line-2 c = next-number (line-1 (c .before .before .before .before)) _ (omega arith) (c .put-spaced .ensures)
+
+line-3 : (c : tie.After-put-byte) → SoFar (c .before .before .before .before .before .before .before .before .before .before .before .before .args .out .now) (c .before .before .before .before .before .before .before .before .before .before .before .before .args .at) 512 29 (c .put-byte .last .0) (c .put-byte .result)
+line-3 c = byte (line-2 (c .before .before .before .before)) 32 (omega arith) (c .put-byte .ensures)
+
+line-4 : (c : tie.After-put-letters) → SoFar (c .before .before .before .before .before .before .before .before .before .before .before .before .before .before .before .before .before .args .out .now) (c .before .before .before .before .before .before .before .before .before .before .before .before .before .before .before .before .before .args .at) 512 93 (c .put-letters .last .0) (c .put-letters .result)
+line-4 c = piece (line-3 (c .before .before .before .before .before)) 64 _ (letters-short _ _ (omega (arith, c .before .at-most .ensures))) (omega arith) (c .put-letters .ensures)
+
+line-5 : (c : tie.After-put-byte2) → SoFar (c .before .before .before .before .before .before .before .before .before .before .before .before .before .before .before .before .before .before .before .before .before .args .out .now) (c .before .before .before .before .before .before .before .before .before .before .before .before .before .before .before .before .before .before .before .before .before .args .at) 512 94 (c .put-byte2 .last .0) (c .put-byte2 .result)
+line-5 c = byte (line-4 (c .before .before .before .before)) 10 (omega arith) (c .put-byte2 .ensures)
+
+slice-aggregate-put-bytes : tie.Need-slice-aggregate-put-bytes
+slice-aggregate-put-bytes c = search needs
+
+put-bytes-requires : tie.Need-put-bytes-requires
+put-bytes-requires c κs = search needs
+
+put-spaced-requires : tie.Need-put-spaced-requires
+put-spaced-requires c κs = let l = line-1 (c .before .before .before) in omega arith
+
+put-byte-requires : tie.Need-put-byte-requires
+put-byte-requires c κs = let l = line-2 (c .before .before .before) in omega arith
+
+at-most-requires : tie.Need-at-most-requires
+at-most-requires c κs = search needs
+
+put-letters-requires : tie.Need-put-letters-requires
+put-letters-requires c κs = let l = line-3 (c .before .before .before .before) in (omega (arith, c .at-most .ensures), omega arith)
+
+put-byte-requires-2 : tie.Need-put-byte-requires-2
+put-byte-requires-2 c κs = let l = line-4 (c .before .before .before) in omega arith
+
+same-length : tie.Need-same-length
+same-length c = search needs
+
+returns : tie.Need-returns
+unfolding start piece byte next-number vectorLine line-1 line-2 line-3 line-4 line-5
+returns c =
+    let start = c .before .before .before .before .before .before .before .before .before .before .before .before .before .before .before .before .before .before .before .before .before .before .before in
+    whole (line-5 (c .before .before))
+    (ap (λ (v : List Value). bytesOf "vector" ++ spaced (start .args .number) ++ space ++ map valueLetter v ++ newline)
+    (vector-held (start .args .inputs) (c .before .before .before .before .before .before .before .at-most .result) (start .args .v) (c .before .before .before .before .before .before .before .at-most .ensures)))
+
+pub vector-line-spec : {M : Type 1} → statement M
+vector-line-spec =
+    tie.close
+    (tie.spec
+    slice-aggregate-put-bytes
+    put-bytes-requires
+    put-spaced-requires
+    put-byte-requires
+    at-most-requires
+    put-letters-requires
+    put-byte-requires-2
+    same-length
+    returns)

@@ -1,0 +1,47 @@
+-- Laws of a text as it is handed over: a piece is the lines behind those before, one that is not empty brings a line at least, and an empty one
+-- tells that all lines were handed over, if pieces are empty only past the last line. Assumes nothing.
+use Prim.Native.Nat.{ℕ, _-_, _≤_, _<_}
+use mathlib.Core.Path.{_≡_, refl, sym, ap, _∙_}
+use mathlib.Core.Bool.{Bool, true, false}
+use mathlib.Core.List.{List}
+use native.Mathlib.Nat.{zero-add}
+use native.Mathlib.Omega.{arith}
+use lib.Dec.{ltb}
+use lib.ListN.{length, take}
+use borrow.Author.Tests.{ltb-true, ltb-false}
+use Rattle.words.specs.Written.{written}
+use Rattle.words.proofs.WrittenLaws.{take-written}
+use Rattle.print_lines.specs.Pieces.{textFrom, PieceGiven}
+use Rattle.print_lines.specs.Handing.{TextHandsOn, TextHanded}
+use Rattle.print_lines.specs.declared.Piece.{Piece}
+use Rattle.print_lines.proofs.PieceLaws.{stand-length}
+
+module _ {line : ℕ → List ℕ} {total from : ℕ} {buffer : List ℕ} {piece : Piece} {after : List ℕ} (given : PieceGiven line total from buffer piece after) where
+  pub hands-on : TextHandsOn line from piece after
+  hands-on =
+      let stands = given .stands in
+      let text = textFrom line from (piece .next - from) in
+      record {
+        forth = stands .forth;
+        within = omega (arith, stands .room, stand-length line from buffer (piece .next) (piece .count) after stands);
+        text-is = ap (λ (l : List ℕ). take (piece .count) l) (stands .after-is)
+            ∙ ap (λ (n : ℕ). take n (written buffer 0 text)) (stands .count-is ∙ sym (zero-add (length text)))
+            ∙ take-written buffer 0 text (omega (arith, stands .room, stands .count-is));
+      }
+
+  pub moved : 0 < piece .count → from < piece .next
+  unfolding textFrom
+  moved some = go (ltb from (piece .next)) refl
+    where
+      go : (b : Bool) → ltb from (piece .next) ≡ b → from < piece .next
+      go true e = ltb-true from (piece .next) e
+      go false e =
+          let none : piece .next - from ≡ 0 = omega (arith, ltb-false from (piece .next) e) in
+          absurd (omega (arith, some, given .stands .count-is ∙ ap (λ (n : ℕ). length (textFrom line from n)) none))
+
+  pub all-handed : from ≤ total → (from < total → 0 < piece .count) → piece .count ≡ 0 → TextHanded total from
+  all-handed within moves none = go (ltb from total) refl
+    where
+      go : (b : Bool) → ltb from total ≡ b → TextHanded total from
+      go true e = absurd (omega (arith, none, moves (ltb-true from total e)))
+      go false e = omega (arith, within, ltb-false from total e)

@@ -1,0 +1,21 @@
+-- `text::put_byte` meets its contract: one stored byte is a text of one byte. Assumes nothing.
+use mathlib.Core.Path.{refl}
+use borrow.Author.Needs.{needs}
+use Rattle.words.proofs.WrittenLaws.{set-written}
+use Rattle.print_lines.proofs.put_byte.Statement.{statement}
+use Rattle.print_lines.proofs.put_byte.Tie as tie
+
+slice-write-out : tie.Need-slice-write-out
+slice-write-out c = search needs
+
+add-result : tie.Need-add-result
+add-result c = search needs
+
+same-length : tie.Need-same-length
+same-length c = search needs
+
+returns : tie.Need-returns
+returns c = (refl, set-written (c .args .out .now) (c .args .at) (c .args .b) (c .pre))
+
+pub put-byte-spec : {M : Type 1} → statement M
+put-byte-spec = tie.close (tie.spec slice-write-out add-result same-length returns)

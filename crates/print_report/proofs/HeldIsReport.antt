@@ -1,0 +1,224 @@
+-- What is held is the report: under an outcome of a file each held line is the report's line, and there are as many. Assumes nothing.
+use Prim.Native.Nat.{ℕ, zero, suc, _+_, _*_, _/_, _%_, _≤_, _<_, min}
+use mathlib.Core.Path.{_≡_, refl, sym, ap, subst, _∙_}
+use mathlib.Core.List.{List, [], _∷_, _++_}
+use native.Mathlib.Omega.{arith}
+use lib.ListN.{length, getD, drop, length-append, List·getD-append}
+use Rattle.print_lines.specs.Lines.{refusalLine}
+use Rattle.print_lines.specs.Pieces.{lineIn, PieceGiven}
+use Rattle.print_lines.specs.declared.Piece.{Piece}
+use Rattle.print_lines.proofs.PieceLaws.{same-piece}
+use Rattle.words.specs.Rows as marks
+use Rattle.words.proofs.Tables.{length-table}
+use Rattle.switch.specs.Modules.{ModuleType}
+use Rattle.switch.specs.Bridges.{Bridge, nodes, input}
+use Rattle.circuit.specs.Circuit.{Circuit, Instance, Listed, faultsOf}
+use Rattle.circuit.specs.Records.{padded}
+use Rattle.circuit.specs.Reading.{accepted, readingOf}
+use Rattle.circuit.specs.Laws.{CircuitGood}
+use Rattle.circuit.proofs.CircuitLaws.{accepted-is-good}
+use Rattle.circuit.proofs.Padding.{getD-padded}
+use Rattle.grading.specs.Rows.{Row, rowsOfInstance, rowsFrom, rowsOf, rowWords, matrixOf}
+use Rattle.grading.specs.Classes.{classesOf}
+use Rattle.grading.specs.Codes.{codeOf}
+use Rattle.grading.specs.Grading.{Grading, graded, refused, Counts, countsOfCircuit as countsOfCircuit, gradingOf}
+use Rattle.grading.specs.Grading.{countsIn, numberIn, placeIn, over, matrixAfter, classesAfterGrading}
+use Rattle.grading.specs.Promise.{placeOf, countsOf}
+use Rattle.grading.specs.declared.Answer.{Answer}
+use Rattle.grading.proofs.Everywhere.{Every, every-nil, every-append, every-map, every-at}
+use Rattle.grading.proofs.FaultRanges.{BridgeFits, faults-fit}
+use Rattle.grading.proofs.Lists.{getD-map}
+use Rattle.grading.proofs.MatrixLaws.{length-matrix, row-long, word-in}
+use Rattle.grading.proofs.RowLaws.{noRow, few-rows}
+use Rattle.grading.proofs.ClassNumbering.{class-numbers}
+use Rattle.grade_rows.specs.Model.{codesOf}
+use Rattle.print_report.specs.Lines.{rowLine}
+use Rattle.print_report.specs.Report.{kindOf, firstEnd, secondEnd, lineOf, rowLines, countsLine, reportLines, reportLine, lineCount}
+use Rattle.print_report.specs.Held.{headOf, headLine, wordsAt, gradedLine, toldLine, heldLine, heldCount}
+use Rattle.print_report.specs.Promise.{OutcomeOf, ReportPiece, RowsAreHeld}
+use Rattle.print_report.specs.declared.RowHead.{RowHead}
+use Rattle.print_report.proofs.ReportLaws.{length-lines, line-at, GradingSound, grading-sound}
+
+-- ---- a row as a number
+
+-- a row whose number tells its parts
+abbrev RowFits : Row → Type 0
+RowFits row = (row .number < 256) × BridgeFits (row .bridge)
+
+rows-fit-from : (types : List ModuleType) (bridges : List Listed) (n : ℕ) (is : List Instance) → n + length is ≤ 256
+    → ((j : ℕ) (none : Instance) → j < length is → Every BridgeFits (faultsOf types bridges (getD is j none))) → Every RowFits (rowsFrom types bridges n is)
+unfolding rowsFrom rowsOfInstance
+rows-fit-from types bridges n [] few fit = every-nil RowFits
+rows-fit-from types bridges n (i ∷ is) few fit =
+    every-append RowFits (rowsOfInstance types bridges n i) (rowsFrom types bridges (suc n) is)
+    (every-map RowFits (λ (b : Bridge). record { number = n; instance = i; bridge = b }) (faultsOf types bridges i) (λ b m. (omega arith, fit 0 i (omega arith) b m)))
+    (rows-fit-from types bridges (suc n) is (omega arith) (λ j none h. fit (suc j) none (omega arith)))
+
+rows-fit : (c : Circuit) → CircuitGood c → Every RowFits (rowsOf c)
+unfolding rowsOf
+rows-fit c good = rows-fit-from (c .types) (c .bridges) 1 (c .instances) (omega (arith, good .few-instances)) (faults-fit c good)
+
+head-back : (n : ℕ) (b : Bridge) (class : ℕ) → BridgeFits b
+    → headOf (codeOf n b) class ≡ record { instance = n; kind = kindOf b; first = firstEnd b; second = secondEnd b; class = class }
+unfolding codeOf kindOf firstEnd secondEnd
+head-back n (nodes a b) class fits =
+    let code : ℕ = ((n * 256 + 0) * 256 + a) * 256 + b in
+    let i : code / 16777216 ≡ n = omega (arith, fits .0, fits .1) in
+    let k : code / 65536 % 256 ≡ 0 = omega (arith, fits .0, fits .1) in
+    let f : code / 256 % 256 ≡ a = omega (arith, fits .0, fits .1) in
+    let s : code % 256 ≡ b = omega (arith, fits .1) in
+    ap (λ (x : ℕ). record { instance = x; kind = code / 65536 % 256; first = code / 256 % 256; second = code % 256; class = class }) i
+    ∙ ap (λ (x : ℕ). record { instance = n; kind = x; first = code / 256 % 256; second = code % 256; class = class }) k
+    ∙ ap (λ (x : ℕ). record { instance = n; kind = 0; first = x; second = code % 256; class = class }) f
+    ∙ ap (λ (x : ℕ). record { instance = n; kind = 0; first = a; second = x; class = class }) s
+head-back n (input m l) class fits =
+    let code : ℕ = ((n * 256 + 1) * 256 + m) * 256 + l in
+    let i : code / 16777216 ≡ n = omega (arith, fits .0, fits .1) in
+    let k : code / 65536 % 256 ≡ 1 = omega (arith, fits .0, fits .1) in
+    let f : code / 256 % 256 ≡ m = omega (arith, fits .0, fits .1) in
+    let s : code % 256 ≡ l = omega (arith, fits .1) in
+    ap (λ (x : ℕ). record { instance = x; kind = code / 65536 % 256; first = code / 256 % 256; second = code % 256; class = class }) i
+    ∙ ap (λ (x : ℕ). record { instance = n; kind = x; first = code / 256 % 256; second = code % 256; class = class }) k
+    ∙ ap (λ (x : ℕ). record { instance = n; kind = 1; first = x; second = code % 256; class = class }) f
+    ∙ ap (λ (x : ℕ). record { instance = n; kind = 1; first = m; second = x; class = class }) s
+
+-- ---- a row as it is held
+
+module _
+    (c : Circuit) (good : CircuitGood c) (codes matrix classes matrix-before classes-before : List ℕ) (codes-are : codes ≡ padded 2048 0 (codesOf (rowsOf c)))
+    (matrix-is : matrix ≡ over (matrixOf c) matrix-before) (classes-are : classes ≡ over (classesOf (rowsOf c)) classes-before) (r : ℕ) (h : r < length (rowsOf c)) where
+  abbrev row : Row
+  row = getD (rowsOf c) r noRow
+
+  code-at : getD codes r 0 ≡ codeOf (row .number) (row .bridge)
+  unfolding codesOf
+  code-at =
+      ap (λ (l : List ℕ). getD l r 0) codes-are
+      ∙ getD-padded 0 2048 (codesOf (rowsOf c)) 0 r (omega (arith, few-rows c good))
+      ∙ getD-map (λ (s : Row). codeOf (s .number) (s .bridge)) (rowsOf c) r noRow 0 h
+
+  class-at : getD classes r 0 ≡ getD (classesOf (rowsOf c)) r 0
+  unfolding over
+  class-at =
+      ap (λ (l : List ℕ). getD l r 0) classes-are
+      ∙ List·getD-append (classesOf (rowsOf c)) (drop (length (classesOf (rowsOf c))) classes-before) 0 r (omega (arith, class-numbers c .one-each))
+
+  word : (j k : ℕ) → k < 4 → j ≡ 4 * r + k → getD matrix j 0 ≡ getD (rowWords c row) k 0
+  unfolding over matrixOf
+  word j k l e =
+      ap (λ (m : List ℕ). getD m j 0) matrix-is
+      ∙ ap (λ (q : ℕ). getD (matrixOf c ++ drop (length (matrixOf c)) matrix-before) q 0) e
+      ∙ word-in (rowWords c) (row-long c) noRow (rowsOf c) (drop (length (matrixOf c)) matrix-before) r k h l
+
+  words : wordsAt matrix r ≡ rowWords c row
+  unfolding rowWords marks.rowOf
+  words =
+      let w : ℕ → ℕ = λ (k : ℕ). getD (rowWords c row) k 0 in
+      ap (λ (x : ℕ). x ∷ getD matrix (4 * r + 1) 0 ∷ getD matrix (4 * r + 2) 0 ∷ getD matrix (4 * r + 3) 0 ∷ []) (word (4 * r) 0 (omega arith) (omega arith))
+      ∙ ap (λ (x : ℕ). w 0 ∷ x ∷ getD matrix (4 * r + 2) 0 ∷ getD matrix (4 * r + 3) 0 ∷ []) (word (4 * r + 1) 1 (omega arith) refl)
+      ∙ ap (λ (x : ℕ). w 0 ∷ w 1 ∷ x ∷ getD matrix (4 * r + 3) 0 ∷ []) (word (4 * r + 2) 2 (omega arith) refl)
+      ∙ ap (λ (x : ℕ). w 0 ∷ w 1 ∷ w 2 ∷ x ∷ []) (word (4 * r + 3) 3 (omega arith) refl)
+
+  row-is : headLine (headOf (getD codes r 0) (getD classes r 0)) (length (c .vectors)) (wordsAt matrix r)
+      ≡ lineOf c row (getD (classesOf (rowsOf c)) r 0)
+  unfolding lineOf
+  row-is =
+      let vectors : ℕ = length (c .vectors) in
+      let class : ℕ = getD (classesOf (rowsOf c)) r 0 in
+      let told : RowHead = record { instance = row .number; kind = kindOf (row .bridge); first = firstEnd (row .bridge); second = secondEnd (row .bridge); class = class } in
+      let fits = every-at RowFits (rowsOf c) (rows-fit c good) r noRow h in
+      let few : min vectors 256 ≡ vectors = omega (arith, good .few-vectors) in
+      ap (λ (x : ℕ). headLine (headOf x (getD classes r 0)) vectors (wordsAt matrix r)) code-at
+      ∙ ap (λ (x : ℕ). headLine (headOf (codeOf (row .number) (row .bridge)) x) vectors (wordsAt matrix r)) class-at
+      ∙ ap (λ (x : RowHead). headLine x vectors (wordsAt matrix r)) (head-back (row .number) (row .bridge) class (fits .1))
+      ∙ ap (λ (x : List ℕ). headLine told vectors x) words
+      ∙ ap (λ (v : ℕ). rowLine (row .number) (kindOf (row .bridge)) (firstEnd (row .bridge)) (secondEnd (row .bridge)) class v (rowWords c row)) few
+
+-- ---- the whole
+
+-- as many lines, and each the report's
+abbrev LinesAre : Grading → Counts → (ℕ → List ℕ) → Type 0
+LinesAre g counts line = (suc (counts .faults) ≡ lineCount g) × ((n : ℕ) → n < lineCount g → line n ≡ reportLine g n)
+
+module _
+    (file matrix-before classes-before codes matrix classes : List ℕ)
+    (listed : (c : Circuit) → readingOf file ≡ accepted c → codes ≡ padded 2048 0 (codesOf (rowsOf c))) where
+  told-is : (g : Grading) → GradingSound file g → matrix ≡ matrixAfter g matrix-before → classes ≡ classesAfterGrading g classes-before
+      → LinesAre g (countsIn g) (toldLine (numberIn g) (placeIn g) (countsIn g) codes matrix classes)
+  unfolding GradingSound matrixAfter classesAfterGrading countsIn numberIn placeIn toldLine gradedLine reportLine lineIn lineCount reportLines countsOfCircuit
+  told-is (graded c) reads matrix-is classes-are = (ap suc (sym many), line)
+    where
+      many : length (rowLines c (rowsOf c) (classesOf (rowsOf c))) ≡ length (rowsOf c)
+      many = length-lines c (rowsOf c) (classesOf (rowsOf c)) (class-numbers c .one-each)
+
+      line : (n : ℕ) → n < suc (length (rowLines c (rowsOf c) (classesOf (rowsOf c))))
+          → gradedLine (countsOfCircuit c) codes matrix classes n ≡ getD (countsLine (countsOfCircuit c) ∷ rowLines c (rowsOf c) (classesOf (rowsOf c))) n []
+      line zero h = refl
+      line (suc r) h =
+          let inside : r < length (rowsOf c) = omega (arith, many, h) in
+          row-is c (accepted-is-good file c reads) codes matrix classes matrix-before classes-before (listed c reads) matrix-is classes-are r inside
+          ∙ sym (line-at c (rowsOf c) (classesOf (rowsOf c)) r (class-numbers c .one-each) inside)
+  told-is (refused zero place) low matrix-is classes-are = absurd (omega (arith, low))
+  told-is (refused (suc number) place) low matrix-is classes-are = (refl, line)
+    where
+      line : (n : ℕ) → n < 1 → refusalLine (suc number) place ≡ getD (refusalLine (suc number) place ∷ []) n []
+      line zero h = refl
+      line (suc n) h = absurd (omega arith)
+
+  rows-in : (g : Grading) → GradingSound file g → matrix ≡ matrixAfter g matrix-before → classes ≡ classesAfterGrading g classes-before
+      → (countsIn g .faults ≤ length codes) × (4 * countsIn g .faults ≤ length matrix) × (countsIn g .faults ≤ length classes)
+  unfolding GradingSound matrixAfter classesAfterGrading countsIn countsOfCircuit over matrixOf padded
+  rows-in (graded c) reads matrix-is classes-are = (
+    omega (arith, few-rows c (accepted-is-good file c reads), ap length (listed c reads), length-table 2048 (λ (i : ℕ). getD (codesOf (rowsOf c)) i 0)),
+    omega (
+      arith,
+      ap length matrix-is,
+      length-append (matrixOf c) (drop (length (matrixOf c)) matrix-before),
+      length-matrix c (rowsOf c),
+    ),
+    omega (
+      arith,
+      ap length classes-are,
+      length-append (classesOf (rowsOf c)) (drop (length (classesOf (rowsOf c))) classes-before),
+      class-numbers c .one-each,
+    ),
+  )
+  rows-in (refused number place) low matrix-is classes-are = (omega arith, omega arith, omega arith)
+
+pub rows-are-held : RowsAreHeld
+rows-are-held file matrix-before classes-before answer codes matrix classes outcome =
+    let g : Grading = gradingOf file (length matrix-before) (length classes-before) in
+    let told = rows-in file matrix-before classes-before codes matrix classes (outcome .listed) g
+    (grading-sound file (length matrix-before) (length classes-before)) (outcome .promised .matrix-at-exit) (outcome .promised .classes-at-exit) in
+    let counts = ap (λ (m : Counts). m .faults) (outcome .promised .counts) in
+    record { codes-held = omega (arith, counts, told .0); words-held = omega (arith, counts, told .1); classes-held = omega (arith, counts, told .2) }
+
+pub held-is-report : (file matrix-before classes-before : List ℕ) (answer : Answer) (codes matrix classes : List ℕ)
+    → OutcomeOf file matrix-before classes-before answer codes matrix classes
+    → LinesAre (gradingOf file (length matrix-before) (length classes-before)) (countsOf answer) (heldLine answer codes matrix classes)
+unfolding heldLine
+held-is-report file matrix-before classes-before answer codes matrix classes outcome =
+    let g : Grading = gradingOf file (length matrix-before) (length classes-before) in
+    let told = told-is file matrix-before classes-before codes matrix classes (outcome .listed) g
+    (grading-sound file (length matrix-before) (length classes-before))
+    (outcome .promised .matrix-at-exit) (outcome .promised .classes-at-exit) in (
+      ap (λ (m : Counts). suc (m .faults)) (outcome .promised .counts) ∙ told .0,
+      λ (n : ℕ) (h : n < lineCount g).
+          ap (λ (k : ℕ). toldLine k (placeOf answer) (countsOf answer) codes matrix classes n) (outcome .promised .number)
+          ∙ ap (λ (k : ℕ). toldLine (numberIn g) k (countsOf answer) codes matrix classes n) (outcome .promised .place)
+          ∙ ap (λ (m : Counts). toldLine (numberIn g) (placeIn g) m codes matrix classes n) (outcome .promised .counts)
+          ∙ told .1 n h,
+    )
+
+pub report-piece : (answer : Answer) (codes matrix classes : List ℕ) (from : ℕ) (buffer : List ℕ) (piece : Piece) (after : List ℕ)
+    → PieceGiven (heldLine answer codes matrix classes) (heldCount answer) from buffer piece after
+    → ReportPiece answer codes matrix classes from buffer piece after
+unfolding heldCount
+report-piece answer codes matrix classes from buffer piece after given = record {
+  of-held = given;
+  of-report = λ file matrix-before classes-before outcome.
+      let g : Grading = gradingOf file (length matrix-before) (length classes-before) in
+      let are = held-is-report file matrix-before classes-before answer codes matrix classes outcome in
+      same-piece (heldLine answer codes matrix classes) (reportLine g) (lineCount g) from buffer piece after (are .1)
+      (subst (λ (n : ℕ). PieceGiven (heldLine answer codes matrix classes) n from buffer piece after) (are .0) given);
+}

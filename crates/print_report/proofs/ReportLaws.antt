@@ -1,0 +1,79 @@
+-- The report's lines: one by one, all together, and how long they are. Assumes nothing.
+use Prim.Native.Nat.{ℕ, zero, suc, _*_, _≤_, _<_}
+use mathlib.Core.Path.{_≡_, refl, sym, ap, subst}
+use mathlib.Core.Bool.{Bool, true, false, cond}
+use mathlib.Core.List.{List, [], _∷_}
+use native.Mathlib.Omega.{arith}
+use lib.Dec.{ltb}
+use lib.ListN.{length, getD}
+use Rattle.print_lines.specs.Pieces.{lineIn}
+use Rattle.print_lines.proofs.PieceLaws.{text-of-list}
+use Rattle.circuit.specs.Circuit.{Circuit, joinLists}
+use Rattle.circuit.specs.Reading.{Reading, accepted, refusal, readingOf}
+use Rattle.circuit.proofs.CircuitLaws.{accepted-is-good, refusal-is-good}
+use Rattle.grading.specs.Rows.{Row, rowsOf, rowWords}
+use Rattle.grading.specs.Classes.{classesOf}
+use Rattle.grading.specs.Grading.{Grading, graded, refused, countsOfCircuit, gradingOfCircuit, afterReading, gradingOf}
+use Rattle.grading.proofs.RowLaws.{noRow}
+use Rattle.grading.proofs.ClassNumbering.{class-numbers}
+use Rattle.print_report.specs.Report.{kindOf, firstEnd, secondEnd, lineOf, rowLines, countsLine, reportLines, reportLine, lineCount, reportOf}
+use Rattle.print_report.specs.Promise.{ReportIsLines, LinesFit}
+use Rattle.print_report.proofs.LineSizes.{Sized, first-sized, refusal-sized, row-sized}
+
+-- ---- the report's lines, one by one
+
+pub length-lines : (c : Circuit) (rows : List Row) (classes : List ℕ) → length classes ≡ length rows → length (rowLines c rows classes) ≡ length rows
+unfolding rowLines
+length-lines c [] classes e = refl
+length-lines c (row ∷ rows) [] e = e
+length-lines c (row ∷ rows) (class ∷ classes) e = ap suc (length-lines c rows classes (omega (arith, e)))
+
+pub line-at : (c : Circuit) (rows : List Row) (classes : List ℕ) (r : ℕ) → length classes ≡ length rows → r < length rows
+    → getD (rowLines c rows classes) r [] ≡ lineOf c (getD rows r noRow) (getD classes r 0)
+unfolding rowLines
+line-at c [] classes r e h = absurd (omega arith)
+line-at c (row ∷ rows) [] r e h = absurd (omega (arith, e))
+line-at c (row ∷ rows) (class ∷ classes) zero e h = refl
+line-at c (row ∷ rows) (class ∷ classes) (suc r) e h = line-at c rows classes r (omega (arith, e)) (omega arith)
+
+pub report-is-lines : ReportIsLines
+unfolding reportOf reportLine lineCount joinLists
+report-is-lines grading = text-of-list joinLists refl (λ l ls. refl) (reportLines grading)
+
+-- ---- how long they are
+
+-- a graded file was read, and a refusal has a number
+unfoldable pub GradingSound : List ℕ → Grading → Type 0
+GradingSound file (graded c) = readingOf file ≡ accepted c
+GradingSound file (refused number place) = 1 ≤ number
+
+pub grading-sound : (file : List ℕ) (words entries : ℕ) → GradingSound file (gradingOf file words entries)
+unfolding gradingOf afterReading gradingOfCircuit GradingSound
+grading-sound file words entries = go (readingOf file) refl
+  where
+    by : (c : Circuit) → readingOf file ≡ accepted c → (a b : Bool)
+        → GradingSound file (cond a (refused 15 (4 * length (rowsOf c))) (cond b (refused 22 (length (rowsOf c))) (graded c)))
+    by c e true b = omega arith
+    by c e false true = omega arith
+    by c e false false = e
+
+    go : (r : Reading) → readingOf file ≡ r → GradingSound file (afterReading r words entries)
+    go (accepted c) e = by c e (ltb words (4 * length (rowsOf c))) (ltb entries (length (rowsOf c)))
+    go (refusal number place) e = refusal-is-good file number place e .low
+
+lines-sized : (file : List ℕ) (g : Grading) → GradingSound file g → (n : ℕ) → n < lineCount g → Sized (reportLine g n)
+unfolding GradingSound reportLine lineIn lineCount reportLines countsLine lineOf
+lines-sized file (graded c) reads zero h =
+    first-sized (countsOfCircuit c .vectors) (countsOfCircuit c .faults) (countsOfCircuit c .classes) (countsOfCircuit c .found)
+lines-sized file (graded c) reads (suc r) h =
+    let each = class-numbers c .one-each in
+    let row = getD (rowsOf c) r noRow in
+    let inside : r < length (rowsOf c) = omega (arith, h, length-lines c (rowsOf c) (classesOf (rowsOf c)) each) in
+    subst Sized (sym (line-at c (rowsOf c) (classesOf (rowsOf c)) r each inside))
+    (row-sized (row .number) (kindOf (row .bridge)) (firstEnd (row .bridge)) (secondEnd (row .bridge)) (getD (classesOf (rowsOf c)) r 0) (length (c .vectors))
+    (rowWords c row) (accepted-is-good file c reads .few-vectors))
+lines-sized file (refused number place) low zero h = refusal-sized number place
+lines-sized file (refused number place) low (suc n) h = absurd (omega (arith, h))
+
+pub lines-fit : LinesFit
+lines-fit file words entries n h = lines-sized file (gradingOf file words entries) (grading-sound file words entries) n h

@@ -1,0 +1,74 @@
+-- `report::held_line` meets its contract: a refusal, the counts or a row, by the line's number. Assumes nothing.
+use native.Mathlib.Omega.{arith}
+use Rattle.print_report.proofs.HeldLaws.{given-line, refused-line, counts-line, row-line-held}
+use borrow.Author.Needs.{needs}
+use Rattle.print_report.proofs.held_line.Statement.{statement}
+use Rattle.print_report.proofs.held_line.Tie as tie
+
+number-of-requires : tie.Need-number-of-requires
+number-of-requires c κs = search needs
+
+place-of-requires : tie.Need-place-of-requires
+place-of-requires c κs = search needs
+
+refusal-line-requires : tie.Need-refusal-line-requires
+refusal-line-requires c κs = search needs
+
+same-length : tie.Need-same-length
+same-length c = search needs
+
+returns : tie.Need-returns
+returns c =
+    let e = c .before .before .before .before .before .before .before .before .before .before .before .args in
+    given-line _ _ (refused-line (e .answer) (e .codes .now) (e .matrix .now) (e .classes .now) (e .number) _ (c .before .before .before .before .before .before .number-of .ensures) _ (c .before .before .before .before .place-of .ensures) (omega arith))
+    (c .before .before .refusal-line .ensures)
+
+counts-of-requires : tie.Need-counts-of-requires
+counts-of-requires c κs = search needs
+
+first-line-requires : tie.Need-first-line-requires
+first-line-requires c κs = search needs
+
+same-length-2 : tie.Need-same-length-2
+same-length-2 c = search needs
+
+returns-2 : tie.Need-returns-2
+returns-2 c =
+    let e = c .before .before .before .before .before .before .before .before .before .before .before .before .args in
+    given-line _ _
+    (counts-line (e .answer) (e .codes .now) (e .matrix .now) (e .classes .now) (e .number) _ (c .before .before .before .before .before .before .before .number-of .ensures) (omega arith) _ (c .before .before .before .before .before .counts-of .ensures) (omega arith))
+    (c .before .before .first-line .ensures)
+
+sub-held-row : tie.Need-sub-held-row
+sub-held-row c = search needs
+
+held-row-requires : tie.Need-held-row-requires
+held-row-requires c κs = search needs
+
+same-length-3 : tie.Need-same-length-3
+same-length-3 c = search needs
+
+returns-3 : tie.Need-returns-3
+returns-3 c =
+    let e = c .before .before .before .before .before .before .before .before .before .before .before .before .args in
+    given-line _ _
+    (row-line-held (e .answer) (e .codes .now) (e .matrix .now) (e .classes .now) (e .number) _ (c .before .before .before .before .before .before .before .number-of .ensures) (omega arith) _ (c .before .before .before .before .before .counts-of .ensures) (omega arith))
+    (c .before .before .held-row .ensures)
+
+pub held-line-spec : {M : Type 1} → statement M
+held-line-spec =
+    tie.close
+    (tie.spec
+    number-of-requires
+    place-of-requires
+    refusal-line-requires
+    same-length
+    returns
+    counts-of-requires
+    first-line-requires
+    same-length-2
+    returns-2
+    sub-held-row
+    held-row-requires
+    same-length-3
+    returns-3)

@@ -1,0 +1,33 @@
+// A file's listing as it is handed to standard output. Nothing else in the program writes there but headings.
+ghost use mathlib.Core.Path.{_≡_};
+ghost use Rattle.program_show.specs.Handing.{ListingHandsOn};
+use print_lines::Piece;
+use program_io::output::Output;
+use program_io::output::write_text;
+
+// How many lines of the listing were handed over. Only the functions here can make or advance the number.
+pub struct Handed {
+    lines: usize,
+    pub output: Output,
+}
+
+// No line yet.
+pub fn none_handed(output: Output) -> Handed
+    ensures { λ r. ⌜ r .lines ≡ 0 ⌝ }
+{
+    Handed { lines: 0, output }
+}
+
+// Writes the lines behind those that were handed over before, which stand at the front of the buffer.
+pub fn hand_out(handed: Handed, file: &[u8], piece: Piece, out: &[u8]) -> Handed
+    requires { ⌜ ListingHandsOn (now file) (handed .lines) piece (now out) ⌝ }
+    ensures { λ r. ⌜ r .lines ≡ piece .next ⌝ }
+{
+    let count = piece.count;
+    let before = handed.output;
+    let output = write_text(before, &out[..count]);
+    Handed {
+        lines: piece.next,
+        output,
+    }
+}

@@ -1,0 +1,75 @@
+// The file cut into fields, a step at a time.
+mod cursor;
+
+use crate::cursor::next;
+use crate::cursor::reader_at;
+ghost use mathlib.Core.Path.{_≡_};
+ghost use Prim.Native.Nat.{_+_, _≤_};
+ghost use lib.ListN.{length, getD};
+ghost use Rattle.circuit.specs.Fields.{twoBytes};
+ghost use Rattle.read_fields.specs.Steps.{bodyOf, StepIs, NextIs};
+
+// A whole field: the offset of its tag byte, its tag, and where its body starts and how long that is.
+pub struct Field {
+    pub at: usize,
+    pub tag: u8,
+    pub body: usize,
+    pub len: usize,
+}
+
+// What stands at an offset: a whole field, no whole field, or the end of the file.
+pub enum Step {
+    Whole(Field),
+    Broken,
+    End,
+}
+
+// What stands at an offset, where a field with one tag is looked for.
+pub enum Next {
+    Found(Field),
+    Other,
+}
+
+// What stands at a place of the file: a reader is made there and steps.
+pub fn step_at(file: &[u8], at: usize) -> Step
+    requires { ⌜ at ≤ length (now file) ⌝ }
+    ensures { λ r. ⌜ StepIs (now (file .entry)) at r ⌝ }
+{
+    let mut reader = reader_at(file, at);
+    next(&mut reader)
+}
+
+pub fn field_of(file: &[u8], at: usize, tag: u8) -> Next
+    requires { ⌜ at ≤ length (now file) ⌝ }
+    ensures { λ r. ⌜ NextIs (now (file .entry)) at tag r ⌝ }
+{
+    let Step::Whole(f) = step_at(file, at) else {
+        return Next::Other;
+    };
+    if f.tag == tag {
+        return Next::Found(f);
+    }
+    Next::Other
+}
+
+// A byte of a field's body, 0 past its end.
+pub fn byte(file: &[u8], f: Field, i: usize) -> u8
+    requires { ⌜ f .body + f .len ≤ length (now file) ⌝ }
+    ensures { λ r. ⌜ r ≡ getD (bodyOf (now (file .entry)) f) i 0 ⌝ }
+{
+    let len = f.len;
+    let body = f.body;
+    if i < len {
+        return file[body + i];
+    }
+    0
+}
+
+// Two bytes of a field's body as a number, high byte first.
+pub fn two_bytes(file: &[u8], f: Field, i: usize) -> usize
+    requires { ⌜ f .body + f .len ≤ length (now file) ⌝ }
+    requires { ⌜ i ≤ length (now file) ⌝ }
+    ensures { λ r. ⌜ r ≡ twoBytes (bodyOf (now (file .entry)) f) i ⌝ }
+{
+    (byte(file, f, i) as usize) * 256 + (byte(file, f, i + 1) as usize)
+}

@@ -1,0 +1,41 @@
+-- How a file begins, and the answer of reading put together from what the stages have read.
+use Prim.Native.Nat.{ℕ, _≤_}
+use mathlib.Core.Path.{_≡_}
+use mathlib.Core.List.{List}
+use lib.ListN.{length}
+use Rattle.circuit.specs.Fields.{cutFrom}
+use Rattle.circuit.specs.Reading.{readingOf, unless}
+use Rattle.circuit.specs.Refusals.{verdictOf}
+use Rattle.circuit.specs.Stages.{afterInputs, gatheredFrom, gatheredOf}
+use Rattle.circuit.specs.declared.Reading.{Reading as ReadingRecord}
+use Rattle.circuit.specs.declared.refusal.Refusal.{Refusal}
+use Rattle.read_types.specs.declared.types.Types.{Types}
+use Rattle.read_bridges.specs.declared.Bridges.{Bridges}
+use Rattle.read_instances.specs.declared.Instances.{Instances}
+use Rattle.read_file.specs.declared.read.Start.{Start}
+use Rattle.read_vectors.specs.declared.Vectors.{Vectors}
+
+-- what a file reads as: the refusal of its start, or, where that passes, what the rest reads as from this place on with this many inputs;
+-- and what the stages gather from there
+pub record StartRead (file : List ℕ) (r : Start) : Type 0 where
+  pub reads : readingOf file ≡ unless (verdictOf (r .refusal)) (afterInputs (length file) (r .inputs) (cutFrom file (r .at)))
+  pub gathered : gatheredOf file ≡ gatheredFrom (r .inputs) (cutFrom file (r .at))
+  pub place : r .at ≤ length file
+  pub few : r .inputs ≤ 64
+
+abbrev pub wholeOf : Refusal → ℕ → Types → Bridges → Instances → Vectors → ReadingRecord
+wholeOf why P t b i v = record {
+  refusal = why;
+  circuit = record {
+    inputs = P;
+    «type_count» = t .count;
+    types = t .all;
+    «bridge_count» = b .count;
+    bridges = b .all;
+    «instance_count» = i .count;
+    instances = i .all;
+    faults = i .faults;
+    «vector_count» = v .count;
+    vectors = v .all;
+  };
+}

@@ -1,0 +1,42 @@
+// The end of a file: after the last vector nothing may stand, and an instance and a vector must have been there.
+use circuit::refusal::Refusal;
+use read_fields::Step;
+use read_fields::step_at;
+ghost use mathlib.Core.Path.{_≡_};
+ghost use Prim.Native.Nat.{_≤_};
+ghost use lib.ListN.{length};
+ghost use Rattle.circuit.specs.Fields.{cutFrom};
+ghost use Rattle.circuit.specs.Refusals.{verdictOf};
+ghost use Rattle.circuit.specs.Stages.{endedVerdict, pastVerdict, endingVerdict};
+
+fn at_end(size: usize, instances: usize, vectors: usize) -> Refusal
+    ensures { λ r. ⌜ verdictOf r ≡ endedVerdict size instances vectors ⌝ }
+{
+    if instances == 0 {
+        return Refusal::Unfinished(size);
+    }
+    if vectors == 0 {
+        return Refusal::Unfinished(size);
+    }
+    Refusal::Nothing
+}
+
+fn at_field(tag: u8, at: usize) -> Refusal
+    ensures { λ r. ⌜ verdictOf r ≡ pastVerdict tag at ⌝ }
+{
+    if tag < 1 || 6 < tag {
+        return Refusal::UnknownTag(at);
+    }
+    Refusal::Misplaced(at)
+}
+
+pub fn ending(file: &[u8], at: usize, instances: usize, vectors: usize) -> Refusal
+    requires { ⌜ at ≤ length (now file) ⌝ }
+    ensures { λ r. ⌜ verdictOf r ≡ endingVerdict (length (now (file .entry))) instances vectors (cutFrom (now (file .entry)) at) ⌝ }
+{
+    match step_at(file, at) {
+        Step::End => at_end(file.len(), instances, vectors),
+        Step::Broken => Refusal::Broken(at),
+        Step::Whole(f) => at_field(f.tag, at),
+    }
+}

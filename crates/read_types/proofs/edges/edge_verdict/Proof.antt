@@ -1,0 +1,152 @@
+-- `modules::edges::edge_verdict` meets its contract: each test of the table, in its order. The code does not count an edge's labels again for number 7:
+-- where the field's length has passed 5 there are 1 to 4. Assumes nothing.
+use Prim.Native.Nat.{ℕ, _<_, _≤_}
+use mathlib.Core.Logic.{⊎-elim}
+use mathlib.Core.Path.{_≡_, refl, sym, _∙_}
+use mathlib.Core.Bool.{Bool, true, false, not, _&&_}
+use mathlib.Core.List.{List}
+use native.Mathlib.Omega.{arith}
+use borrow.Author.Needs.{needs}
+use borrow.Author.Tests.{le-leb, lt-leb, lt-ltb, ltb-true, ltb-false}
+use lib.Dec.{leb, ltb}
+use lib.ListN.{length, getD, drop, length-drop}
+use Rattle.switch.specs.Conduction.{between, pEnds, nEnds, badEnds}
+use Rattle.switch.specs.Modules.{allOf, edgeInRange}
+use Rattle.circuit.specs.Limits.{mostEdges}
+use Rattle.circuit.specs.Known.{edgeIn}
+use Rattle.circuit.specs.Table.{passes, refusedAt, firstOf, edgeTestsOf}
+use Rattle.circuit.specs.Refusals.{refusalNumber, refusalPlace, numberedVerdict, verdictOf}
+use Rattle.circuit.specs.Verdicts.{orIf}
+use Rattle.read_fields.specs.Steps.{bodyOf}
+use Rattle.read_fields.proofs.Bodies.{length-body}
+use Rattle.circuit.proofs.Verdicts.{chain, firstAfter}
+use Rattle.circuit.proofs.RangeLaws.{between-in, between-below, between-above, in-between}
+use Rattle.circuit.proofs.TypeLaws.{and-came}
+use Rattle.read_types.specs.ReadTypes.{edgeBetween}
+use Rattle.read_types.proofs.edges.edge_verdict.Statement.{statement}
+use Rattle.read_types.proofs.edges.edge_verdict.Tie as tie
+
+-- the labels behind two nodes are 1 to 4 where the body has 3 to 6 bytes
+counted : (body : List ℕ) → between 3 6 (length body) ≡ true → between 1 4 (length (drop 2 body)) ≡ true
+counted body e =
+    let size = in-between 3 6 (length body) (rw e tt) in
+    let rest = length-drop 2 body in
+    between-in 1 4 (length (drop 2 body)) (omega (arith, size .0)) (omega (arith, size .1))
+
+and-true : (b : Bool) → (b && true) ≡ b
+and-true true = refl
+and-true false = refl
+
+-- so the code's test is that of the table
+counted-range : (h k : ℕ) (body : List ℕ) → between 3 6 (length body) ≡ true
+    → edgeInRange h k (edgeIn body) ≡ (leb (getD body 0 0) h && leb (getD body 1 0) h && allOf (λ (l : ℕ). ltb l k) (drop 2 body))
+unfolding edgeInRange edgeIn
+counted-range h k body e = rw (counted body e, and-true (leb (getD body 0 0) h && leb (getD body 1 0) h))
+
+-- the ends are judged by the two nodes alone
+ends-same : (h o : ℕ) (body : List ℕ) → badEnds h o (edgeBetween (getD body 0 0) (getD body 1 0)) ≡ badEnds h o (edgeIn body)
+unfolding badEnds pEnds nEnds edgeIn
+ends-same h o body = refl
+
+-- the tests one after the other, from their flags
+in-turn : (h o k count at : ℕ) (body : List ℕ) (length-bad range ends-bad : Bool) → length-bad ≡ not (between 3 6 (length body))
+    → range ≡ (leb (getD body 0 0) h && leb (getD body 1 0) h && allOf (λ (l : ℕ). ltb l k) (drop 2 body))
+    → ends-bad ≡ badEnds h o (edgeBetween (getD body 0 0) (getD body 1 0))
+    → orIf (orIf (orIf (orIf passes length-bad (refusedAt 5 at)) (leb mostEdges count) (refusedAt 6 at)) (not range) (refusedAt 7 at)) ends-bad (refusedAt 8 at)
+    ≡ firstOf (edgeTestsOf h o k count at body)
+unfolding edgeTestsOf firstAfter firstOf orIf
+in-turn h o k count at body length-bad range ends-bad p q r = go (between 3 6 (length body)) refl
+  where
+    go : (b : Bool) → between 3 6 (length body) ≡ b
+        → orIf (orIf (orIf (orIf passes length-bad (refusedAt 5 at)) (leb mostEdges count) (refusedAt 6 at)) (not range) (refusedAt 7 at)) ends-bad (refusedAt 8 at)
+        ≡ firstOf (edgeTestsOf h o k count at body)
+    go true e = rw (p, q, r ∙ ends-same h o body, ← counted-range h k body e) (sym (chain (edgeTestsOf h o k count at body)))
+    go false e = rw (p, e)
+
+-- the flag of a length below 3, or at least 3 and above 6
+below : (n : ℕ) (b : Bool) → n < 3 → b ≡ ltb n 3 → b ≡ not (between 3 6 n)
+below n b low e = e ∙ rw (between-below 3 6 n low) (lt-ltb n 3 low)
+
+above : (n : ℕ) (b : Bool) → 3 ≤ n → b ≡ ltb 6 n → b ≡ not (between 3 6 n)
+above n b low e = e ∙ go (ltb 6 n) refl
+  where
+    go : (t : Bool) → ltb 6 n ≡ t → t ≡ not (between 3 6 n)
+    go true q = rw (between-above 3 6 n (ltb-true 6 n q))
+    go false q = rw (between-in 3 6 n low (ltb-false 6 n q))
+
+byte-requires : tie.Need-byte-requires
+byte-requires c κs = search needs
+
+byte-requires-2 : tie.Need-byte-requires-2
+byte-requires-2 c κs = search needs
+
+labels-below-requires : tie.Need-labels-below-requires
+labels-below-requires c κs = search needs
+
+or-if-requires : tie.Need-or-if-requires
+or-if-requires c κs = search needs
+
+or-if-requires-2 : tie.Need-or-if-requires-2
+or-if-requires-2 c κs = search needs
+
+or-if-requires-3 : tie.Need-or-if-requires-3
+or-if-requires-3 c κs = search needs
+
+bad-nodes-requires : tie.Need-bad-nodes-requires
+bad-nodes-requires c κs = search needs
+
+or-if-requires-4 : tie.Need-or-if-requires-4
+or-if-requires-4 c κs = search needs
+
+returns : tie.Need-returns
+unfolding verdictOf refusalNumber refusalPlace numberedVerdict
+returns c =
+    let start = c .before .before .before .before .before .before .before .before .before .before .before in
+    let a = start .args in
+    let file = a .file .now in
+    let body = bodyOf file (a .f) in
+    let nodes = c .before .before .before .before .before .before .before in
+    let first = nodes .before .before .byte in
+    let second = nodes .before .byte2 in
+    let both-nodes : nodes .if1 .if2 ≡ (leb (first .result) (a .h) && leb (second .result) (a .h)) =
+    and-came (leb (first .result) (a .h)) (leb (second .result) (a .h)) (nodes .if1 .if2) (nodes .if1 .came)
+    (λ w. (le-leb (first .result) (a .h) (w .0 .taken), w .1))
+    (λ w. (lt-leb (first .result) (a .h) (w .0 .left), w .1)) in
+    let all = c .before .before .before .before .before .before .if2 in
+    let below-k : Bool = allOf (λ (l : ℕ). ltb l (a .k)) (drop 2 body) in
+    let range : all .in-range ≡ (leb (first .result) (a .h) && leb (second .result) (a .h) && below-k) =
+    and-came (leb (first .result) (a .h) && leb (second .result) (a .h)) below-k (all .in-range) (all .came)
+    (λ w. (sym both-nodes ∙ w .0 .taken, w .2 ∙ w .1 .ensures))
+    (λ w. (sym both-nodes ∙ w .0 .left, w .1 ∙ both-nodes)) in
+    let size = c .before .before .before .before .before .if3 in
+    let length-bad : size .or-if ≡ not (between 3 6 (a .f .len)) =
+    ⊎-elim (λ w. below (a .f .len) (size .or-if) (w .0 .taken) (w .1)) (λ w. above (a .f .len) (size .or-if) (w .0 .left) (w .1)) (size .came) in
+    c .or-if4 .ensures
+    ∙ rw (c .before .before .or-if3 .ensures, c .before .before .before .or-if2 .ensures, c .before .before .before .before .or-if .ensures)
+    (in-turn
+    (a .h)
+    (a .o)
+    (a .k)
+    (a .count)
+    (a .f .at)
+    body
+    (size .or-if)
+    (all .in-range)
+    (c .before .bad-nodes .result)
+    (length-bad ∙ rw (length-body file (a .f) (start .pre)))
+    (range ∙ rw (first .ensures, second .ensures))
+    (c .before .bad-nodes .ensures ∙ rw (first .ensures, second .ensures)))
+
+pub edge-verdict-spec : {M : Type 1} → statement M
+edge-verdict-spec =
+    tie.close
+    (tie.spec
+    byte-requires
+    byte-requires-2
+    labels-below-requires
+    or-if-requires
+    or-if-requires-2
+    or-if-requires-3
+    bad-nodes-requires
+    or-if-requires-4
+    returns)

@@ -1,0 +1,73 @@
+-- What the functions that read types and edges promise: the list that was read, how it stands in the record, and that the stage ended
+-- there.
+use Prim.Native.Nat.{ℕ, _+_, _≤_}
+use mathlib.Core.Path.{_≡_}
+use mathlib.Core.Bool.{Bool, _&&_}
+use mathlib.Core.List.{List, [], _∷_, _++_, map}
+use lib.Dec.{T, leb}
+use lib.ListN.{length}
+use Rattle.switch.specs.Conduction.{Edge}
+use Rattle.switch.specs.Modules.{ModuleType, allOf, typeInRange, inRange}
+use Rattle.switch.specs.Deciding.{isComplementary}
+use Rattle.switch.specs.declared.ModuleType.{ModuleType as TypeRecord}
+use Rattle.circuit.specs.Limits.{mostTypes, mostEdges}
+use Rattle.circuit.specs.Fields.{Field, Cut, clean, field, cutFrom}
+use Rattle.circuit.specs.Table.{passes}
+use Rattle.circuit.specs.Records.{padded, unusedType, typeRecord}
+use Rattle.circuit.specs.Refusals.{verdictOf}
+use Rattle.circuit.specs.Known.{typeIn}
+use Rattle.read_fields.specs.declared.Field.{Field as FieldRecord}
+use Rattle.circuit.specs.Stages.{stageOf, ifPasses, edgeStage, fieldPlace, typeStage}
+use Rattle.read_fields.specs.Steps.{bodyOf}
+use Rattle.read_types.specs.declared.edges.OneType.{OneType}
+use Rattle.read_types.specs.declared.types.Types.{Types}
+
+-- what holds of each type that was read: in range, with no more edges than there are places, complementary
+unfoldable pub goodType : ModuleType → Bool
+goodType t = inRange t && leb (length (t .edges)) mostEdges && isComplementary t
+
+-- an edge with these nodes, for its ends alone
+abbrev pub edgeBetween : ℕ → ℕ → Edge
+edgeBetween a b = record { first = a; second = b; labels = [] }
+
+-- the type that a record with no edge tells
+abbrev pub bareOf : TypeRecord → ModuleType
+bareOf r = record { highest = r .highest; output = r .output; labels = r .labels; edges = [] }
+
+-- a record of a type in range that has no edge yet
+pub record BareType (r : TypeRecord) : Type 0 where
+  pub bare : r ≡ typeRecord (bareOf r)
+  pub ranges : T (typeInRange (r .highest) (r .output) (r .labels))
+
+-- the edges from an offset on, added to a type: all in range, and no more than there are places
+pub record EdgesRead (file : List ℕ) (from : ℕ) (bare : TypeRecord) (r : OneType) : Type 0 where
+  pub type : ModuleType
+  pub stage : edgeStage (bareOf bare) (cutFrom file from) ≡ stageOf (verdictOf (r .refusal)) type (cutFrom file (r .at))
+  pub place : r .at ≤ length file
+  pub ranges : T (inRange type)
+  pub within : length (type .edges) ≤ mostEdges
+  pub next : (f : Field) (rest : Cut) → verdictOf (r .refusal) ≡ passes → cutFrom file (r .at) ≡ field f rest → f .tag ≡ 3 → ⊥
+  pub is : r .«module_type» ≡ typeRecord type
+
+-- a type with its edges, judged: it is refused, or it is complementary
+pub record TypeRead (file : List ℕ) (f : FieldRecord) (r : OneType) : Type 0 where
+  pub type : ModuleType
+  pub place : r .at ≤ length file
+  pub ranges : T (inRange type)
+  pub within : length (type .edges) ≤ mostEdges
+  pub is : r .«module_type» ≡ typeRecord type
+  pub stage : (types : List ModuleType) (from : Cut) → fieldPlace from ≡ f .at
+      → typeStage (types ++ (typeIn (bodyOf file f) ∷ [])) from (cutFrom file (f .body + f .len))
+      ≡ ifPasses (verdictOf (r .refusal)) types from (typeStage (types ++ (type ∷ [])) from (cutFrom file (r .at)))
+  pub complementary : verdictOf (r .refusal) ≡ passes → T (isComplementary type)
+  pub next : (g : Field) (rest : Cut) → verdictOf (r .refusal) ≡ passes → cutFrom file (r .at) ≡ field g rest → g .tag ≡ 3 → ⊥
+
+-- the types from an offset on: each in range and complementary
+pub record TypesRead (file : List ℕ) (from : ℕ) (r : Types) : Type 0 where
+  pub types : List ModuleType
+  pub stage : typeStage [] clean (cutFrom file from) ≡ stageOf (verdictOf (r .refusal)) types (cutFrom file (r .at))
+  pub place : r .at ≤ length file
+  pub within : length types ≤ mostTypes
+  pub count : r .count ≡ length types
+  pub all : r .all ≡ padded mostTypes unusedType (map typeRecord types)
+  pub good : T (allOf goodType types)

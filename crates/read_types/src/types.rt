@@ -1,0 +1,167 @@
+// Types: each is a field with tag 2, followed at once by its edges, and is judged when its edges are read.
+use crate::edges::OneType;
+use crate::edges::no_edge;
+use crate::edges::read_edges;
+use circuit::limits::MOST_EDGES;
+use circuit::limits::MOST_TYPES;
+use circuit::ranges::is_between;
+use circuit::refusal::Refusal;
+use circuit::refusal::or_if;
+use circuit::refusal::refuses;
+use join_nodes::complementary::check_type;
+use read_fields::Field;
+use read_fields::Next;
+use read_fields::Step;
+use read_fields::byte;
+use read_fields::field_of;
+use read_fields::step_at;
+use switch::ModuleType;
+ghost use mathlib.Core.Path.{_≡_};
+ghost use Prim.Native.Nat.{_+_, _≤_};
+ghost use lib.Dec.{T};
+ghost use lib.ListN.{length, getD};
+ghost use Rattle.switch.specs.Modules.{typeInRange};
+ghost use Rattle.circuit.specs.Fields.{cutFrom};
+ghost use Rattle.circuit.specs.Known.{typeIn};
+ghost use Rattle.circuit.specs.Table.{firstOf, typeTests};
+ghost use Rattle.circuit.specs.Records.{unusedType, typeRecord};
+ghost use Rattle.circuit.specs.Refusals.{verdictOf};
+ghost use Rattle.circuit.specs.Stages.{failingBefore, failingVerdict};
+ghost use Rattle.read_fields.specs.Steps.{bodyOf, FieldAt};
+ghost use Rattle.read_types.specs.ReadTypes.{TypeRead, TypesRead};
+
+pub struct Types {
+    pub refusal: Refusal,
+    pub at: usize,
+    pub count: usize,
+    pub all: [ModuleType; MOST_TYPES],
+}
+
+// What stands in the unused places for types.
+pub fn no_type() -> ModuleType
+    ensures { λ r. ⌜ r ≡ unusedType ⌝ }
+{
+    ModuleType {
+        highest: 0,
+        output: 0,
+        labels: 0,
+        count: 0,
+        edges: [no_edge(); MOST_EDGES],
+    }
+}
+
+// The first test of a type field that refuses, after `count` types.
+fn type_verdict(file: &[u8], f: Field, count: usize) -> Refusal
+    requires { ⌜ f .body + f .len ≤ length (now file) ⌝ }
+    ensures { λ r. ⌜ verdictOf r ≡ firstOf (typeTests count (f .at) (bodyOf (now (file .entry)) f)) ⌝ }
+{
+    let h = byte(file, f, 0);
+    let o = byte(file, f, 1);
+    let k = byte(file, f, 2);
+    let in_range = is_between(2, 31, h) && is_between(2, h, o) && is_between(1, 12, k);
+    let v = or_if(Refusal::Nothing, f.len != 3, Refusal::WrongLength(f.at));
+    let v = or_if(v, MOST_TYPES <= count, Refusal::TooMany(f.at));
+    or_if(v, !in_range, Refusal::OutOfRange(f.at))
+}
+
+// The type of a field, with no edge yet.
+fn type_in(file: &[u8], f: Field) -> ModuleType
+    requires { ⌜ f .body + f .len ≤ length (now file) ⌝ }
+    ensures { λ r. ⌜ r ≡ typeRecord (typeIn (bodyOf (now (file .entry)) f)) ⌝ }
+{
+    ModuleType {
+        highest: byte(file, f, 0),
+        output: byte(file, f, 1),
+        labels: byte(file, f, 2),
+        count: 0,
+        edges: [no_edge(); MOST_EDGES],
+    }
+}
+
+// The refusal of a type that is not complementary, before a field with this tag.
+fn failing_before(tag: u8, at: usize, type_at: usize) -> Refusal
+    ensures { λ r. ⌜ verdictOf r ≡ failingBefore tag at «type_at» ⌝ }
+{
+    if tag < 1 || 6 < tag {
+        return Refusal::UnknownTag(at);
+    }
+    if tag == 1 {
+        return Refusal::Misplaced(at);
+    }
+    Refusal::NotComplementary(type_at)
+}
+
+// The refusal of a type that is not complementary: 9 once the next field has passed 2, 3 and 4, or at the end of the file.
+fn failing(file: &[u8], at: usize, type_at: usize) -> Refusal
+    requires { ⌜ at ≤ length (now file) ⌝ }
+    ensures { λ r. ⌜ verdictOf r ≡ failingVerdict «type_at» (cutFrom (now (file .entry)) at) ⌝ }
+{
+    match step_at(file, at) {
+        Step::End => Refusal::NotComplementary(type_at),
+        Step::Broken => Refusal::Broken(at),
+        Step::Whole(f) => failing_before(f.tag, at, type_at),
+    }
+}
+
+// The type at a field that has passed its tests, with its edges, judged.
+fn read_type(file: &[u8], f: Field) -> OneType
+    requires { ⌜ FieldAt (now file) (f .at) f ⌝ }
+    requires { ⌜ T (typeInRange (getD (bodyOf (now file) f) 0 0) (getD (bodyOf (now file) f) 1 0) (getD (bodyOf (now file) f) 2 0)) ⌝ }
+    ensures { λ r. ⌜ TypeRead (now (file .entry)) f r ⌝ }
+{
+    let bare = type_in(file, f);
+    let one = read_edges(file, f.body + f.len, bare);
+    let refusal = one.refusal;
+    if refuses(refusal) {
+        return one;
+    }
+    let module_type = one.module_type;
+    if check_type(module_type) {
+        return one;
+    }
+    OneType {
+        refusal: failing(file, one.at, f.at),
+        at: one.at,
+        module_type,
+    }
+}
+
+// What was read, with why reading stopped there.
+fn types_read(refusal: Refusal, at: usize, count: usize, all: [ModuleType; MOST_TYPES]) -> Types
+    ensures { λ r. ⌜ r ≡ record { refusal = refusal; at = at; count = count; all = all } ⌝ }
+{
+    Types {
+        refusal,
+        at,
+        count,
+        all,
+    }
+}
+
+// The types from an offset on.
+pub fn read_types(file: &[u8], from: usize) -> Types
+    requires { ⌜ from ≤ length (now file) ⌝ }
+    ensures { λ r. ⌜ TypesRead (now (file .entry)) from r ⌝ }
+{
+    let mut all = [no_type(); MOST_TYPES];
+    let mut count: usize = 0;
+    let mut at = from;
+    loop {
+        let Next::Found(f) = field_of(file, at, 2) else {
+            return types_read(Refusal::Nothing, at, count, all);
+        };
+        let refusal = type_verdict(file, f, count);
+        if refuses(refusal) {
+            return types_read(refusal, at, count, all);
+        }
+        let one = read_type(file, f);
+        let refusal = one.refusal;
+        if refuses(refusal) {
+            return types_read(refusal, at, count, all);
+        }
+        let module_type = one.module_type;
+        all[count] = module_type;
+        count += 1;
+        at = one.at;
+    }
+}

@@ -1,2 +1,0 @@
--- What the crate `rows` computes.
-pub mod Model

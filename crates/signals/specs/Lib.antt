@@ -1,3 +1,0 @@
--- What the crate `signals` computes.
-pub mod Inputs
-pub mod Turning

@@ -32,7 +32,7 @@ fn counted(vectors: usize, faults: usize, classes: u16, found: usize) -> Counts
 }
 
 // The counts of a circuit whose buffers are long enough, with its rows and classes written.
-fn grade_circuit(c: Circuit, matrix: &mut [u64], classes: &mut [u16]) -> Counts
+fn fill_buffers(c: Circuit, matrix: &mut [u64], classes: &mut [u16]) -> Counts
     requires { ⌜ CircuitGiven c × (4 * (c .faults) ≤ length (now matrix)) × (c .faults ≤ length (now classes)) ⌝ }
     ensures { λ r. ⌜ ((meant : CircuitMeant) → c ≡ circuitRecord meant → CircuitGood meant → Graded meant r (now (matrix .entry)) (now (classes .entry)) (now (matrix .exit)) (now (classes .exit))) ⌝ }
 {
@@ -89,7 +89,7 @@ pub fn grade_read(reading: Reading, matrix: &mut [u64], classes: &mut [u16]) -> 
     if classes.len() < faults {
         return Answer::ShortClasses(faults);
     }
-    Answer::Graded(grade_circuit(c, matrix, classes))
+    Answer::Graded(fill_buffers(c, matrix, classes))
 }
 
 // Any bytes and any buffers.

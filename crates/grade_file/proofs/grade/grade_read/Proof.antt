@@ -51,8 +51,8 @@ returns-2 c = λ file tells. short-matrix _ _ (here (c .before) file tells) _ _ 
 returns-3 : tie.Need-returns-3
 returns-3 c = λ file tells. short-classes _ _ (here (c .before .before) file tells) _ _ (c .before .if2 .left) (c .if3 .taken)
 
-grade-circuit-requires : tie.Need-grade-circuit-requires
-grade-circuit-requires c κs =
+fill-buffers-requires : tie.Need-fill-buffers-requires
+fill-buffers-requires c κs =
     let past = c .before .before in
     (given _ _ (known (past .before .before)), past .before .if2 .left, past .if3 .left)
 
@@ -67,8 +67,8 @@ returns-4 c = λ file tells.
     let graded = c .before .before .before .before in
     let past = graded .before .before .before in
     let this = here (past .before .before) file tells in
-    graded-meets _ _ this _ _ (past .before .if2 .left) (past .if3 .left) (graded .grade-circuit .result) _ _
-    (graded .grade-circuit .ensures (this .circuit) (this .is) (good-here _ _ this))
+    graded-meets _ _ this _ _ (past .before .if2 .left) (past .if3 .left) (graded .fill-buffers .result) _ _
+    (graded .fill-buffers .ensures (this .circuit) (this .is) (good-here _ _ this))
 
 pub grade-read-spec : {M : Type 1} → statement M
 grade-read-spec =
@@ -79,7 +79,7 @@ grade-read-spec =
     mul-words
     returns-2
     returns-3
-    grade-circuit-requires
+    fill-buffers-requires
     same-length
     same-length-2
     returns-4)

@@ -1,4 +1,4 @@
--- `grader::grade::grade_circuit` meets its contract. The loop's invariant: whatever good circuit the record tells, its first `i` instances are graded.
+-- `grade_file::grade::fill_buffers` meets its contract. The loop's invariant: whatever good circuit the record tells, its first `i` instances are graded.
 -- The measure is what is left of the instances. Assumes nothing.
 use Prim.Native.Nat.{ℕ, _+_, _-_, _≤_, _<_}
 use mathlib.Core.Path.{_≡_, refl}
@@ -16,8 +16,8 @@ use Rattle.grading.proofs.RowLaws.{noInstance}
 use Rattle.grading.proofs.RecordReads.{bridges-few, type-place, type-few}
 use Rattle.grade_file.proofs.Assembly as assembly
 use Rattle.grade_file.proofs.Assembly.{Turned, TurnFits, Room}
-use Rattle.grade_file.proofs.grade.grade_circuit.Statement.{statement}
-use Rattle.grade_file.proofs.grade.grade_circuit.Tie as tie
+use Rattle.grade_file.proofs.grade.fill_buffers.Statement.{statement}
+use Rattle.grade_file.proofs.grade.fill_buffers.Tie as tie
 
 abbrev Inv-loop : tie.InvT-loop
 Inv-loop matrix₀ classes₀ c vectors bridges ones₀ zeros₀ codes₀ count₀ found₀ from₀ i₀ matrix classes ones zeros codes count found from i =
@@ -249,8 +249,8 @@ returns c =
     (assembly.turned-end meant (start-at (c .before .before .before) .args .t1) e _ _ _ _ _ _ _ _ _ _ (c .before .before .loop .inv .1 meant e g)
     (c .before .loop-test .left))
 
-pub grade-circuit-spec : {M : Type 1} → statement M
-grade-circuit-spec =
+pub fill-buffers-spec : {M : Type 1} → statement M
+fill-buffers-spec =
     tie.close
     (tie.spec
     Inv-loop

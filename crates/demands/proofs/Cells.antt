@@ -20,17 +20,17 @@ use Rattle.switch.specs.Statements.{Accepted}
 use Rattle.switch.proofs.Apart.{rails-apart}
 use Rattle.switch.proofs.Deciding.{mark-decides}
 use Rattle.switch.proofs.Marks.{closed-path-is-ends}
-use Rattle.circuit.specs.Circuit.{Circuit}
+use Rattle.circuit.specs.Circuit.{Circuit, typeOfInstance}
 use Rattle.circuit.specs.Laws.{CircuitGood}
 use Rattle.grading.specs.Rows as rows
-use Rattle.grading.specs.Rows.{Row, rowsOf, rowValues, CellMarked, markOf, rowWords, matrixOf}
+use Rattle.grading.specs.Rows.{Row, noRow, rowsOf, rowValues, CellMarked, markOf, rowWords, matrixOf}
 use Rattle.grading.specs.Grading.{over}
 use Rattle.grading.proofs.Everywhere.{every-at}
 use Rattle.grade_classes.proofs.FoundMeaning.{words-are}
 use Rattle.grading.proofs.SameClass.{Placed, rows-placed}
 use Rattle.grading.proofs.ValueLaws.{type-good, type-accepted}
 use Rattle.demands.specs.Calls.{Call, GradedAs, cellAt}
-use Rattle.demands.specs.Two.{noRow, rowAt, vectorOf, MatrixCell, rowOfCell, vectorOfCell, markIn, typeOfRow, valuesIn, CellIsPath}
+use Rattle.demands.specs.Two.{rowAt, vectorOf, MatrixCell, rowOfCell, vectorOfCell, markIn, valuesIn, CellIsPath}
 use Rattle.demands.proofs.Gave.{Gave, gave}
 
 module _ (call : Call) (c : Circuit) (given : GradedAs call c) (r v : ℕ) (h : r < length (rowsOf c)) where
@@ -68,16 +68,17 @@ module _ {A : Type 0} (b : Bool) (decides : A ↔ T b) (n : ℕ) (is : n ≡ ofB
 
 pub cell-decides : (c : Circuit) (vector : List Value) (row : Row) → CellMarked c vector row ↔ T (rows.cell c vector row)
 unfolding CellMarked rows.cell
-cell-decides c vector row = mark-decides (typeOfRow c row) (rowValues c vector row) (row .bridge)
+cell-decides c vector row = mark-decides (row .type) (rowValues c vector row) (row .bridge)
 
 -- the type of a row of a good circuit
-row-accepted : (c : Circuit) → CircuitGood c → (r : ℕ) → r < length (rowsOf c) → Accepted (typeOfRow c (rowAt c r))
+row-accepted : (c : Circuit) → CircuitGood c → (r : ℕ) → r < length (rowsOf c) → Accepted (rowAt c r .type)
 unfolding rowsOf
 row-accepted c good r h =
     let row = rowAt c r in
     let none = noRow .instance in
-    let at = every-at (Placed 1 (c .instances) none) (rowsOf c) (rows-placed (c .types) (c .bridges) none 1 (c .instances)) r noRow h in
-    type-accepted (typeOfRow c row) (type-good c good (row .number - 1) (omega arith) none (row .instance) (sym (at .instance-is)))
+    let at = every-at (Placed (c .types) 1 (c .instances) none) (rowsOf c) (rows-placed (c .types) (c .bridges) none 1 (c .instances)) r noRow h in
+    rw (at .type-is) (type-accepted (typeOfInstance (c .types) (row .instance))
+    (type-good c good (row .number - 1) (omega arith) none (row .instance) (sym (at .instance-is))))
 
 module _ (call : Call) (c : Circuit) (given : GradedAs call c) (cell : MatrixCell c) where
   is-mark : markIn call cell ≡ markOf c (rowOfCell cell) (cell .vector)
@@ -94,13 +95,13 @@ module _ (call : Call) (c : Circuit) (given : GradedAs call c) (cell : MatrixCel
   unfolding markOf
   cell-not-marked = denies (rows.cell c (vectorOfCell cell) (rowOfCell cell)) decided (markIn call cell) is-mark
 
-  accepted : Accepted (typeOfRow c (rowOfCell cell))
+  accepted : Accepted (rowOfCell cell .type)
   accepted = row-accepted c (gave call c given .good) (cell .row) (cell .is-row)
 
-  cell-by-ends : (markIn call cell ≡ 1) ↔ MarkedByEnds (typeOfRow c (rowOfCell cell)) (valuesIn cell) (rowOfCell cell .bridge)
+  cell-by-ends : (markIn call cell ≡ 1) ↔ MarkedByEnds (rowOfCell cell .type) (valuesIn cell) (rowOfCell cell .bridge)
   unfolding CellMarked
   cell-by-ends =
-      let ends = closed-path-is-ends (typeOfRow c (rowOfCell cell)) accepted (valuesIn cell) (rowOfCell cell .bridge) in
+      let ends = closed-path-is-ends (rowOfCell cell .type) accepted (valuesIn cell) (rowOfCell cell .bridge) in
       (λ e. ends .0 (cell-marked .0 e), λ m. cell-marked .1 (ends .1 m))
 
 pub cell-is-path : CellIsPath
@@ -108,6 +109,6 @@ cell-is-path call c given = record {
   marked = cell-marked call c given;
   not-marked = cell-not-marked call c given;
   by-ends = cell-by-ends call c given;
-  not-without-the-bridge = λ cell. rails-apart .rails (typeOfRow c (rowOfCell cell)) (accepted call c given cell) (valuesIn cell);
+  not-without-the-bridge = λ cell. rails-apart .rails (rowOfCell cell .type) (accepted call c given cell) (valuesIn cell);
   past-the-last-vector = cell-past call c given;
 }

@@ -12,11 +12,11 @@ use Rattle.words.specs.Tables.{upTo}
 use Rattle.words.proofs.Laws.{bit-le-one, ofBool-le-one, bits-eq, word-lt}
 use Rattle.words.proofs.Rows.{row-word, upTo-le-one}
 use Rattle.circuit.specs.Circuit.{Circuit}
-use Rattle.grading.specs.Rows.{Row, rowsOf, cell, markOf, rowWords, matrixOf}
+use Rattle.grading.specs.Rows.{Row, noRow, rowsOf, cell, markOf, rowWords, matrixOf}
 use Rattle.grading.specs.Grading.{over}
 use Rattle.grade_classes.proofs.FoundMeaning.{words-are}
 use Rattle.demands.specs.Calls.{Call, GradedAs, cellAt}
-use Rattle.demands.specs.Two.{noRow, rowAt, vectorOf, MatrixCell, markIn, CellsTell}
+use Rattle.demands.specs.Two.{rowAt, vectorOf, MatrixCell, markIn, CellsTell}
 use Rattle.demands.proofs.Gave.{gave}
 
 -- lists that are as long, with the same n elements in front and the same behind them

@@ -14,7 +14,7 @@ use lib.Seq.{getD-at}
 use Rattle.words.specs.Bits.{ofBool, sumTo}
 use Rattle.words.proofs.Laws.{ofBool-le-one, set-bit, bit-set}
 use Rattle.circuit.specs.Circuit.{Circuit}
-use Rattle.grading.specs.Rows.{Row, rowsOf}
+use Rattle.grading.specs.Rows.{Row, noRow, rowsOf}
 use Rattle.grading.specs.Classes.{classAmong, largest, classesAfterBy, classesAfter, classesBy, classesOf, classFound, foundBy, classCount, foundCount}
 use Rattle.grading.specs.Grading as meant
 use Rattle.grading.specs.Promise.{countsOf}
@@ -23,7 +23,7 @@ use Rattle.grading.proofs.Everywhere.{every-at}
 use Rattle.grading.proofs.ClassLists.{largest-append, at-most-largest}
 use Rattle.grading.proofs.ClassNumbering.{Matched, Fresh, searched, class-numbers}
 use Rattle.demands.specs.Calls.{Call, GradedAs}
-use Rattle.demands.specs.Two.{noRow, rowAt, OneClass, Found, ClassesTell, ClassesCountOnce}
+use Rattle.demands.specs.Two.{rowAt, OneClass, Found, ClassesTell, ClassesCountOnce}
 use Rattle.demands.proofs.Gave.{gave, classes-counted, found-counted, class-is}
 use Rattle.demands.proofs.Cells.{mark-is}
 use Rattle.demands.proofs.FoundClasses.{Shown, found-is-shown}

@@ -10,13 +10,12 @@ use Rattle.words.specs.Bits.{ofBool}
 use Rattle.words.proofs.Laws.{ofBool-le-one, set-bit, bit-set}
 use Rattle.words.proofs.Sums.{sum-into, sum-ones}
 use Rattle.circuit.specs.Circuit.{Circuit}
-use Rattle.grading.specs.Rows.{Row, rowsOf, markOf}
+use Rattle.grading.specs.Rows.{Row, noRow, rowsOf, markOf}
 use Rattle.grading.specs.Classes.{sameClass, classesOf, classFound, foundBy, classCount, foundCount}
 use Rattle.grading.specs.Statements.{RowOf, SameClassIsEquivalence, classNumber}
 use Rattle.grading.proofs.Everywhere.{every-at, place-of}
 use Rattle.grading.proofs.SameClass.{same-class-is-equivalence, classes-have-equal-marks}
 use Rattle.grading.proofs.ClassNumbering.{class-numbers}
-use Rattle.demands.specs.Two.{noRow}
 use Rattle.demands.proofs.FoundClasses.{Shown, found-is-shown}
 
 -- ---- two circuits

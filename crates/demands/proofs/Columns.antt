@@ -7,8 +7,8 @@ use Rattle.words.specs.Bits.{ofBool}
 use Rattle.switch.specs.Conduction.{Value}
 use Rattle.circuit.specs.Circuit.{Circuit}
 use Rattle.grading.specs.Rows as rows
-use Rattle.grading.specs.Rows.{Row, rowsOf, rowValues, markOf}
-use Rattle.demands.specs.Two.{noRow, rowOfCell, vectorOfCell, AlikeButVectors, ColumnIsOfItsVector}
+use Rattle.grading.specs.Rows.{Row, noRow, rowsOf, rowValues, markOf}
+use Rattle.demands.specs.Two.{rowOfCell, vectorOfCell, AlikeButVectors, ColumnIsOfItsVector}
 use Rattle.demands.proofs.Cells.{mark-is}
 
 module _ (c d : Circuit) (alike : AlikeButVectors c d) where

@@ -7,12 +7,12 @@ use Rattle.switch.specs.Bridges.{Bridge, nodes, input, MarkedByEnds}
 use Rattle.switch.proofs.Marks.{atX≢at0, atX≢at1}
 use Rattle.circuit.specs.Circuit.{Circuit}
 use Rattle.demands.specs.Calls.{Call, GradedAs}
-use Rattle.demands.specs.Two.{MatrixCell, rowOfCell, markIn, typeOfRow, valuesIn, Floats, FloatingNeverMarks}
+use Rattle.demands.specs.Two.{MatrixCell, rowOfCell, markIn, valuesIn, Floats, FloatingNeverMarks}
 use Rattle.demands.proofs.Cells.{cell-is-path}
 
 module _ (call : Call) (c : Circuit) (given : GradedAs call c) (cell : MatrixCell c) where
   -- a cell is 0 where the ends do not mark
-  no-ends : (b : Bridge) → rowOfCell cell .bridge ≡ b → (MarkedByEnds (typeOfRow c (rowOfCell cell)) (valuesIn cell) b → ⊥)
+  no-ends : (b : Bridge) → rowOfCell cell .bridge ≡ b → (MarkedByEnds (rowOfCell cell .type) (valuesIn cell) b → ⊥)
       → markIn call cell ≡ 0
   no-ends b e never =
       let tells = cell-is-path call c given in

@@ -14,12 +14,11 @@ use Rattle.words.proofs.Sums.{sum-part, sum-some}
 use Rattle.switch.proofs.Paths.{both}
 use Rattle.circuit.specs.Circuit.{Circuit}
 use Rattle.circuit.proofs.Tested.{holds}
-use Rattle.grading.specs.Rows.{Row, rowsOf, cell, markOf}
+use Rattle.grading.specs.Rows.{Row, noRow, rowsOf, cell, markOf}
 use Rattle.grading.specs.Classes.{classesOf, hasMarkBy, hasMark, classFoundBy, classFound}
 use Rattle.grading.proofs.ClassNumbering.{class-numbers}
 use Rattle.grading.proofs.FoundLaws.{found-by}
 use Rattle.grading.proofs.SameClass.{or-cases}
-use Rattle.demands.specs.Two.{noRow}
 
 -- ---- a row's marks
 

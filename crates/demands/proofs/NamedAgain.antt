@@ -19,7 +19,7 @@ use Rattle.grading.specs.Rows.{Row, rowsFrom, rowsOf, rowValues, cell, markOf}
 use Rattle.grading.specs.Classes.{sameBridge, sameClass}
 use Rattle.grading.specs.Statements.{RowOf}
 use Rattle.demands.specs.Two.{EqualBridges, NamedAgain, NamingAgainAddsNothing, OtherEndAddsNothing}
-use Rattle.demands.proofs.RowFaults.{rowWith, rows-from}
+use Rattle.demands.proofs.RowFaults.{withBridge, rows-from}
 use Rattle.demands.proofs.OneClass.{equal-itself, equal-turned, equal-tested}
 use Rattle.demands.proofs.Gave.{classes-counted, found-counted}
 use Rattle.demands.proofs.ClassesCarried.{Carries, carries-within, classes-carried, found-carried}
@@ -149,7 +149,7 @@ module _ (c d : Circuit) (again : NamedAgain c d) where
   row-fewer row m =
       let from = rows-from (d .types) more 1 (d .instances) row (rw rows-more at m) in
       let there = fault-fewer (row .instance) (from .of-instance) (row .bridge) (from .fault) in (
-        rowWith (row .number) (row .instance) (there .0),
+        withBridge row (there .0),
         rw rows-fewer (from .others fewer (there .0) (there .1)),
         and-both (eqb (row .number) (row .number)) (sameBridge (row .instance) (row .bridge) (there .0))
             (eqb-refl (row .number)) (there .2),

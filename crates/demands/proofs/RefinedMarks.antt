@@ -17,13 +17,13 @@ use Rattle.words.proofs.Rows.{row-mark}
 use Rattle.circuit.specs.Circuit.{Circuit, joinLists}
 use Rattle.circuit.specs.Reading.{Reading}
 use Rattle.circuit.proofs.CircuitLaws.{accepted-is-good}
-use Rattle.grading.specs.Rows.{Row, rowsOf, cell, markOf}
+use Rattle.grading.specs.Rows.{Row, noRow, rowsOf, cell, markOf}
 use Rattle.grading.specs.Classes.{sameClass, largest, classesOf, hasMarkBy, classFoundBy, foundBy, classCount, foundCount}
 use Rattle.grading.specs.Grading.{Grading, graded, refused, gradingOf, gradingOfCircuit, afterReading, over}
 use Rattle.grading.specs.Promise.{countsOf}
 use Rattle.grading.proofs.MatrixLaws.{word-in}
 use Rattle.demands.specs.Calls.{Accepts, isGraded, cellAt}
-use Rattle.demands.specs.Two.{noRow, vectorOf, rowAt, AlikeButVectors}
+use Rattle.demands.specs.Two.{vectorOf, rowAt, AlikeButVectors}
 use Rattle.demands.specs.Three.{Refined}
 use Rattle.demands.specs.Graders.{refusing, Work, outcomeOf, gradesBy, workBy}
 use Rattle.demands.specs.Wrong.{marking}

@@ -15,13 +15,13 @@ use Rattle.switch.proofs.Refinement.{refinement-keeps, mark-stays}
 use Rattle.circuit.specs.Circuit.{Circuit, Reference, primary, outputOf, Instance, numbered, typeOfInstance}
 use Rattle.circuit.specs.Laws.{CircuitGood}
 use Rattle.grading.specs.Values.{valueAt, labelValues, outputsAfter, outputsOf}
-use Rattle.grading.specs.Rows.{Row, rowValues, CellMarked, cell, markOf}
+use Rattle.grading.specs.Rows.{Row, noRow, rowValues, CellMarked, cell, markOf}
 use Rattle.grading.specs.Classes.{foundCount}
 use Rattle.grading.specs.Grading as grading
 use Rattle.grading.specs.Promise.{countsOf}
 use Rattle.grading.proofs.ValueLaws.{label-value, type-good, type-accepted}
 use Rattle.demands.specs.Calls.{Call, GradedAs}
-use Rattle.demands.specs.Two.{noRow, vectorOf, MatrixCell, rowOfCell, vectorOfCell, markIn, typeOfRow, AlikeButVectors}
+use Rattle.demands.specs.Two.{vectorOf, MatrixCell, rowOfCell, vectorOfCell, markIn, AlikeButVectors}
 use Rattle.demands.specs.Three.{given, Refined, ThreeHolds, MarksHoldUnderEveryFilling}
 use Rattle.demands.proofs.Gave.{gave}
 use Rattle.demands.proofs.Cells.{mark-is, cell-decides, cell-marked}
@@ -95,7 +95,7 @@ module _ (vector finer : List Value) (refines : Finer vector finer) where
 
     pub path-stays : CellMarked c vector row → CellMarked c finer row
     unfolding CellMarked
-    path-stays = mark-stays (rowValues c vector row) (rowValues c finer row) values-refine (typeOfRow c row) (row .bridge)
+    path-stays = mark-stays (rowValues c vector row) (rowValues c finer row) values-refine (row .type) (row .bridge)
 
     cell-stays : T (cell c vector row) → T (cell c finer row)
     cell-stays t = cell-decides c finer row .0 (path-stays (cell-decides c vector row .1 t))

@@ -12,15 +12,16 @@ use Rattle.switch.proofs.Paths.{both}
 use Rattle.circuit.specs.Circuit.{Circuit, Instance, Listed, typeOfInstance, faultsOf}
 use Rattle.circuit.specs.Table.{bridgeSuits}
 use Rattle.circuit.specs.Laws.{CircuitGood}
-use Rattle.grading.specs.Rows.{Row, rowsOfInstance, rowsFrom, rowsOf}
+use Rattle.grading.specs.Rows.{Row, rowWith, rowsOfInstance, rowsFrom, rowsOf}
 use Rattle.grading.specs.Statements.{RowOf}
 use Rattle.grading.proofs.Everywhere.{Every, every-nil, every-append, every-map, place-of}
 use Rattle.grade_marks.proofs.RowMeaning.{faults-suit}
 use Rattle.grading.proofs.SameClass.{rows-placed}
 use Rattle.grading.proofs.ValueLaws.{instance-good}
 
-abbrev pub rowWith : ℕ → Instance → Bridge → Row
-rowWith n i b = record { number = n; instance = i; bridge = b }
+-- a row of the same instance, with another bridge
+abbrev pub withBridge : Row → Bridge → Row
+withBridge row b = record { number = row .number; instance = row .instance; type = row .type; bridge = b }
 
 module _ (types : List ModuleType) (bridges : List Listed) where
   -- a row of the instances from number n on. With other user lists its instance may have other faults, and they have rows too
@@ -28,21 +29,21 @@ module _ (types : List ModuleType) (bridges : List Listed) where
     pub of-instance : List·Memᴰ (row .instance) is
     pub fault : List·Memᴰ (row .bridge) (faultsOf types bridges (row .instance))
     pub others : (others : List Listed) (b : Bridge) → List·Memᴰ b (faultsOf types others (row .instance))
-        → List·Memᴰ (rowWith (row .number) (row .instance) b) (rowsFrom types others n is)
+        → List·Memᴰ (withBridge row b) (rowsFrom types others n is)
 
   pub rows-from : (n : ℕ) (is : List Instance) → Every (RowFrom n is) (rowsFrom types bridges n is)
   unfolding rowsFrom rowsOfInstance
   rows-from n [] = every-nil (RowFrom n [])
   rows-from n (i ∷ is) =
       every-append (RowFrom n (i ∷ is)) (rowsOfInstance types bridges n i) (rowsFrom types bridges (suc n) is)
-      (every-map (RowFrom n (i ∷ is)) (rowWith n i) (faultsOf types bridges i) here)
+      (every-map (RowFrom n (i ∷ is)) (rowWith types n i) (faultsOf types bridges i) here)
       (λ row m. later row (rows-from (suc n) is row m))
     where
-      here : (b : Bridge) → List·Memᴰ b (faultsOf types bridges i) → RowFrom n (i ∷ is) (rowWith n i b)
+      here : (b : Bridge) → List·Memᴰ b (faultsOf types bridges i) → RowFrom n (i ∷ is) (rowWith types n i b)
       here b m = record {
         of-instance = List·Memᴰ·head refl;
         fault = m;
-        others = λ others d k. Memᴰ·append-left (rowsFrom types others (suc n) is) (Memᴰ·map (rowWith n i) k);
+        others = λ others d k. Memᴰ·append-left (rowsFrom types others (suc n) is) (Memᴰ·map (rowWith types n i) k);
       }
 
       later : (row : Row) → RowFrom (suc n) is row → RowFrom n (i ∷ is) row

@@ -22,7 +22,7 @@ use Rattle.circuit.specs.Laws.{CircuitGood}
 use Rattle.circuit.proofs.CircuitLaws.{accepted-is-good}
 use Rattle.circuit.proofs.Tested.{length-snoc}
 use Rattle.grading.specs.Values.{valueAt, labelValues, outputsAfter, outputsOf}
-use Rattle.grading.proofs.RowLaws.{noInstance}
+use Rattle.grading.specs.Rows.{noInstance}
 use Rattle.grading.proofs.ValueLaws.{type-good, type-accepted}
 use Rattle.demands.specs.Two.{Settled, ValuesArePaths}
 

@@ -13,9 +13,9 @@ use Rattle.switch.specs.Conduction.{Value, between, ground, supply}
 use Rattle.switch.specs.Modules.{ModuleType, linksOf}
 use Rattle.switch.specs.Bridges.{Bridge}
 use Rattle.switch.specs.Deciding.{joins}
-use Rattle.circuit.specs.Circuit.{Circuit, Instance, no-faults, numbered, typeOfInstance, joinLists}
+use Rattle.circuit.specs.Circuit.{Circuit, Instance, numbered, typeOfInstance, joinLists}
 use Rattle.grading.specs.Values.{labelValues, outputsOf}
-use Rattle.grading.specs.Rows.{Row, rowsOf}
+use Rattle.grading.specs.Rows.{Row, noInstance, rowsOf}
 use Rattle.grading.specs.Grading.{Counts, Grading, graded, refused, gradingOf, countsIn, numberIn, placeIn, matrixAfter}
 use Rattle.grading.specs.Grading.{classesAfterGrading}
 use Rattle.grading.specs.Codes.{codeOf}
@@ -62,7 +62,7 @@ floatsOf c i vector m = floatsUnder (typeOfInstance (c .types) i) (labelValues v
 unfoldable pub floatsIn : Grading → ℕ → ℕ → ℕ → Bool
 floatsIn (graded c) n m v =
     between 1 (length (c .instances)) n && between 1 (length (c .vectors)) v
-    && floatsOf c (numbered (c .instances) n (record { type = 0; choice = no-faults; references = [] })) (numbered (c .vectors) v []) m
+    && floatsOf c (numbered (c .instances) n noInstance) (numbered (c .vectors) v []) m
 floatsIn (refused number place) n m v = false
 
 -- number and place of a refusal, 0 and 0 where there is none

@@ -100,7 +100,7 @@ workBy packed marks same c =
 -- the marks of rows by a test on a type, the values of its labels, and a bridge
 unfoldable pub marksBy : (ModuleType → (ℕ → Value) → Bridge → Bool) → Circuit → Row → ℕ → ℕ
 marksBy test c row v =
-    ofBool (test (typeOfInstance (c .types) (row .instance)) (rowValues c (getD (c .vectors) v []) row) (row .bridge))
+    ofBool (test (row .type) (rowValues c (getD (c .vectors) v []) row) (row .bridge))
 
 -- ---- the right ones
 

@@ -8,18 +8,15 @@ use mathlib.Core.List.{List, [], _∷_, _++_, List·Memᴰ}
 use lib.ListN.{length, getD}
 use Rattle.words.specs.Bits.{sumTo}
 use Rattle.switch.specs.Conduction.{Value, atX, Link, Joined, ground, supply}
-use Rattle.switch.specs.Modules.{ModuleType, linksOf, OutputIs}
+use Rattle.switch.specs.Modules.{linksOf, OutputIs}
 use Rattle.switch.specs.Bridges.{Bridge, nodes, input, MarkedByEnds}
-use Rattle.circuit.specs.Circuit.{Circuit, Listed, Instance, Reference, list, no-faults, typeOfInstance}
+use Rattle.circuit.specs.Circuit.{Circuit, Listed, Instance, Reference, list, typeOfInstance}
 use Rattle.grading.specs.Values.{labelValues, outputsOf}
-use Rattle.grading.specs.Rows.{Row, rowsOf, rowValues, CellMarked}
+use Rattle.grading.specs.Rows.{Row, noRow, rowsOf, rowValues, CellMarked}
 use Rattle.grading.specs.Promise.{countsOf}
 use Rattle.demands.specs.Calls.{Call, Accepts, GradedAs, cellAt, classAt}
 
 -- the row at a place, counted from 0. Past the last row there is none, and `noRow` stands for it
-abbrev pub noRow : Row
-noRow = record { number = 0; instance = record { type = 0; choice = no-faults; references = [] }; bridge = nodes 0 0 }
-
 abbrev pub rowAt : Circuit → ℕ → Row
 rowAt c r = getD (rowsOf c) r noRow
 
@@ -44,16 +41,12 @@ vectorOfCell {c} cell = vectorOf c (cell .vector)
 abbrev pub markIn : {c : Circuit} → Call → MatrixCell c → ℕ
 markIn call cell = cellAt (call .matrix-after) (cell .row) (cell .vector)
 
--- the module type of a row's instance
-abbrev pub typeOfRow : Circuit → Row → ModuleType
-typeOfRow c row = typeOfInstance (c .types) (row .instance)
-
 -- the values of the labels of a cell's instance under its vector, and the links of the edges that are on then
 abbrev pub valuesIn : {c : Circuit} → MatrixCell c → ℕ → Value
 valuesIn {c} cell = rowValues c (vectorOfCell cell) (rowOfCell cell)
 
 abbrev pub linksIn : {c : Circuit} → MatrixCell c → List Link
-linksIn {c} cell = linksOf (typeOfRow c (rowOfCell cell)) (valuesIn cell)
+linksIn {c} cell = linksOf (rowOfCell cell .type) (valuesIn cell)
 
 -- ---- values
 
@@ -79,7 +72,7 @@ pub record CellsTell (call : Call) (c : Circuit) : Type 0 where
   pub marked : (cell : MatrixCell c) → (markIn call cell ≡ 1) ↔ CellMarked c (vectorOfCell cell) (rowOfCell cell)
   pub not-marked : (cell : MatrixCell c) → (markIn call cell ≡ 0) ↔ (CellMarked c (vectorOfCell cell) (rowOfCell cell) → ⊥)
   pub by-ends : (cell : MatrixCell c)
-      → (markIn call cell ≡ 1) ↔ MarkedByEnds (typeOfRow c (rowOfCell cell)) (valuesIn cell) (rowOfCell cell .bridge)
+      → (markIn call cell ≡ 1) ↔ MarkedByEnds (rowOfCell cell .type) (valuesIn cell) (rowOfCell cell .bridge)
   pub not-without-the-bridge : (cell : MatrixCell c) → Joined (linksIn cell) supply ground → ⊥
   pub past-the-last-vector : (r v : ℕ) → r < length (rowsOf c) → length (c .vectors) ≤ v → v < 256 → cellAt (call .matrix-after) r v ≡ 0
 

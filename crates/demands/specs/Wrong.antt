@@ -265,7 +265,7 @@ unfoldable pub rowValuesAt : Circuit → Row → ℕ → ℕ → Value
 rowValuesAt c row v = rowValues c (getD (c .vectors) v []) row
 
 unfoldable pub levelAt : Circuit → Row → ℕ → ℕ → Value
-levelAt c row v m = levelIn (linksOf (typeOfInstance (c .types) (row .instance)) (rowValuesAt c row v)) m
+levelAt c row v m = levelIn (linksOf (row .type) (rowValuesAt c row v)) m
 
 unfoldable pub heldLevel : Circuit → Row → ℕ → ℕ → Value
 heldLevel c row zero m = levelAt c row zero m

@@ -8,10 +8,11 @@ use native.Mathlib.Omega.{arith}
 use borrow.Author.Tests.{eq-eqb, ne-eqb}
 use lib.ListN.{length, getD, take, length-take, length-map}
 use Rattle.words.proofs.Tables.{is-table}
+use Rattle.switch.specs.Modules.{ModuleType}
 use Rattle.switch.specs.Bridges.{Bridge}
 use Rattle.circuit.specs.Circuit.{Circuit, Instance, faultsOf}
 use Rattle.circuit.specs.Laws.{CircuitGood}
-use Rattle.grading.specs.Rows.{Row, rowsOfInstance}
+use Rattle.grading.specs.Rows.{Row, rowWith, rowsOfInstance}
 use Rattle.grading.specs.Classes.{sameClass, classAmongBy, classAmong, largest, classesAfterBy, classesAfter, classesBy, classesOf}
 use Rattle.grading.specs.Codes.{codeOf}
 use Rattle.grading.proofs.Everywhere.{Every, every-nil, every-cons, every-append}
@@ -48,9 +49,9 @@ unfolding largest
 counted ms ns class count e =
     rw (← (append-assoc ms ns (class ∷ []))) (omega (arith, largest-append (ms ++ ns) (class ∷ [])))
 
-module _ (inst : Instance) (n : ℕ) where
+module _ (types : List ModuleType) (inst : Instance) (n : ℕ) where
   abbrev rowAt : Bridge → Row
-  rowAt b = record { number = n; instance = inst; bridge = b }
+  rowAt = rowWith types n inst
 
   abbrev keyAt : Bridge → ℕ
   keyAt b = keyOf (firstLabels (referencesOf inst)) (codeOf n b)
@@ -128,6 +129,7 @@ module _ (c : Circuit) (good : CircuitGood c) (i : ℕ) (within : i < length (c 
       classes-append [] [] before new
       ∙ ap₂ (λ (l : List Row) (m : List ℕ). classesAfter l m new) (sym (append-nil before)) (sym (append-nil (classesAfter [] [] before)))
       ∙ step
+      (c .types)
       inst
       (suc i)
       before

@@ -13,10 +13,9 @@ use Rattle.words.specs.Bits.{ofBool}
 use Rattle.words.specs.Rows.{rowOf}
 use Rattle.words.proofs.Laws.{ofBool-le-one}
 use Rattle.words.proofs.AnyMark.{any-mark}
-use Rattle.switch.specs.Bridges.{nodes}
 use Rattle.circuit.specs.Circuit.{Circuit, Instance, joinLists}
 use Rattle.circuit.specs.Laws.{CircuitGood}
-use Rattle.grading.specs.Rows.{Row, rowsOfInstance, cell, markOf, rowWords}
+use Rattle.grading.specs.Rows.{Row, noRow, rowsOfInstance, cell, markOf, rowWords}
 use Rattle.grading.specs.Classes.{classAmong, largest, classesOf, hasMarkBy, hasMark, foundAmong}
 use Rattle.grading.specs.Statements.{RowOf}
 use Rattle.grading.proofs.Everywhere.{Every, every-at, every-first}
@@ -142,9 +141,8 @@ module _ (c : Circuit) (good : CircuitGood c) (i : ℕ) (within : i < length (c 
       let whole : take (length old + length new) all ≡ all = ap (λ (n : ℕ). take n all) (sym size) ∙ take-length all in
       let front : take (length old) all ≡ old = ap (take (length old)) joined ∙ take-append-seam old new in
       let found : List Row → ℕ = λ (rows : List Row). foundAmong c rows (classesOf rows) (largest (classesOf rows)) in
-      let stand : Row = record { number = 0; instance = inst; bridge = nodes 0 0 } in
       ap found (sym whole)
-      ∙ found-on c (good .few-vectors) all (rows-ours c (suc i)) stand matrix classes words numbered (length new) (length old) (omega arith)
+      ∙ found-on c (good .few-vectors) all (rows-ours c (suc i)) noRow matrix classes words numbered (length new) (length old) (omega arith)
       ∙ ap (λ (rows : List Row). found rows + foundFrom matrix classes (length old) (length new) (largest (classesOf rows))) front
 
 -- ---- buffers that begin with the rows' words, and with their numbers

@@ -29,13 +29,13 @@ use Rattle.circuit.specs.declared.Instance.{Instance as InstanceRecord}
 use Rattle.circuit.proofs.Padding.{getD-padded}
 use Rattle.circuit.proofs.RangeLaws.{in-between}
 use Rattle.circuit.proofs.TypeLaws.{type-back, type-given}
-use Rattle.grading.specs.Rows.{Row, rowsOfInstance, rowsFrom, rowsOf, rowWords, matrixOf}
+use Rattle.grading.specs.Rows.{Row, noInstance, rowsOfInstance, rowsFrom, rowsOf, rowWords, matrixOf}
 use Rattle.grading.specs.Classes.{largest, classesAfterBy, classesBy, classesOf, classFound, foundBy, classCount, foundCount}
 use Rattle.grading.specs.Grading.{over, countsOfCircuit}
 use Rattle.grading.specs.Codes.{codeOf}
 use Rattle.grading.proofs.ValueLaws.{InstanceAt, good-at, type-at, type-ranges}
 use Rattle.grading.proofs.RecordReads.{referencesOf, instance-is, type-read}
-use Rattle.grading.proofs.RowLaws.{rowsBefore, grown as rows-grown, rows-all, noInstance, length-rows, length-of-instance, rows-grow, rows-few, rows-within, few-rows, faultsAt}
+use Rattle.grading.proofs.RowLaws.{rowsBefore, grown as rows-grown, rows-all, length-rows, length-of-instance, rows-grow, rows-few, rows-within, few-rows, faultsAt}
 use Rattle.grading.proofs.ClassLists.{length-classes, largest-most}
 use Rattle.grading.proofs.Lists.{getD-map}
 use Rattle.grading.proofs.MatrixLaws.{length-matrix, matrix-append}

@@ -33,7 +33,7 @@ use Rattle.circuit.specs.Circuit.{exhaustiveList, userList, chosen, faultsOf}
 use Rattle.circuit.specs.Table.{bridgeSuits, listUnsuited}
 use Rattle.circuit.proofs.TypeLaws.{accepts}
 use Rattle.grading.specs.Values.{labelValues}
-use Rattle.grading.specs.Rows.{Row, rowsOfInstance, rowValues, cell, markOf, rowWords}
+use Rattle.grading.specs.Rows.{Row, rowWith, rowsOfInstance, rowValues, cell, markOf, rowWords}
 use Rattle.grading.specs.Codes.{codeOf}
 use Rattle.grading.proofs.MatrixLaws.{matrix-table}
 use Rattle.grading.proofs.SameClass.{in-first, in-second, or-cases}
@@ -190,11 +190,11 @@ module _ (toSupply toGround ones zeros : List ℕ) (w : ℕ) where
 
 -- ---- the rows of an instance
 
--- the row of a bridge of the instance at i
-abbrev pub rowAt : ℕ → Instance → Bridge → Row
-rowAt i inst b = record { number = suc i; instance = inst; bridge = b }
-
 module _ (c : Circuit) (i : ℕ) (inst : Instance) (at : InstanceAt c i inst) where
+  -- the row of a bridge of the instance
+  abbrev rowAt : Bridge → Row
+  rowAt = rowWith (c .types) (suc i) inst
+
   module _ (w v : ℕ) (hw : w < 4) (hv : v < 64) where
     -- the values of the labels under this vector
     abbrev values : ℕ → Value
@@ -252,22 +252,22 @@ module _ (c : Circuit) (i : ℕ) (inst : Instance) (at : InstanceAt c i inst) wh
         (input-mark t (type-accepted t tg) values m l (values l) refl))
 
     -- under every vector the row's values are those that the instance has when its turn comes
-    row-values : (b : Bridge) → rowValues c (getD (c .vectors) (64 * w + v) []) (rowAt i inst b) ≡ values
+    row-values : (b : Bridge) → rowValues c (getD (c .vectors) (64 * w + v) []) (rowAt b) ≡ values
     unfolding rowValues vectorAt
     row-values b = fun-ext (label-sees c i inst at (64 * w + v))
 
-    mark-is : (b : Bridge) → markOf c (rowAt i inst b) (64 * w + v) ≡ ofBool (isMarked (typeOfInstance (c .types) inst) values b)
+    mark-is : (b : Bridge) → markOf c (rowAt b) (64 * w + v) ≡ ofBool (isMarked (typeOfInstance (c .types) inst) values b)
     unfolding markOf cell
     mark-is b = ap (λ (x : ℕ → Value). ofBool (isMarked (typeOfInstance (c .types) inst) x b)) (row-values b)
 
   pub row-words : (b : Bridge) → T (bridgeSuits (typeOfInstance (c .types) inst) b) → (w : ℕ) → w < 4
       → let words = wordsOf c i inst in
       bitAnd (markWord (words .supply) (words .ground) (words .ones) (words .zeros) (codeOf (suc i) b) w) (vectorsIn (length (c .vectors)) w)
-      ≡ getD (rowWords c (rowAt i inst b)) w 0
+      ≡ getD (rowWords c (rowAt b)) w 0
   unfolding vectorsIn rowWords
   row-words b suits w hw =
       word-of-bits (bitAnd mark ones) bits (omega (arith, and-le-r mark ones, firstOnes-lt (count - 64 * w))) (λ v hv. same v hv (decLt (64 * w + v) count))
-      ∙ sym (row-word count (markOf c (rowAt i inst b)) w hw)
+      ∙ sym (row-word count (markOf c (rowAt b)) w hw)
     where
       count : ℕ
       count = length (c .vectors)
@@ -279,17 +279,17 @@ module _ (c : Circuit) (i : ℕ) (inst : Instance) (at : InstanceAt c i inst) wh
       ones = firstOnes (count - 64 * w)
 
       bits : ℕ → ℕ
-      bits v = upTo count (markOf c (rowAt i inst b)) (64 * w + v)
+      bits v = upTo count (markOf c (rowAt b)) (64 * w + v)
 
       same : (v : ℕ) → v < 64 → Dec (64 * w + v < count) → bit (bitAnd mark ones) v ≡ bits v
       same v hv (yes h) =
           let here : ltb v (count - 64 * w) ≡ true = lt-ltb v (count - 64 * w) (omega arith) in
           let meant = mark-bit w v hw hv b suits ∙ sym (mark-is w v hw hv b) in
-          rw (bit-and, bit-firstOnes (count - 64 * w) v hv, here, up-below count (markOf c (rowAt i inst b)) (64 * w + v) h)
+          rw (bit-and, bit-firstOnes (count - 64 * w) v hv, here, up-below count (markOf c (rowAt b)) (64 * w + v) h)
           (omega (arith, meant, bit-le-one mark v))
       same v hv (no h) =
           let here : ltb v (count - 64 * w) ≡ false = le-ltb v (count - 64 * w) (omega arith) in
-          rw (bit-and, bit-firstOnes (count - 64 * w) v hv, here, up-past count (markOf c (rowAt i inst b)) (64 * w + v) (omega arith)) (omega arith)
+          rw (bit-and, bit-firstOnes (count - 64 * w) v hv, here, up-past count (markOf c (rowAt b)) (64 * w + v) (omega arith)) (omega arith)
 
   -- the codes of the instance's faults from a place on give its rows of the matrix
   pub rows-words : (codes : List ℕ) (from to : ℕ) (d : Bridge)
@@ -301,8 +301,8 @@ module _ (c : Circuit) (i : ℕ) (inst : Instance) (at : InstanceAt c i inst) wh
   unfolding rowsWords rowsOfInstance
   rows-words codes from to d long are =
       table-cong (4 * (to - from)) model meant each
-      ∙ ap (λ (n : ℕ). table (4 * n) meant) (long ∙ sym (length-map faults (rowAt i inst)))
-      ∙ sym (matrix-table c (rowAt i inst d) (map (rowAt i inst) faults))
+      ∙ ap (λ (n : ℕ). table (4 * n) meant) (long ∙ sym (length-map faults (rowAt)))
+      ∙ sym (matrix-table c (rowAt d) (map (rowAt) faults))
     where
       faults : List Bridge
       faults = faultsOf (c .types) (c .bridges) inst
@@ -314,9 +314,9 @@ module _ (c : Circuit) (i : ℕ) (inst : Instance) (at : InstanceAt c i inst) wh
       model j = bitAnd (mark (getD codes (from + j / 4) 0) (j % 4)) (vectorsIn (length (c .vectors)) (j % 4))
 
       meant : ℕ → ℕ
-      meant j = getD (rowWords c (getD (map (rowAt i inst) faults) (j / 4) (rowAt i inst d))) (j % 4) 0
+      meant j = getD (rowWords c (getD (map (rowAt) faults) (j / 4) (rowAt d))) (j % 4) 0
 
       each : (j : ℕ) → j < 4 * (to - from) → model j ≡ meant j
       each j h =
           let suits = faults-suit (c .types) (c .bridges) inst (good-at c i inst at .suited) (j / 4) d (omega (arith, long)) in
-          rw (are (j / 4) (omega arith), List·getD-map (rowAt i inst) faults (j / 4) d) (row-words (getD faults (j / 4) d) suits (j % 4) (omega arith))
+          rw (are (j / 4) (omega arith), List·getD-map (rowAt) faults (j / 4) d) (row-words (getD faults (j / 4) d) suits (j % 4) (omega arith))

@@ -12,11 +12,10 @@ use lib.Dec.{T}
 use lib.ListN.{length, getD, length-append, List·getD-append}
 use lib.Seq.{getD-at}
 use Rattle.circuit.specs.Circuit.{Circuit}
-use Rattle.grading.specs.Rows.{Row, rowsOf}
+use Rattle.grading.specs.Rows.{Row, noRow, rowsOf}
 use Rattle.grading.specs.Classes.{sameClass, classAmongBy, classAmong, largest, classesAfterBy, classesAfter, classesBy, classesOf, classCount}
 use Rattle.grading.specs.Statements.{RowOf, SameClassIsEquivalence, ClassNumbers}
 use Rattle.grading.proofs.Everywhere.{Every, every-at, every-first, every-second}
-use Rattle.grading.proofs.RowLaws.{noRow}
 use Rattle.grading.proofs.SameClass.{same-class-is-equivalence}
 use Rattle.grading.proofs.ClassLists.{length-classes, largest-append, at-most-largest}
 

@@ -7,8 +7,8 @@ use native.Mathlib.Omega.{arith}
 use lib.ListN.{length, getD, take, drop, length-append, length-map, take-append-drop}
 use lib.Seq.{take-suc, take-all, length-take-le}
 use Rattle.switch.specs.Modules.{ModuleType}
-use Rattle.switch.specs.Bridges.{Bridge, nodes}
-use Rattle.circuit.specs.Circuit.{Circuit, Instance, Listed, no-faults, faultsOf, faultCount}
+use Rattle.switch.specs.Bridges.{Bridge}
+use Rattle.circuit.specs.Circuit.{Circuit, Instance, Listed, faultsOf, faultCount}
 use Rattle.circuit.specs.Laws.{CircuitGood}
 use Rattle.circuit.proofs.FaultLaws.{size-is-length}
 use Rattle.grading.specs.Rows.{Row, rowsOfInstance, rowsFrom, rowsOf}
@@ -91,13 +91,6 @@ module _ (c : Circuit) where
       ∙ rw (length-of-instance (c .types) (c .bridges) (suc i) (getD (c .instances) i d))
 
 -- ---- in a good circuit
-
-abbrev pub noInstance : Instance
-noInstance = record { type = 0; choice = no-faults; references = [] }
-
--- what stands past the last row
-abbrev pub noRow : Row
-noRow = record { number = 0; instance = noInstance; bridge = nodes 0 0 }
 
 module _ (c : Circuit) (good : CircuitGood c) where
   pub few-rows : length (rowsOf c) ≤ 2048

@@ -1,7 +1,7 @@
 -- To be of one class: an equivalence on the rows of a circuit, and rows of one class have equal marks. Kind 0: a link is the same from either end.
 -- Kind 1: labels with equal references have equal values. Assumes nothing.
 use Prim.Native.Nat.{ℕ, suc, _+_, _-_, _<_, _≤_, min, max}
-use mathlib.Core.Path.{_≡_, refl, sym, ap, _∙_}
+use mathlib.Core.Path.{_≡_, refl, sym, ap, ap₂, _∙_}
 use mathlib.Core.Bool.{Bool, true, false, _&&_, _||_}
 use mathlib.Core.Logic.{_⊎_, inl, inr, ⊎-elim}
 use mathlib.Core.List.{List, [], _∷_}
@@ -18,7 +18,7 @@ use Rattle.switch.proofs.Paths.{both, one-more}
 use Rattle.switch.proofs.Deciding.{same-test, and-both, joins-decides}
 use Rattle.circuit.specs.Circuit.{Circuit, Instance, Listed, Reference, primary, outputOf, typeOfInstance, faultsOf}
 use Rattle.grading.specs.Values.{labelValues, outputsOf}
-use Rattle.grading.specs.Rows.{Row, rowsOfInstance, rowsFrom, rowsOf, rowValues, cell}
+use Rattle.grading.specs.Rows.{Row, rowWith, rowsOfInstance, rowsFrom, rowsOf, rowValues, cell}
 use Rattle.grading.specs.Classes.{sameReference, sameLabel, sameBridge, sameClass}
 use Rattle.grading.specs.Statements.{RowOf, SameClassIsEquivalence, ClassesHaveEqualMarks}
 use Rattle.grading.proofs.Everywhere.{Every, every-nil, every-append, every-map}
@@ -110,26 +110,27 @@ module _ (i : Instance) where
 
 -- ---- the instance of a row
 
--- a row of the instances from number n on: its number, and the instance at it
-pub record Placed (n : ℕ) (is : List Instance) (none : Instance) (row : Row) : Type 0 where
+-- a row of the instances from number n on: its number, the instance at it, and that instance's type
+pub record Placed (types : List ModuleType) (n : ℕ) (is : List Instance) (none : Instance) (row : Row) : Type 0 where
   pub low : n ≤ row .number
   pub high : row .number < n + length is
   pub instance-is : row .instance ≡ getD is (row .number - n) none
+  pub type-is : row .type ≡ typeOfInstance types (row .instance)
 
 module _ (types : List ModuleType) (bridges : List Listed) (none : Instance) where
-  pub rows-placed : (n : ℕ) (is : List Instance) → Every (Placed n is none) (rowsFrom types bridges n is)
+  pub rows-placed : (n : ℕ) (is : List Instance) → Every (Placed types n is none) (rowsFrom types bridges n is)
   unfolding rowsFrom rowsOfInstance
-  rows-placed n [] = every-nil (Placed n [] none)
+  rows-placed n [] = every-nil (Placed types n [] none)
   rows-placed n (i ∷ is) =
       every-append
-      (Placed n (i ∷ is) none)
+      (Placed types n (i ∷ is) none)
       (rowsOfInstance types bridges n i)
       (rowsFrom types bridges (suc n) is)
       (every-map
-      (Placed n (i ∷ is) none)
-      (λ (b : Bridge). record { number = n; instance = i; bridge = b })
+      (Placed types n (i ∷ is) none)
+      (rowWith types n i)
       (faultsOf types bridges i)
-      (λ b m. record { low = omega arith; high = omega arith; instance-is = here }))
+      (λ b m. record { low = omega arith; high = omega arith; instance-is = here; type-is = refl }))
       (λ row m. later row (rows-placed (suc n) is row m))
     where
       zero-place : n - n ≡ 0
@@ -138,13 +139,14 @@ module _ (types : List ModuleType) (bridges : List Listed) (none : Instance) whe
       here : i ≡ getD (i ∷ is) (n - n) none
       here = rw zero-place
 
-      later : (row : Row) → Placed (suc n) is none row → Placed n (i ∷ is) none row
+      later : (row : Row) → Placed types (suc n) is none row → Placed types n (i ∷ is) none row
       later row p =
           let next : row .number - n ≡ suc (row .number - suc n) = omega (arith, p .low) in
           record {
             low = omega (arith, p .low);
             high = omega (arith, p .high);
             instance-is = p .instance-is ∙ ap (λ (k : ℕ). getD (i ∷ is) k none) (sym next);
+            type-is = p .type-is;
           }
 
 one-instance : (c : Circuit) (r s : Row) → RowOf c r → RowOf c s → r .number ≡ s .number → r .instance ≡ s .instance
@@ -153,6 +155,13 @@ one-instance c r s p q e =
     let a = rows-placed (c .types) (c .bridges) (r .instance) 1 (c .instances) r p in
     let b = rows-placed (c .types) (c .bridges) (r .instance) 1 (c .instances) s q in
     a .instance-is ∙ ap (λ (n : ℕ). getD (c .instances) (n - 1) (r .instance)) e ∙ sym (b .instance-is)
+
+one-type : (c : Circuit) (r s : Row) → RowOf c r → RowOf c s → r .instance ≡ s .instance → r .type ≡ s .type
+unfolding rowsOf
+one-type c r s p q e =
+    let a = rows-placed (c .types) (c .bridges) (r .instance) 1 (c .instances) r p in
+    let b = rows-placed (c .types) (c .bridges) (r .instance) 1 (c .instances) s q in
+    a .type-is ∙ ap (typeOfInstance (c .types)) e ∙ sym (b .type-is)
 
 -- ---- rows of one class
 
@@ -226,5 +235,5 @@ classes-have-equal-marks c r s p q t vector =
     let outputs : List Value = outputsOf (c .types) vector (c .instances) in
     let parts = both (eqb (r .number) (s .number)) (sameBridge (r .instance) (r .bridge) (s .bridge)) t in
     let one : r .instance ≡ s .instance = one-instance c r s p q (eqb→eq (r .number) (s .number) (parts .0)) in
-    marked-same (typeOfInstance (c .types) (r .instance)) (r .instance) vector outputs (r .bridge) (s .bridge) (parts .1)
-    ∙ ap (λ (i : Instance). isMarked (typeOfInstance (c .types) i) (labelValues vector outputs i) (s .bridge)) one
+    marked-same (r .type) (r .instance) vector outputs (r .bridge) (s .bridge) (parts .1)
+    ∙ ap₂ (λ (t : ModuleType) (i : Instance). isMarked t (labelValues vector outputs i) (s .bridge)) (one-type c r s p q one) one

@@ -18,7 +18,7 @@ use Rattle.circuit.specs.Reading.{accepted, readingOf}
 use Rattle.circuit.specs.Laws.{CircuitGood}
 use Rattle.circuit.proofs.CircuitLaws.{accepted-is-good}
 use Rattle.circuit.proofs.Padding.{getD-padded}
-use Rattle.grading.specs.Rows.{Row, rowsOfInstance, rowsFrom, rowsOf, rowWords, matrixOf}
+use Rattle.grading.specs.Rows.{Row, noRow, rowWith, rowsOfInstance, rowsFrom, rowsOf, rowWords, matrixOf}
 use Rattle.grading.specs.Classes.{classesOf}
 use Rattle.grading.specs.Codes.{codeOf}
 use Rattle.grading.specs.Grading.{Grading, graded, refused, Counts, countsOfCircuit as countsOfCircuit, gradingOf}
@@ -29,7 +29,7 @@ use Rattle.grading.proofs.Everywhere.{Every, every-nil, every-append, every-map
 use Rattle.grading.proofs.FaultRanges.{BridgeFits, faults-fit}
 use Rattle.grading.proofs.Lists.{getD-map}
 use Rattle.grading.proofs.MatrixLaws.{length-matrix, row-long, word-in}
-use Rattle.grading.proofs.RowLaws.{noRow, few-rows}
+use Rattle.grading.proofs.RowLaws.{few-rows}
 use Rattle.grading.proofs.ClassNumbering.{class-numbers}
 use Rattle.grade_rows.specs.Model.{codesOf}
 use Rattle.print_report.specs.Lines.{rowLine}
@@ -51,7 +51,7 @@ unfolding rowsFrom rowsOfInstance
 rows-fit-from types bridges n [] few fit = every-nil RowFits
 rows-fit-from types bridges n (i ∷ is) few fit =
     every-append RowFits (rowsOfInstance types bridges n i) (rowsFrom types bridges (suc n) is)
-    (every-map RowFits (λ (b : Bridge). record { number = n; instance = i; bridge = b }) (faultsOf types bridges i) (λ b m. (omega arith, fit 0 i (omega arith) b m)))
+    (every-map RowFits (rowWith types n i) (faultsOf types bridges i) (λ b m. (omega arith, fit 0 i (omega arith) b m)))
     (rows-fit-from types bridges (suc n) is (omega arith) (λ j none h. fit (suc j) none (omega arith)))
 
 rows-fit : (c : Circuit) → CircuitGood c → Every RowFits (rowsOf c)

@@ -11,10 +11,9 @@ use Rattle.print_lines.proofs.PieceLaws.{text-of-list}
 use Rattle.circuit.specs.Circuit.{Circuit, joinLists}
 use Rattle.circuit.specs.Reading.{Reading, accepted, refusal, readingOf}
 use Rattle.circuit.proofs.CircuitLaws.{accepted-is-good, refusal-is-good}
-use Rattle.grading.specs.Rows.{Row, rowsOf, rowWords}
+use Rattle.grading.specs.Rows.{Row, noRow, rowsOf, rowWords}
 use Rattle.grading.specs.Classes.{classesOf}
 use Rattle.grading.specs.Grading.{Grading, graded, refused, countsOfCircuit, gradingOfCircuit, afterReading, gradingOf}
-use Rattle.grading.proofs.RowLaws.{noRow}
 use Rattle.grading.proofs.ClassNumbering.{class-numbers}
 use Rattle.print_report.specs.Report.{kindOf, firstEnd, secondEnd, lineOf, rowLines, countsLine, reportLines, reportLine, lineCount, reportOf}
 use Rattle.print_report.specs.Promise.{ReportIsLines, LinesFit}

@@ -12,7 +12,7 @@ use Rattle.circuit.specs.Laws.{CircuitGood}
 use Rattle.circuit.specs.declared.Circuit.{Circuit as CircuitRecord}
 use Rattle.circuit.specs.declared.Instance.{Instance as InstanceRecord}
 use Rattle.grading.specs.Given.{CircuitGiven}
-use Rattle.grading.proofs.RowLaws.{noInstance}
+use Rattle.grading.specs.Rows.{noInstance}
 use Rattle.grading.proofs.RecordReads.{count-is, count-few, bridges-few, type-place, type-few}
 use Rattle.grade_rows.proofs.InstanceCodes.{instance-codes, codes-long}
 use Rattle.grade_rows.proofs.RowSteps.{Rowed, rowed-none, rowed-long, rowed-room, rowed-more, rowed-end}

@@ -12,7 +12,7 @@ use Rattle.circuit.specs.Records.{circuitRecord}
 use Rattle.circuit.specs.Laws.{CircuitGood}
 use Rattle.circuit.specs.declared.Circuit.{Circuit as CircuitRecord}
 use Rattle.circuit.specs.declared.Instance.{Instance as InstanceRecord}
-use Rattle.grading.proofs.RowLaws.{noInstance}
+use Rattle.grading.specs.Rows.{noInstance}
 use Rattle.grading.proofs.RecordReads.{bridges-few, type-place, type-few}
 use Rattle.grade_file.proofs.Assembly as assembly
 use Rattle.grade_file.proofs.Assembly.{Turned, TurnFits, Room}

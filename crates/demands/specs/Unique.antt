@@ -103,15 +103,18 @@ pub record Unique : Type 2 where
   pub words-first-ones : Sole words-first-ones.ended words-first-ones.Reads.Asked words-first-ones.Reads.Learnt
   pub print-lines-put-byte : SoleWhereMet print-lines-put-byte.ended print-lines-put-byte.Reads.Asked print-lines-put-byte.Reads.Learnt
   pub print-lines-put-bytes : SoleWhereMet print-lines-put-bytes.ended print-lines-put-bytes.Reads.Asked print-lines-put-bytes.Reads.Learnt
-  pub print-lines-put-number : SoleWhereMet print-lines-put-number.ended print-lines-put-number.Reads.Asked print-lines-put-number.Reads.Learnt
+  pub print-lines-put-number :
+      SoleWhereMet print-lines-put-number.ended print-lines-put-number.Reads.Asked print-lines-put-number.Reads.Learnt
   pub print-lines-give : Sole print-lines-give.ended print-lines-give.Reads.Asked print-lines-give.Reads.Learnt
-  pub print-lines-refusal-line : Sole print-lines-refusal-line.ended print-lines-refusal-line.Reads.Asked print-lines-refusal-line.Reads.Learnt
+  pub print-lines-refusal-line :
+      Sole print-lines-refusal-line.ended print-lines-refusal-line.Reads.Asked print-lines-refusal-line.Reads.Learnt
   pub join-nodes-complementary : SoleByClauses join-nodes-complementary.ended (λ M. join-nodes-complementary.clauses {M = M})
   pub join-nodes-check-type : SoleWhereMet join-nodes-check-type.ended join-nodes-check-type.Reads.Asked join-nodes-check-type.Reads.Learnt
   pub join-nodes-joining : SoleByClauses join-nodes-joining.ended (λ M. join-nodes-joining.clauses {M = M})
   pub join-nodes-joining-of : SoleWhereMet join-nodes-joining-of.ended join-nodes-joining-of.Reads.Asked join-nodes-joining-of.Reads.Learnt
   pub join-nodes-join-type : SoleWhereMet join-nodes-join-type.ended join-nodes-join-type.Reads.Asked join-nodes-join-type.Reads.Learnt
-  pub join-nodes-output-planes : Sole join-nodes-output-planes.ended join-nodes-output-planes.Reads.Asked join-nodes-output-planes.Reads.Learnt
+  pub join-nodes-output-planes :
+      Sole join-nodes-output-planes.ended join-nodes-output-planes.Reads.Asked join-nodes-output-planes.Reads.Learnt
   pub circuit-is-between : Sole circuit-is-between.ended circuit-is-between.Reads.Asked circuit-is-between.Reads.Learnt
   pub circuit-refuses : Sole circuit-refuses.ended circuit-refuses.Reads.Asked circuit-refuses.Reads.Learnt
   pub circuit-or-if : Sole circuit-or-if.ended circuit-or-if.Reads.Asked circuit-or-if.Reads.Learnt
@@ -125,12 +128,15 @@ pub record Unique : Type 2 where
   pub read-types-read-types : SoleWhereMet read-types-read-types.ended read-types-read-types.Reads.Asked read-types-read-types.Reads.Learnt
   pub read-bridges-no-bridge : Sole read-bridges-no-bridge.ended read-bridges-no-bridge.Reads.Asked read-bridges-no-bridge.Reads.Learnt
   pub read-bridges-lists-of : SoleWhereMet read-bridges-lists-of.ended read-bridges-lists-of.Reads.Asked read-bridges-lists-of.Reads.Learnt
-  pub read-bridges-read-bridges : SoleWhereMet read-bridges-read-bridges.ended read-bridges-read-bridges.Reads.Asked read-bridges-read-bridges.Reads.Learnt
-  pub read-instances-no-instance : Sole read-instances-no-instance.ended read-instances-no-instance.Reads.Asked read-instances-no-instance.Reads.Learnt
+  pub read-bridges-read-bridges :
+      SoleWhereMet read-bridges-read-bridges.ended read-bridges-read-bridges.Reads.Asked read-bridges-read-bridges.Reads.Learnt
+  pub read-instances-no-instance :
+      Sole read-instances-no-instance.ended read-instances-no-instance.Reads.Asked read-instances-no-instance.Reads.Learnt
   pub read-instances-read-instances :
       SoleWhereMet read-instances-read-instances.ended read-instances-read-instances.Reads.Asked read-instances-read-instances.Reads.Learnt
   pub read-vectors-no-vector : Sole read-vectors-no-vector.ended read-vectors-no-vector.Reads.Asked read-vectors-no-vector.Reads.Learnt
-  pub read-vectors-read-vectors : SoleWhereMet read-vectors-read-vectors.ended read-vectors-read-vectors.Reads.Asked read-vectors-read-vectors.Reads.Learnt
+  pub read-vectors-read-vectors :
+      SoleWhereMet read-vectors-read-vectors.ended read-vectors-read-vectors.Reads.Asked read-vectors-read-vectors.Reads.Learnt
   pub read-file-read-stages : Sole read-file-read-stages.ended read-file-read-stages.Reads.Asked read-file-read-stages.Reads.Learnt
   pub read-file-read : Sole read-file-read.ended read-file-read.Reads.Asked read-file-read.Reads.Learnt
   pub grading-number-of : Sole grading-number-of.ended grading-number-of.Reads.Asked grading-number-of.Reads.Learnt
@@ -138,16 +144,20 @@ pub record Unique : Type 2 where
   pub grading-counts-of : Sole grading-counts-of.ended grading-counts-of.Reads.Asked grading-counts-of.Reads.Learnt
   pub grade-rows-list-rows : SoleWhereMet grade-rows-list-rows.ended grade-rows-list-rows.Reads.Asked grade-rows-list-rows.Reads.Learnt
   pub grade-rows-rows-of : SoleWhereMet grade-rows-rows-of.ended grade-rows-rows-of.Reads.Asked grade-rows-rows-of.Reads.Learnt
-  pub grade-inputs-put-signals : SoleWhereMet grade-inputs-put-signals.ended grade-inputs-put-signals.Reads.Asked grade-inputs-put-signals.Reads.Learnt
-  pub grade-marks-mark-instance : SoleWhereMet grade-marks-mark-instance.ended grade-marks-mark-instance.Reads.Asked grade-marks-mark-instance.Reads.Learnt
+  pub grade-inputs-put-signals :
+      SoleWhereMet grade-inputs-put-signals.ended grade-inputs-put-signals.Reads.Asked grade-inputs-put-signals.Reads.Learnt
+  pub grade-marks-mark-instance :
+      SoleWhereMet grade-marks-mark-instance.ended grade-marks-mark-instance.Reads.Asked grade-marks-mark-instance.Reads.Learnt
   pub grade-classes-class-instance :
       SoleWhereMet grade-classes-class-instance.ended grade-classes-class-instance.Reads.Asked grade-classes-class-instance.Reads.Learnt
   pub grade-file-grade-read : SoleWhereMet grade-file-grade-read.ended grade-file-grade-read.Reads.Asked grade-file-grade-read.Reads.Learnt
   pub grade-file-grade : Sole grade-file-grade.ended grade-file-grade.Reads.Asked grade-file-grade.Reads.Learnt
   pub print-report-first-line : Sole print-report-first-line.ended print-report-first-line.Reads.Asked print-report-first-line.Reads.Learnt
   pub print-report-row-line : Sole print-report-row-line.ended print-report-row-line.Reads.Asked print-report-row-line.Reads.Learnt
-  pub print-report-report-piece : SoleWhereMet print-report-report-piece.ended print-report-report-piece.Reads.Asked print-report-report-piece.Reads.Learnt
-  pub print-circuit-show-piece : Sole print-circuit-show-piece.ended print-circuit-show-piece.Reads.Asked print-circuit-show-piece.Reads.Learnt
+  pub print-report-report-piece :
+      SoleWhereMet print-report-report-piece.ended print-report-report-piece.Reads.Asked print-report-report-piece.Reads.Learnt
+  pub print-circuit-show-piece :
+      Sole print-circuit-show-piece.ended print-circuit-show-piece.Reads.Asked print-circuit-show-piece.Reads.Learnt
   pub program-io-unread : Sole program-io-unread.ended program-io-unread.Reads.Asked program-io-unread.Reads.Learnt
   pub program-io-nothing : Sole program-io-nothing.ended program-io-nothing.Reads.Asked program-io-nothing.Reads.Learnt
   pub togyamiru-grade : Sole togyamiru-grade.ended togyamiru-grade.Reads.Asked togyamiru-grade.Reads.Learnt

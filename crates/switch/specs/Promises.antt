@@ -1,5 +1,5 @@
--- What the code of the crate `join_nodes` promises a caller, as lists and records: the rails' words, and the planes of values, 64 vectors to a
--- word. A word has a bit for each of 64 vectors.
+-- What the code of the crate `join_nodes` promises a caller, as lists and records: the rails' words, and the planes of values, 64 vectors
+-- to a word. A word has a bit for each of 64 vectors.
 use Prim.Native.Nat.{ℕ}
 use mathlib.Core.List.{List}
 use Rattle.words.specs.Bits.{bit, ofBool, word}

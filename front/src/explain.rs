@@ -3,6 +3,7 @@
 
 use second::circuit::ModuleType;
 use second::fields::{cut, Field};
+use second::format::Tag;
 use second::read::read;
 use second::refusal::Refusal;
 
@@ -55,6 +56,11 @@ struct Scene<'a> {
 }
 
 impl Scene<'_> {
+    /// The tag of a field that has passed 3.
+    fn tag(&self) -> Tag {
+        Tag::of(self.field.tag).expect("a field that has passed 3 has a tag")
+    }
+
     /// The type that a refused edge would belong to, and its number.
     fn latest_type(&self) -> (usize, &ModuleType) {
         let types = &self.before.circuit.types;
@@ -101,7 +107,7 @@ fn at_field(bytes: &[u8], refusal: Refusal) -> (String, Told) {
     };
     let name = match refusal.number {
         3 | 4 => scene.before.next_field(),
-        _ => scene.before.next_of(scene.field.tag),
+        _ => scene.before.next_of(scene.tag()),
     };
     let span = span(refusal.place, scene.field.end());
     (format!("{name}, {span}"), told)

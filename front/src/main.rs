@@ -8,7 +8,7 @@ use std::process::ExitCode;
 
 use front::explain::explain;
 use front::text::{make, Slip};
-use second::read::LONGEST_FILE;
+use second::format::LONGEST_FILE;
 
 const USAGE: &str = "usage: front make [TEXT]
        front explain [FILE...]

@@ -1,6 +1,9 @@
 //! The text form, a line for each field, read into the bytes of a circuit file.
 //! It does not judge the circuit: order, ranges and counts are left to the grader.
 
+use second::bodies::value_of;
+use second::circuit::Kind;
+use second::format::Tag;
 use second::write::{bytes_of, LooseField};
 
 use crate::words::{expected, number_of, Words};
@@ -50,14 +53,14 @@ impl Counts {
         let Some(word) = words.take() else {
             return Ok(None);
         };
-        let (tag, body) = match word {
-            b"inputs" => (1, inputs(&mut words)?),
-            b"type" => (2, self.module(&mut words)?),
-            b"edge" => (3, edge(&mut words)?),
-            b"bridge" => (4, bridge(&mut words)?),
-            b"instance" => (5, self.instance(&mut words)?),
-            b"vector" => (6, self.vector(&mut words)?),
-            _ => return Err(no_such_line(word)),
+        let tag = Tag::of_word(word).ok_or_else(|| no_such_line(word))?;
+        let body = match tag {
+            Tag::Inputs => inputs(&mut words)?,
+            Tag::Type => self.module(&mut words)?,
+            Tag::Edge => edge(&mut words)?,
+            Tag::Bridge => bridge(&mut words)?,
+            Tag::Instance => self.instance(&mut words)?,
+            Tag::Vector => self.vector(&mut words)?,
         };
         words.end()?;
         if body.len() > usize::from(u16::MAX) {
@@ -70,7 +73,7 @@ impl Counts {
     }
 
     fn module(&mut self, words: &mut Words) -> Result<Vec<u8>, String> {
-        next_number(words, &mut self.types, "type")?;
+        next_number(words, &mut self.types, Tag::Type)?;
         Ok(vec![
             words.byte("the highest node h")?,
             words.byte("the output node o")?,
@@ -79,7 +82,7 @@ impl Counts {
     }
 
     fn instance(&mut self, words: &mut Words) -> Result<Vec<u8>, String> {
-        next_number(words, &mut self.instances, "instance")?;
+        next_number(words, &mut self.instances, Tag::Instance)?;
         let module = words.byte("the number of a type")?;
         let choice = words.number("the list choice", -128..=127)?;
         let mut body = vec![module, choice as i8 as u8];
@@ -94,11 +97,11 @@ impl Counts {
 
     /// The letters may stand apart, for vectors of many inputs.
     fn vector(&mut self, words: &mut Words) -> Result<Vec<u8>, String> {
-        next_number(words, &mut self.vectors, "vector")?;
+        next_number(words, &mut self.vectors, Tag::Vector)?;
         let mut body = Vec::new();
         loop {
             let word = words.take();
-            let letters = word.filter(|word| word.iter().all(|letter| b"01X".contains(letter)));
+            let letters = word.filter(|word| word.iter().all(|&letter| value_of(letter).is_some()));
             let what = "letters `0`, `1` or `X`, one for each input";
             body.extend_from_slice(letters.ok_or_else(|| expected(word, what))?);
             if words.is_at_end() {
@@ -110,7 +113,7 @@ impl Counts {
 
 /// Takes the number of a line that is numbered. A wrong one is told once: those
 /// after it are counted from it.
-fn next_number(words: &mut Words, latest: &mut i32, kind: &str) -> Result<(), String> {
+fn next_number(words: &mut Words, latest: &mut i32, tag: Tag) -> Result<(), String> {
     let next = latest.saturating_add(1);
     let word = words.take();
     let number = word.and_then(number_of);
@@ -118,7 +121,7 @@ fn next_number(words: &mut Words, latest: &mut i32, kind: &str) -> Result<(), St
     if number == Some(next) {
         return Ok(());
     }
-    let what = format!("`{next}`, the number of the next {kind}");
+    let what = format!("`{next}`, the number of the next {}", tag.word());
     Err(expected(word, &what))
 }
 
@@ -140,15 +143,19 @@ fn edge(words: &mut Words) -> Result<Vec<u8>, String> {
 fn bridge(words: &mut Words) -> Result<Vec<u8>, String> {
     let list = words.byte("the number of a list")?;
     let word = words.take();
-    let (kind, second) = match word {
-        Some(b"n") => (0, "a second node"),
-        Some(b"i") => (1, "a label"),
-        _ => {
-            let what = "`n` for two nodes or `i` for a node and a label";
-            return Err(expected(word, what));
-        }
+    let kind = Kind::ALL
+        .into_iter()
+        .find(|kind| word == Some(kind.letter().to_string().as_bytes()));
+    let Some(kind) = kind else {
+        let what = "`n` for two nodes or `i` for a node and a label";
+        return Err(expected(word, what));
     };
-    Ok(vec![list, kind, words.byte("a node")?, words.byte(second)?])
+    let first = words.byte("a node")?;
+    let second = words.byte(match kind {
+        Kind::Nodes => "a second node",
+        Kind::Label => "a label",
+    })?;
+    Ok(vec![list, kind.byte(), first, second])
 }
 
 /// Every circuit file has a byte 0, and no text does.
@@ -161,11 +168,15 @@ fn no_text(before: &[u8]) -> Slip {
 }
 
 fn no_such_line(word: &[u8]) -> String {
-    let names = "`inputs`, `type`, `edge`, `bridge`, `instance` or `vector`";
+    let words = Tag::ALL.map(|tag| format!("`{}`", tag.word()));
+    let names = match &words[..] {
+        [most @ .., last] => format!("{} or {last}", most.join(", ")),
+        [] => String::new(),
+    };
     let hint = match word {
         b"refused" => " (`show` ends a refused file so: the text is no whole circuit)",
         b"==>" => " (`make` reads the text of one file)",
         _ => "",
     };
-    expected(Some(word), names) + hint
+    expected(Some(word), &names) + hint
 }

@@ -9,6 +9,8 @@ pub enum Value {
 }
 
 impl Value {
+    pub const ALL: [Value; 3] = [Value::Zero, Value::One, Value::X];
+
     /// As in a vector.
     pub fn letter(self) -> char {
         match self {
@@ -19,9 +21,16 @@ impl Value {
     }
 }
 
+#[derive(Clone, Copy, Debug, PartialEq, Eq)]
+pub enum Channel {
+    P,
+    N,
+}
+
 #[derive(Clone, Debug, PartialEq, Eq)]
 pub struct Edge {
     pub ends: [u8; 2],
+    pub channel: Channel,
     pub labels: Vec<u8>,
 }
 
@@ -41,6 +50,20 @@ pub enum Kind {
 }
 
 impl Kind {
+    pub const ALL: [Kind; 2] = [Kind::Nodes, Kind::Label];
+
+    /// As in the file.
+    pub fn byte(self) -> u8 {
+        match self {
+            Kind::Nodes => 0,
+            Kind::Label => 1,
+        }
+    }
+
+    pub fn of(byte: u8) -> Option<Kind> {
+        Kind::ALL.into_iter().find(|kind| kind.byte() == byte)
+    }
+
     /// As in the report.
     pub fn letter(self) -> char {
         match self {

@@ -1,16 +1,10 @@
 //! Conduction in one module: which edges are on, which nodes are joined, what
 //! the output is, and whether a closed bridge makes a path from supply to ground.
 
-use crate::circuit::{Bridge, Edge, Kind, ModuleType, Value};
+use crate::circuit::{Bridge, Channel, Edge, Kind, ModuleType, Value};
 
 pub const GROUND: u8 = 0;
 pub const SUPPLY: u8 = 1;
-
-#[derive(Clone, Copy, Debug, PartialEq, Eq)]
-pub enum Channel {
-    P,
-    N,
-}
 
 /// The channel of an edge between two different nodes, or none if the channel
 /// rule is broken. Nodes above the highest node are refused before this is asked.
@@ -28,11 +22,10 @@ pub fn channel(output: u8, ends: [u8; 2]) -> Option<Channel> {
     }
 }
 
-fn is_on(module: &ModuleType, edge: &Edge, labels: &[Value]) -> bool {
-    let needed = match channel(module.output, edge.ends) {
-        Some(Channel::P) => Value::Zero,
-        Some(Channel::N) => Value::One,
-        None => return false,
+pub fn is_on(edge: &Edge, labels: &[Value]) -> bool {
+    let needed = match edge.channel {
+        Channel::P => Value::Zero,
+        Channel::N => Value::One,
     };
     edge.labels
         .iter()
@@ -50,7 +43,7 @@ impl Graph {
     pub fn of_on_edges(module: &ModuleType, labels: &[Value]) -> Graph {
         let mut graph = Graph::default();
         for edge in &module.edges {
-            if is_on(module, edge, labels) {
+            if is_on(edge, labels) {
                 graph.add_wire(edge.ends[0], edge.ends[1]);
             }
         }
@@ -89,15 +82,19 @@ pub fn output_value(module: &ModuleType, graph: &Graph) -> Value {
     }
 }
 
+/// The values of a module's labels in a setting: label l is bit l of its number.
+pub fn values_in(module: &ModuleType, setting: u32) -> Vec<Value> {
+    (0..module.labels)
+        .map(|label| match setting >> label & 1 {
+            0 => Value::Zero,
+            _ => Value::One,
+        })
+        .collect()
+}
+
 pub fn is_complementary(module: &ModuleType) -> bool {
     (0..1u32 << module.labels).all(|setting| {
-        let labels: Vec<Value> = (0..module.labels)
-            .map(|label| match setting >> label & 1 {
-                0 => Value::Zero,
-                _ => Value::One,
-            })
-            .collect();
-        let graph = Graph::of_on_edges(module, &labels);
+        let graph = Graph::of_on_edges(module, &values_in(module, setting));
         graph.joined(module.output, GROUND) != graph.joined(module.output, SUPPLY)
     })
 }

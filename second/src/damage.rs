@@ -3,11 +3,12 @@
 
 use crate::circuit::{Bridge, Circuit, Instance, Kind, ListedBridge};
 use crate::faults::{user_list, EXHAUSTIVE};
+use crate::format::{
+    Tag, HIGHEST_LIST, LONGEST_FILE, MOST_BRIDGES, MOST_EDGES, MOST_INSTANCES, MOST_TYPES,
+    MOST_VECTORS,
+};
 use crate::make::{full_circuit, small_circuit};
 use crate::random::Random;
-use crate::read::{
-    LONGEST_FILE, MOST_BRIDGES, MOST_EDGES, MOST_INSTANCES, MOST_TYPES, MOST_VECTORS,
-};
 use crate::spoil::{spoil, spoil_length};
 use crate::types::gate_type;
 use crate::write::{bridge_field, bytes_of, fields_of, type_fields, LooseField};
@@ -97,10 +98,15 @@ fn any_by_tag(random: &mut Random, fields: &Fields) -> Option<usize> {
     tags.sort_unstable();
     tags.dedup();
     let tag = tags.get(random.below(tags.len().max(1)))?;
-    any_of_tag(random, fields, *tag)
+    any_with(random, fields, *tag)
 }
 
-fn any_of_tag(random: &mut Random, fields: &Fields, tag: u8) -> Option<usize> {
+fn any_of_tag(random: &mut Random, fields: &Fields, tag: Tag) -> Option<usize> {
+    any_with(random, fields, tag.byte())
+}
+
+/// A damaged field may have any byte for a tag.
+fn any_with(random: &mut Random, fields: &Fields, tag: u8) -> Option<usize> {
     let places: Vec<usize> = (0..fields.len())
         .filter(|&index| fields[index].tag == tag)
         .collect();
@@ -175,13 +181,13 @@ fn spoil_twice(random: &mut Random, fields: &mut Fields) {
 }
 
 fn spoil_instance_once(random: &mut Random, fields: &mut Fields) {
-    if let Some(index) = any_of_tag(random, fields, 5) {
+    if let Some(index) = any_of_tag(random, fields, Tag::Instance) {
         spoil(random, fields, index);
     }
 }
 
 fn spoil_instance_twice(random: &mut Random, fields: &mut Fields) {
-    if let Some(index) = any_of_tag(random, fields, 5) {
+    if let Some(index) = any_of_tag(random, fields, Tag::Instance) {
         spoil_same_twice(random, fields, index);
     }
 }
@@ -196,18 +202,18 @@ fn spoil_same_twice(random: &mut Random, fields: &mut Fields, index: usize) {
 }
 
 fn drop_edge(random: &mut Random, fields: &mut Fields) {
-    if let Some(index) = any_of_tag(random, fields, 3) {
+    if let Some(index) = any_of_tag(random, fields, Tag::Edge) {
         fields.remove(index);
     }
 }
 
 fn edges_after(fields: &Fields, index: usize) -> usize {
     let rest = fields[index + 1..].iter();
-    rest.take_while(|field| field.tag == 3).count()
+    rest.take_while(|field| field.is(Tag::Edge)).count()
 }
 
 fn drop_all_edges(random: &mut Random, fields: &mut Fields) {
-    if let Some(index) = any_of_tag(random, fields, 2) {
+    if let Some(index) = any_of_tag(random, fields, Tag::Type) {
         let edges = edges_after(fields, index);
         fields.drain(index + 1..=index + edges);
     }
@@ -216,7 +222,7 @@ fn drop_all_edges(random: &mut Random, fields: &mut Fields) {
 /// A type that is not complementary, then a field with a fault of its own, at
 /// which the type is judged if that field passes 2, 3 and 4.
 fn break_type_and_next(random: &mut Random, fields: &mut Fields) {
-    let Some(index) = any_of_tag(random, fields, 2) else {
+    let Some(index) = any_of_tag(random, fields, Tag::Type) else {
         return;
     };
     let edges = edges_after(fields, index);
@@ -236,8 +242,8 @@ fn break_type_and_next(random: &mut Random, fields: &mut Fields) {
 }
 
 fn drop_all_of_a_tag(random: &mut Random, fields: &mut Fields) {
-    let tag = random.between(1, 6) as u8;
-    fields.retain(|field| field.tag != tag);
+    let tag = random.pick(&Tag::ALL);
+    fields.retain(|field| !field.is(tag));
 }
 
 fn keep_only_a_start(random: &mut Random, fields: &mut Fields) {
@@ -246,11 +252,11 @@ fn keep_only_a_start(random: &mut Random, fields: &mut Fields) {
 
 /// Repeats a field of a tag until there is one more than `most`, and sometimes
 /// spoils the last.
-fn exceed(random: &mut Random, fields: &mut Fields, tag: u8, most: usize) {
-    let Some(last) = fields.iter().rposition(|field| field.tag == tag) else {
+fn exceed(random: &mut Random, fields: &mut Fields, tag: Tag, most: usize) {
+    let Some(last) = fields.iter().rposition(|field| field.is(tag)) else {
         return;
     };
-    let present = fields.iter().filter(|field| field.tag == tag).count();
+    let present = fields.iter().filter(|field| field.is(tag)).count();
     let more = (most + random.between(0, 2)).saturating_sub(present);
     let copy = fields[last].clone();
     fields.splice(last..last, vec![copy; more]);
@@ -259,28 +265,33 @@ fn exceed(random: &mut Random, fields: &mut Fields, tag: u8, most: usize) {
     }
 }
 
+/// What may stand before a bridge; of a damaged field, also no tag at all.
+fn is_before_bridges(field: &LooseField) -> bool {
+    field.tag < Tag::Bridge.byte()
+}
+
 fn exceed_types_or_edges(random: &mut Random, fields: &mut Fields) {
     if random.one_in(2) {
         return exceed_edges(random, fields);
     }
-    let present = fields.iter().filter(|field| field.tag == 2).count();
+    let present = fields.iter().filter(|field| field.is(Tag::Type)).count();
     let more = (MOST_TYPES + random.between(0, 2)).saturating_sub(present);
     let mut added = Vec::new();
     for _ in 0..more {
         added.extend(type_fields(&gate_type(random)));
     }
-    let place = fields.iter().rposition(|field| field.tag <= 3);
+    let place = fields.iter().rposition(is_before_bridges);
     let place = place.map_or(0, |index| index + 1);
     let end = place + added.len();
     fields.splice(place..place, added);
-    let last = fields[..end].iter().rposition(|field| field.tag == 2);
+    let last = fields[..end].iter().rposition(|field| field.is(Tag::Type));
     if let (Some(last), true) = (last, random.one_in(3)) {
         spoil(random, fields, last);
     }
 }
 
 fn exceed_edges(random: &mut Random, fields: &mut Fields) {
-    let Some(index) = any_of_tag(random, fields, 2) else {
+    let Some(index) = any_of_tag(random, fields, Tag::Type) else {
         return;
     };
     let edges = edges_after(fields, index);
@@ -301,25 +312,28 @@ fn exceed_bridges(random: &mut Random, fields: &mut Fields) {
         first: 0,
         second: 1,
     };
-    if !fields.iter().any(|field| field.tag == 4) {
-        let last = fields.iter().rposition(|field| field.tag <= 3);
-        let listed = ListedBridge { list: 127, bridge };
+    if !fields.iter().any(|field| field.is(Tag::Bridge)) {
+        let last = fields.iter().rposition(is_before_bridges);
+        let listed = ListedBridge {
+            list: HIGHEST_LIST,
+            bridge,
+        };
         fields.insert(last.map_or(0, |index| index + 1), bridge_field(&listed));
     }
-    exceed(random, fields, 4, MOST_BRIDGES);
+    exceed(random, fields, Tag::Bridge, MOST_BRIDGES);
 }
 
 fn exceed_instances(random: &mut Random, fields: &mut Fields) {
-    for field in fields.iter_mut().filter(|field| field.tag == 5) {
+    for field in fields.iter_mut().filter(|field| field.is(Tag::Instance)) {
         if let Some(choice) = field.body.get_mut(1) {
             *choice = 0;
         }
     }
-    exceed(random, fields, 5, MOST_INSTANCES);
+    exceed(random, fields, Tag::Instance, MOST_INSTANCES);
 }
 
 fn exceed_vectors(random: &mut Random, fields: &mut Fields) {
-    exceed(random, fields, 6, MOST_VECTORS);
+    exceed(random, fields, Tag::Vector, MOST_VECTORS);
 }
 
 /// Past 2,048 faults, by one or by many, sometimes with another damage.

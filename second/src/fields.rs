@@ -1,9 +1,8 @@
 //! Cutting the bytes of a file into fields: a tag byte, a two-byte length with
 //! its high byte first, then the body. A field cut short is refusal 2.
 
+use crate::format::HEAD;
 use crate::refusal::{refuse_if, Refusal};
-
-const HEAD: usize = 3;
 
 #[derive(Clone, Copy, Debug)]
 pub struct Field<'a> {

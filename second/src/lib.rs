@@ -2,12 +2,14 @@
 //! at a time, prints the report or the circuit, makes or damages circuit files
 //! from a seed, and writes files by hand: at every limit, and samples.
 
+pub mod bodies;
 pub mod builder;
 pub mod circuit;
 pub mod conduction;
 pub mod damage;
 pub mod faults;
 pub mod fields;
+pub mod format;
 pub mod grade;
 pub mod limits;
 pub mod make;

@@ -10,9 +10,10 @@ use std::process::ExitCode;
 
 use second::builder::NamedFile;
 use second::damage::damaged_file;
+use second::format::LONGEST_FILE;
 use second::limits::limit_files;
 use second::make::made_file;
-use second::read::{read, LONGEST_FILE};
+use second::read::read;
 use second::report::report_of;
 use second::samples::sample_files;
 use second::show::show_of;

@@ -3,15 +3,14 @@
 
 use crate::circuit::{Bridge, Circuit, Instance, Kind, ListedBridge, ModuleType, Value};
 use crate::faults::{exhaustive_list, faults_of, fits, user_list, EXHAUSTIVE};
-use crate::random::Random;
-use crate::read::{
-    MOST_BRIDGES, MOST_FAULTS, MOST_INPUTS, MOST_INSTANCES, MOST_TYPES, MOST_VECTORS,
+use crate::format::{
+    HIGHEST_LIST, MOST_BRIDGES, MOST_FAULTS, MOST_INPUTS, MOST_INSTANCES, MOST_TYPES, MOST_VECTORS,
 };
+use crate::random::Random;
 use crate::types::{full_type, gate_type, made_type};
 use crate::write::{bytes_of, fields_of};
 
 const FULL_SIZE_EVERY: u64 = 32;
-const HIGHEST_LIST: usize = 127;
 /// Sizes of the lists of a full-size file; together 256 bridges, and any number
 /// of faults up to 2,048 is a sum of few of them.
 const FULL_LISTS: [usize; 9] = [128, 64, 32, 16, 8, 4, 2, 1, 1];
@@ -142,7 +141,7 @@ fn from_other_end(bridge: Bridge) -> Bridge {
 fn user_lists(random: &mut Random, types: &[ModuleType]) -> Vec<ListedBridge> {
     let mut bridges = Vec::new();
     for _ in 0..random.below(5) {
-        let list = random.between(1, HIGHEST_LIST) as u8;
+        let list = random.between(1, usize::from(HIGHEST_LIST)) as u8;
         let module = &types[random.below(types.len())];
         for _ in 0..random.between(1, 12) {
             let bridge = made_bridge(random, module.highest, module.labels);
@@ -161,7 +160,7 @@ fn user_lists(random: &mut Random, types: &[ModuleType]) -> Vec<ListedBridge> {
 fn full_lists(random: &mut Random, types: &[ModuleType]) -> Vec<ListedBridge> {
     let highest = types.iter().map(|module| module.highest).min().unwrap_or(2);
     let labels = types.iter().map(|module| module.labels).min().unwrap_or(1);
-    let mut numbers: Vec<u8> = (1..=HIGHEST_LIST as u8).collect();
+    let mut numbers: Vec<u8> = (1..=HIGHEST_LIST).collect();
     random.shuffle(&mut numbers);
     let mut bridges = Vec::with_capacity(MOST_BRIDGES);
     for (&list, size) in numbers.iter().zip(FULL_LISTS) {

@@ -1,12 +1,11 @@
 //! Networks not yet numbered: series-parallel trees and their duals, any small
 //! graph with its minimal cuts, and the numbering that makes a module type of them.
 
-use crate::circuit::{Edge, ModuleType};
-use crate::conduction::{Channel, GROUND, SUPPLY};
+use crate::circuit::{Channel, Edge, ModuleType};
+use crate::conduction::{GROUND, SUPPLY};
+use crate::format::{HIGHEST_NODE, MOST_EDGES, MOST_PARALLEL};
 use crate::random::Random;
-use crate::read::{HIGHEST_NODE, MOST_EDGES};
 
-const MOST_PARALLEL: usize = 4;
 /// Nodes 2 to 31 without the output.
 const MOST_INNER: usize = HIGHEST_NODE as usize - 2;
 
@@ -225,13 +224,16 @@ impl Sketch {
             End::InnerN(index) => n_numbers[index],
         };
         let mut edges: Vec<Edge> = Vec::new();
-        for (ends, labels) in &self.edges {
-            let mut ends = ends.map(number);
+        for (sketched, labels) in &self.edges {
+            let mut ends = sketched.map(number);
             if random.one_in(2) {
                 ends.swap(0, 1);
             }
-            let labels = labels.clone();
-            edges.push(Edge { ends, labels });
+            edges.push(Edge {
+                ends,
+                channel: channel_of(*sketched),
+                labels: labels.clone(),
+            });
         }
         random.shuffle(&mut edges);
         ModuleType {

@@ -1,24 +1,17 @@
-//! Reading a circuit file with refusals 1 to 14. Each tag has one function whose
-//! tests stand in the order of their numbers, 9 right after 4.
+//! Reading a circuit file with refusals 1 to 14: what all fields are tested for,
+//! then a function for each tag. Tests stand in the order of their numbers, 9
+//! right after 4.
 
-use crate::circuit::{Bridge, Circuit, Edge, Instance, Kind, ListedBridge, ModuleType, Value};
-use crate::conduction::{channel, is_complementary};
+use crate::bodies::{bridge_of, edge_of, inputs_of, instance_of, module_of, vector_of};
+use crate::circuit::{Circuit, Instance, Kind, ListedBridge};
+use crate::conduction::is_complementary;
 use crate::faults::{faults_of, fits, user_list, EXHAUSTIVE};
 use crate::fields::{cut, Field};
+use crate::format::{
+    Tag, HIGHEST_LIST, HIGHEST_NODE, LONGEST_FILE, MOST_BRIDGES, MOST_EDGES, MOST_FAULTS,
+    MOST_INPUTS, MOST_INSTANCES, MOST_LABELS, MOST_TYPES, MOST_VECTORS,
+};
 use crate::refusal::{refuse_if, Refusal};
-
-pub const LONGEST_FILE: usize = 32_768;
-pub const MOST_INPUTS: usize = 64;
-pub const MOST_TYPES: usize = 16;
-pub const MOST_EDGES: usize = 64;
-pub const MOST_BRIDGES: usize = 256;
-pub const MOST_INSTANCES: usize = 128;
-pub const MOST_VECTORS: usize = 256;
-pub const MOST_FAULTS: usize = 2_048;
-
-pub const HIGHEST_NODE: u8 = 31;
-pub const MOST_LABELS: u8 = 12;
-const HIGHEST_LIST: u8 = 127;
 
 pub fn read(bytes: &[u8]) -> Result<Circuit, Refusal> {
     let (circuit, refusal) = read_to_refusal(bytes);
@@ -41,7 +34,7 @@ pub fn read_to_refusal(bytes: &[u8]) -> (Circuit, Option<Refusal>) {
 #[derive(Default)]
 struct Reading {
     circuit: Circuit,
-    latest_tag: Option<u8>,
+    latest_tag: Option<Tag>,
     is_at_edge: bool,
     unjudged: Option<usize>,
     faults: usize,
@@ -62,7 +55,9 @@ impl Reading {
     /// In a refused file the latest type is finished when no edge of it is
     /// refused and it is complementary.
     fn drop_unfinished_type(&mut self) {
-        let is_latest_open = matches!(self.latest_tag, Some(2 | 3));
+        let is_latest_open = self
+            .latest_tag
+            .is_some_and(|tag| Tag::Edge.may_follow(Some(tag)));
         let is_finished =
             !self.is_at_edge && self.circuit.types.last().is_some_and(is_complementary);
         if is_latest_open && !is_finished {
@@ -71,33 +66,26 @@ impl Reading {
     }
 
     fn take(&mut self, field: &Field) -> Result<(), Refusal> {
-        self.is_at_edge = field.tag == 3;
-        refuse_if(!(1..=6).contains(&field.tag), 3, field.place)?;
-        refuse_if(!self.is_in_order(field.tag), 4, field.place)?;
-        if field.tag != 3 {
+        let tag = Tag::of(field.tag);
+        self.is_at_edge = tag.is_some_and(Tag::is_edge);
+        let tag = tag.ok_or(refused(3, field))?;
+        refuse_if(!tag.may_follow(self.latest_tag), 4, field.place)?;
+        if !tag.is_edge() {
             self.judge_latest_type()?;
         }
-        match field.tag {
-            1 => self.take_inputs(field)?,
-            2 => self.take_type(field)?,
-            3 => self.take_edge(field)?,
-            4 => self.take_bridge(field)?,
-            5 => self.take_instance(field)?,
-            _ => self.take_vector(field)?,
+        let is_allowed = tag.allows(field.body.len(), self.circuit.inputs);
+        refuse_if(!is_allowed, 5, field.place)?;
+        match tag {
+            Tag::Inputs => self.take_inputs(field)?,
+            Tag::Type => self.take_type(field)?,
+            Tag::Edge => self.take_edge(field)?,
+            Tag::Bridge => self.take_bridge(field)?,
+            Tag::Instance => self.take_instance(field)?,
+            Tag::Vector => self.take_vector(field)?,
         }
-        self.latest_tag = Some(field.tag);
+        self.latest_tag = Some(tag);
         self.is_at_edge = false;
         Ok(())
-    }
-
-    fn is_in_order(&self, tag: u8) -> bool {
-        match (self.latest_tag, tag) {
-            (None, tag) => tag == 1,
-            (Some(_), 1) => false,
-            (Some(before), 2) => before <= 3,
-            (Some(before), 3) => before == 2 || before == 3,
-            (Some(before), tag) => before <= tag,
-        }
     }
 
     fn judge_latest_type(&mut self) -> Result<(), Refusal> {
@@ -108,74 +96,51 @@ impl Reading {
     }
 
     fn take_inputs(&mut self, field: &Field) -> Result<(), Refusal> {
-        refuse_if(field.body.len() != 2, 5, field.place)?;
-        let inputs = usize::from(u16::from_be_bytes([field.body[0], field.body[1]]));
+        let inputs = inputs_of(field.body);
         refuse_if(!(1..=MOST_INPUTS).contains(&inputs), 7, field.place)?;
         self.circuit.inputs = inputs;
         Ok(())
     }
 
     fn take_type(&mut self, field: &Field) -> Result<(), Refusal> {
-        refuse_if(field.body.len() != 3, 5, field.place)?;
         refuse_if(self.circuit.types.len() == MOST_TYPES, 6, field.place)?;
-        let (highest, output, labels) = (field.body[0], field.body[1], field.body[2]);
-        let in_range = (2..=HIGHEST_NODE).contains(&highest)
-            && (2..=highest).contains(&output)
-            && (1..=MOST_LABELS).contains(&labels);
+        let module = module_of(field.body);
+        let in_range = (2..=HIGHEST_NODE).contains(&module.highest)
+            && (2..=module.highest).contains(&module.output)
+            && (1..=MOST_LABELS).contains(&module.labels);
         refuse_if(!in_range, 7, field.place)?;
         self.unjudged = Some(field.place);
-        self.circuit.types.push(ModuleType {
-            highest,
-            output,
-            labels,
-            edges: Vec::new(),
-        });
+        self.circuit.types.push(module);
         Ok(())
     }
 
     fn take_edge(&mut self, field: &Field) -> Result<(), Refusal> {
         // The order has asked for a type already; this says the same of its record.
         let Some(module) = self.circuit.types.last_mut() else {
-            return refuse_if(true, 4, field.place);
+            return Err(refused(4, field));
         };
-        refuse_if(!(3..=6).contains(&field.body.len()), 5, field.place)?;
         refuse_if(module.edges.len() == MOST_EDGES, 6, field.place)?;
-        let (ends, labels) = ([field.body[0], field.body[1]], &field.body[2..]);
+        let (ends, labels) = field.body.split_at(2);
         let in_range = ends.iter().all(|&node| node <= module.highest)
             && labels.iter().all(|&label| label < module.labels);
         refuse_if(!in_range, 7, field.place)?;
-        refuse_if(channel(module.output, ends).is_none(), 8, field.place)?;
-        module.edges.push(Edge {
-            ends,
-            labels: labels.to_vec(),
-        });
+        let edge = edge_of(field.body, module.output).ok_or(refused(8, field))?;
+        module.edges.push(edge);
         Ok(())
     }
 
     fn take_bridge(&mut self, field: &Field) -> Result<(), Refusal> {
-        refuse_if(field.body.len() != 4, 5, field.place)?;
         refuse_if(self.circuit.bridges.len() == MOST_BRIDGES, 6, field.place)?;
-        let listed = bridge_in_range(field.body).ok_or(Refusal {
-            number: 7,
-            place: field.place,
-        })?;
+        let listed = bridge_of(field.body).filter(is_in_range);
+        let listed = listed.ok_or(refused(7, field))?;
         self.circuit.bridges.push(listed);
         Ok(())
     }
 
     fn take_instance(&mut self, field: &Field) -> Result<(), Refusal> {
-        let (length, place) = (field.body.len(), field.place);
-        let allowed = length % 2 == 0 && (4..=26).contains(&length);
-        refuse_if(!allowed, 5, place)?;
+        let place = field.place;
         refuse_if(self.circuit.instances.len() == MOST_INSTANCES, 6, place)?;
-        let instance = Instance {
-            type_number: field.body[0],
-            choice: i8::from_be_bytes([field.body[1]]),
-            references: field.body[2..]
-                .chunks_exact(2)
-                .map(|pair| i16::from_be_bytes([pair[0], pair[1]]))
-                .collect(),
-        };
+        let instance = instance_of(field.body);
         let types = 1..=self.circuit.types.len();
         let in_range =
             types.contains(&usize::from(instance.type_number)) && instance.choice >= EXHAUSTIVE;
@@ -213,13 +178,8 @@ impl Reading {
     }
 
     fn take_vector(&mut self, field: &Field) -> Result<(), Refusal> {
-        refuse_if(field.body.len() != self.circuit.inputs, 5, field.place)?;
         refuse_if(self.circuit.vectors.len() == MOST_VECTORS, 6, field.place)?;
-        let vector: Option<Vec<Value>> = field.body.iter().map(|&byte| value_of(byte)).collect();
-        let vector = vector.ok_or(Refusal {
-            number: 7,
-            place: field.place,
-        })?;
+        let vector = vector_of(field.body).ok_or(refused(7, field))?;
         self.circuit.vectors.push(vector);
         Ok(())
     }
@@ -233,29 +193,16 @@ impl Reading {
     }
 }
 
-fn bridge_in_range(body: &[u8]) -> Option<ListedBridge> {
-    let (list, first, second) = (body[0], body[2], body[3]);
-    let (kind, second_fits) = match body[1] {
-        0 => (Kind::Nodes, second <= HIGHEST_NODE && first != second),
-        1 => (Kind::Label, second < MOST_LABELS),
-        _ => return None,
-    };
-    let in_range = (1..=HIGHEST_LIST).contains(&list) && first <= HIGHEST_NODE && second_fits;
-    in_range.then_some(ListedBridge {
-        list,
-        bridge: Bridge {
-            kind,
-            first,
-            second,
-        },
-    })
+fn refused(number: u8, field: &Field) -> Refusal {
+    let place = field.place;
+    Refusal { number, place }
 }
 
-fn value_of(byte: u8) -> Option<Value> {
-    match byte {
-        b'0' => Some(Value::Zero),
-        b'1' => Some(Value::One),
-        b'X' => Some(Value::X),
-        _ => None,
-    }
+fn is_in_range(listed: &ListedBridge) -> bool {
+    let bridge = &listed.bridge;
+    let second_fits = match bridge.kind {
+        Kind::Nodes => bridge.second <= HIGHEST_NODE && bridge.first != bridge.second,
+        Kind::Label => bridge.second < MOST_LABELS,
+    };
+    (1..=HIGHEST_LIST).contains(&listed.list) && bridge.first <= HIGHEST_NODE && second_fits
 }

@@ -1,8 +1,8 @@
 //! The report of a grading, byte for byte: a first line and a line for each row,
 //! or the one line of a refusal.
 
+use crate::format::MOST_FAULTS;
 use crate::grade::{grade, Graded, Row, WORDS_A_ROW};
-use crate::read::MOST_FAULTS;
 use crate::refusal::Refusal;
 
 /// Grades with buffers that are long enough for every accepted file.
@@ -12,18 +12,25 @@ pub fn report_of(bytes: &[u8]) -> String {
 
 pub fn report(answer: &Result<Graded, Refusal>) -> String {
     match answer {
-        Ok(graded) => {
-            let rows: String = graded.rows.iter().map(row_line).collect();
-            format!(
-                "vectors {} faults {} classes {} found {}\n{rows}",
-                graded.vectors,
-                graded.rows.len(),
-                graded.classes,
-                graded.found
-            )
-        }
+        Ok(graded) => lines(graded).concat(),
         Err(refusal) => refusal.line(),
     }
+}
+
+fn lines(graded: &Graded) -> Vec<String> {
+    let mut lines = vec![counts_line(graded)];
+    lines.extend(graded.rows.iter().map(row_line));
+    lines
+}
+
+fn counts_line(graded: &Graded) -> String {
+    format!(
+        "vectors {} faults {} classes {} found {}\n",
+        graded.vectors,
+        graded.rows.len(),
+        graded.classes,
+        graded.found
+    )
 }
 
 fn row_line(row: &Row) -> String {

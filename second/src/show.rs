@@ -4,6 +4,7 @@
 use std::fmt::Display;
 
 use crate::circuit::{Circuit, Edge, Instance, ListedBridge, ModuleType, Value};
+use crate::format::Tag;
 use crate::read::read_to_refusal;
 
 pub fn show_of(bytes: &[u8]) -> String {
@@ -15,7 +16,7 @@ pub fn show_of(bytes: &[u8]) -> String {
 fn show(circuit: &Circuit) -> String {
     let mut lines = String::new();
     if circuit.inputs > 0 {
-        lines += &line("inputs", [circuit.inputs]);
+        lines += &line(Tag::Inputs, &circuit.inputs.to_string());
     }
     for (index, module) in circuit.types.iter().enumerate() {
         lines += &type_line(index + 1, module);
@@ -31,33 +32,38 @@ fn show(circuit: &Circuit) -> String {
     lines
 }
 
-fn line(word: &str, rest: impl IntoIterator<Item = impl Display>) -> String {
-    let rest: String = rest.into_iter().map(|item| format!(" {item}")).collect();
-    format!("{word}{rest}\n")
+fn line(tag: Tag, rest: &str) -> String {
+    format!("{} {rest}\n", tag.word())
+}
+
+fn spaced(numbers: impl IntoIterator<Item = impl Display>) -> String {
+    let words: Vec<String> = numbers.into_iter().map(|n| n.to_string()).collect();
+    words.join(" ")
 }
 
 fn type_line(number: usize, module: &ModuleType) -> String {
     let numbers = [module.highest, module.output, module.labels];
-    line(&format!("type {number}"), numbers)
+    line(Tag::Type, &format!("{number} {}", spaced(numbers)))
 }
 
 fn edge_line(edge: &Edge) -> String {
-    line("edge", edge.ends.iter().chain(&edge.labels))
+    line(Tag::Edge, &spaced(edge.ends.iter().chain(&edge.labels)))
 }
 
 fn bridge_line(listed: &ListedBridge) -> String {
-    let bridge = &listed.bridge;
-    let word = format!("bridge {} {}", listed.list, bridge.kind.letter());
-    line(&word, [bridge.first, bridge.second])
+    let (list, bridge) = (listed.list, &listed.bridge);
+    let (kind, ends) = (bridge.kind.letter(), [bridge.first, bridge.second]);
+    line(Tag::Bridge, &format!("{list} {kind} {}", spaced(ends)))
 }
 
 fn instance_line(number: usize, instance: &Instance) -> String {
     let (module, choice) = (instance.type_number, instance.choice);
-    let word = format!("instance {number} {module} {choice}");
-    line(&word, &instance.references)
+    let references = spaced(&instance.references);
+    let rest = format!("{number} {module} {choice} {references}");
+    line(Tag::Instance, &rest)
 }
 
 fn vector_line(number: usize, vector: &[Value]) -> String {
     let letters: String = vector.iter().map(|value| value.letter()).collect();
-    line("vector", [number.to_string(), letters])
+    line(Tag::Vector, &format!("{number} {letters}"))
 }

@@ -1,8 +1,8 @@
 //! Damages to one field that know its tag: numbers one past their range, broken
 //! channel rules, wrong references, lists that are empty or do not fit.
 
+use crate::format::{Tag, HIGHEST_LIST, HIGHEST_NODE, MOST_INPUTS, MOST_LABELS, MOST_TYPES};
 use crate::random::Random;
-use crate::read::{HIGHEST_NODE, MOST_LABELS};
 use crate::write::LooseField;
 
 type Fields = Vec<LooseField>;
@@ -12,13 +12,13 @@ pub fn spoil(random: &mut Random, fields: &mut Fields, index: usize) {
     if fields[index].body.is_empty() || random.one_in(8) {
         return spoil_length(random, &mut fields[index]);
     }
-    match fields[index].tag {
-        1 => spoil_inputs(random, &mut fields[index].body),
-        2 => spoil_type(random, &mut fields[index].body),
-        3 => spoil_edge(random, fields, index),
-        4 => spoil_bridge(random, &mut fields[index].body),
-        5 => spoil_instance(random, fields, index),
-        _ => spoil_vector(random, &mut fields[index].body),
+    match Tag::of(fields[index].tag) {
+        Some(Tag::Inputs) => spoil_inputs(random, &mut fields[index].body),
+        Some(Tag::Type) => spoil_type(random, &mut fields[index].body),
+        Some(Tag::Edge) => spoil_edge(random, fields, index),
+        Some(Tag::Bridge) => spoil_bridge(random, &mut fields[index].body),
+        Some(Tag::Instance) => spoil_instance(random, fields, index),
+        Some(Tag::Vector) | None => spoil_vector(random, &mut fields[index].body),
     }
 }
 
@@ -45,7 +45,8 @@ fn put(body: &mut [u8], place: usize, byte: u8) {
 }
 
 fn spoil_inputs(random: &mut Random, body: &mut Vec<u8>) {
-    let inputs: u16 = random.pick(&[0, 65, 66, 256, 320, u16::MAX]);
+    let past = MOST_INPUTS as u16 + 1;
+    let inputs: u16 = random.pick(&[0, past, past + 1, 256, 320, u16::MAX]);
     *body = inputs.to_be_bytes().to_vec();
 }
 
@@ -63,7 +64,7 @@ fn spoil_type(random: &mut Random, body: &mut [u8]) {
 fn numbers_before(fields: &Fields, index: usize) -> [u8; 3] {
     let types = fields[..index].iter().rev();
     types
-        .filter(|field| field.tag == 2)
+        .filter(|field| field.is(Tag::Type))
         .find_map(|field| field.body.clone().try_into().ok())
         .unwrap_or([2, 2, 1])
 }
@@ -73,13 +74,17 @@ fn spoil_edge(random: &mut Random, fields: &mut Fields, index: usize) {
     let body = &mut fields[index].body;
     let end = random.below(2);
     match random.below(7) {
-        0 => put(body, end, random.pick(&[highest.wrapping_add(1), 32, 255])),
+        0 => put(
+            body,
+            end,
+            random.pick(&[highest.wrapping_add(1), HIGHEST_NODE + 1, 255]),
+        ),
         1 => {
             let place = random.between(2, body.len().max(3) - 1);
             put(
                 body,
                 place,
-                random.pick(&[labels, labels.wrapping_add(1), 12, 255]),
+                random.pick(&[labels, labels.wrapping_add(1), MOST_LABELS, 255]),
             );
         }
         2 => {
@@ -104,10 +109,18 @@ fn spoil_edge(random: &mut Random, fields: &mut Fields, index: usize) {
 
 fn spoil_bridge(random: &mut Random, body: &mut [u8]) {
     match random.below(6) {
-        0 => put(body, 0, random.pick(&[0, 128, 255])),
+        0 => put(body, 0, random.pick(&[0, HIGHEST_LIST + 1, 255])),
         1 => put(body, 1, random.pick(&[2, 3, 255])),
-        2 => put(body, 2, random.pick(&[32, 33, 255])),
-        3 => put(body, 3, random.pick(&[12, 31, 32, 255])),
+        2 => put(
+            body,
+            2,
+            random.pick(&[HIGHEST_NODE + 1, HIGHEST_NODE + 2, 255]),
+        ),
+        3 => put(
+            body,
+            3,
+            random.pick(&[MOST_LABELS, HIGHEST_NODE, HIGHEST_NODE + 1, 255]),
+        ),
         4 => {
             let first = body.get(2).copied().unwrap_or(0);
             put(body, 3, first);
@@ -119,8 +132,8 @@ fn spoil_bridge(random: &mut Random, body: &mut [u8]) {
 fn spoil_instance(random: &mut Random, fields: &mut Fields, index: usize) {
     match random.below(7) {
         0 => {
-            let types = fields.iter().filter(|field| field.tag == 2).count() as u8;
-            let number = random.pick(&[0, types.wrapping_add(1), 17, 255]);
+            let types = fields.iter().filter(|field| field.is(Tag::Type)).count() as u8;
+            let number = random.pick(&[0, types.wrapping_add(1), MOST_TYPES as u8 + 1, 255]);
             put(&mut fields[index].body, 0, number);
         }
         1 => {
@@ -145,7 +158,7 @@ fn spoil_reference_count(random: &mut Random, body: &mut Vec<u8>) {
 fn spoil_reference(random: &mut Random, fields: &mut Fields, index: usize) {
     let own = fields[..=index]
         .iter()
-        .filter(|field| field.tag == 5)
+        .filter(|field| field.is(Tag::Instance))
         .count() as i16;
     let inputs = i16::from(fields[0].body.get(1).copied().unwrap_or(1));
     let references = (fields[index].body.len() / 2).max(2) - 1;
@@ -159,13 +172,13 @@ fn spoil_reference(random: &mut Random, fields: &mut Fields, index: usize) {
 fn has_list(fields: &Fields, list: u8) -> bool {
     fields
         .iter()
-        .any(|field| field.tag == 4 && field.body.first() == Some(&list))
+        .any(|field| field.is(Tag::Bridge) && field.body.first() == Some(&list))
 }
 
 fn choose_empty_list(random: &mut Random, fields: &mut Fields, index: usize) {
-    let start = random.below(127) as u8;
-    let empty = (0..127)
-        .map(|step| (start + step) % 127 + 1)
+    let start = random.below(usize::from(HIGHEST_LIST)) as u8;
+    let empty = (0..HIGHEST_LIST)
+        .map(|step| (start + step) % HIGHEST_LIST + 1)
         .find(|&list| !has_list(fields, list));
     if let Some(list) = empty {
         put(&mut fields[index].body, 1, list);
@@ -176,7 +189,7 @@ fn choose_empty_list(random: &mut Random, fields: &mut Fields, index: usize) {
 /// among the bridges.
 fn unfit_list(random: &mut Random, fields: &mut Fields, index: usize) {
     let number = usize::from(fields[index].body[0]);
-    let mut types = fields.iter().filter(|field| field.tag == 2);
+    let mut types = fields.iter().filter(|field| field.is(Tag::Type));
     let Some(module) = types.nth(number.max(1) - 1) else {
         return;
     };
@@ -184,8 +197,8 @@ fn unfit_list(random: &mut Random, fields: &mut Fields, index: usize) {
         return;
     };
     let list = match fields[index].body.get(1) {
-        Some(&choice @ 1..=127) => choice,
-        _ => random.between(1, 127) as u8,
+        Some(&choice @ 1..=HIGHEST_LIST) => choice,
+        _ => random.between(1, usize::from(HIGHEST_LIST)) as u8,
     };
     let past = (highest.saturating_add(1)).min(HIGHEST_NODE);
     let body = match random.below(3) {
@@ -194,9 +207,9 @@ fn unfit_list(random: &mut Random, fields: &mut Fields, index: usize) {
         _ => vec![list, 1, 0, labels.min(MOST_LABELS - 1)],
     };
     put(&mut fields[index].body, 1, list);
-    let first_instance = fields.iter().position(|field| field.tag == 5);
+    let first_instance = fields.iter().position(|field| field.is(Tag::Instance));
     let place = first_instance.unwrap_or(index);
-    fields.insert(place, LooseField::new(4, body));
+    fields.insert(place, LooseField::new(Tag::Bridge, body));
 }
 
 fn spoil_vector(random: &mut Random, body: &mut [u8]) {

@@ -1,11 +1,11 @@
 //! Recipes for complementary module types: series-parallel ones with their
 //! duals, bridge networks, mirror adders, cut networks and types found by search.
 
-use crate::circuit::ModuleType;
-use crate::conduction::{is_complementary, Channel};
+use crate::circuit::{Channel, ModuleType};
+use crate::conduction::is_complementary;
+use crate::format::{HIGHEST_NODE, MOST_EDGES, MOST_LABELS};
 use crate::networks::{minimal_cuts, rails, Sketch, Tree};
 use crate::random::Random;
-use crate::read::{HIGHEST_NODE, MOST_EDGES, MOST_LABELS};
 
 /// The search for shortcuts judges many types, so their settings are kept few.
 const MOST_SEARCHED_LABELS: u8 = 6;

@@ -1,7 +1,8 @@
 //! A circuit written as loose fields and then as bytes. Loose fields may be
 //! changed in between, and may state a length that is not their body's.
 
-use crate::circuit::{Circuit, Instance, Kind, ListedBridge, ModuleType, Value};
+use crate::circuit::{Circuit, Instance, ListedBridge, ModuleType, Value};
+use crate::format::Tag;
 
 #[derive(Clone, Debug, PartialEq, Eq)]
 pub struct LooseField {
@@ -11,12 +12,16 @@ pub struct LooseField {
 }
 
 impl LooseField {
-    pub fn new(tag: u8, body: Vec<u8>) -> LooseField {
+    pub fn new(tag: Tag, body: Vec<u8>) -> LooseField {
         LooseField {
-            tag,
+            tag: tag.byte(),
             body,
             stated_length: None,
         }
+    }
+
+    pub fn is(&self, tag: Tag) -> bool {
+        self.tag == tag.byte()
     }
 }
 
@@ -33,7 +38,7 @@ pub fn bytes_of(fields: &[LooseField]) -> Vec<u8> {
 
 pub fn fields_of(circuit: &Circuit) -> Vec<LooseField> {
     let inputs = (circuit.inputs as u16).to_be_bytes();
-    let mut fields = vec![LooseField::new(1, inputs.to_vec())];
+    let mut fields = vec![LooseField::new(Tag::Inputs, inputs.to_vec())];
     for module in &circuit.types {
         fields.extend(type_fields(module));
     }
@@ -45,22 +50,19 @@ pub fn fields_of(circuit: &Circuit) -> Vec<LooseField> {
 
 pub fn type_fields(module: &ModuleType) -> Vec<LooseField> {
     let numbers = vec![module.highest, module.output, module.labels];
-    let mut fields = vec![LooseField::new(2, numbers)];
+    let mut fields = vec![LooseField::new(Tag::Type, numbers)];
     for edge in &module.edges {
         let mut body = edge.ends.to_vec();
         body.extend_from_slice(&edge.labels);
-        fields.push(LooseField::new(3, body));
+        fields.push(LooseField::new(Tag::Edge, body));
     }
     fields
 }
 
 pub fn bridge_field(listed: &ListedBridge) -> LooseField {
-    let kind = match listed.bridge.kind {
-        Kind::Nodes => 0,
-        Kind::Label => 1,
-    };
-    let body = vec![listed.list, kind, listed.bridge.first, listed.bridge.second];
-    LooseField::new(4, body)
+    let bridge = &listed.bridge;
+    let body = vec![listed.list, bridge.kind.byte(), bridge.first, bridge.second];
+    LooseField::new(Tag::Bridge, body)
 }
 
 pub fn instance_field(instance: &Instance) -> LooseField {
@@ -69,10 +71,10 @@ pub fn instance_field(instance: &Instance) -> LooseField {
     for reference in &instance.references {
         body.extend_from_slice(&reference.to_be_bytes());
     }
-    LooseField::new(5, body)
+    LooseField::new(Tag::Instance, body)
 }
 
 pub fn vector_field(vector: &[Value]) -> LooseField {
     let letters: String = vector.iter().map(|value| value.letter()).collect();
-    LooseField::new(6, letters.into_bytes())
+    LooseField::new(Tag::Vector, letters.into_bytes())
 }

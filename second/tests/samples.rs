@@ -3,8 +3,8 @@
 
 mod support;
 
-use second::circuit::{Bridge, Circuit, Edge, Kind, ModuleType, Value};
-use second::conduction::{channel, output_value, Channel, Graph, GROUND, SUPPLY};
+use second::circuit::{Bridge, Circuit, Kind, ModuleType, Value};
+use second::conduction::{is_on, output_value, Graph, GROUND, SUPPLY};
 use second::grade::{Graded, Row};
 use second::read::read;
 use second::report::report_of;
@@ -131,15 +131,7 @@ fn tied() {
 
 /// Each value that the output has with the short closed, by paths that pass no rail.
 fn outputs_with(module: &ModuleType, labels: &[Value], short: [u8; 2]) -> Vec<Value> {
-    let is_on = |edge: &Edge| {
-        let needed = match channel(module.output, edge.ends) {
-            Some(Channel::P) => Value::Zero,
-            _ => Value::One,
-        };
-        let is_needed = |&label: &u8| labels[usize::from(label)] == needed;
-        edge.labels.iter().any(is_needed)
-    };
-    let on_edges = module.edges.iter().filter(|edge| is_on(edge));
+    let on_edges = module.edges.iter().filter(|edge| is_on(edge, labels));
     let mut wires: Vec<[u8; 2]> = on_edges.map(|edge| edge.ends).collect();
     wires.push(short);
     let mut reached = vec![module.output];

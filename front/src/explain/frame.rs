@@ -1,8 +1,9 @@
 //! Refusals that hang on the frame of a file and not on what a field says: its
 //! length, cut fields, tags, their order, lengths of fields, counts, and the end.
 
-use second::read::{
-    LONGEST_FILE, MOST_BRIDGES, MOST_EDGES, MOST_INSTANCES, MOST_TYPES, MOST_VECTORS,
+use second::format::{
+    Tag, HEAD, LONGEST_FILE, MOST_BRIDGES, MOST_EDGES, MOST_INSTANCES, MOST_LABELS, MOST_PARALLEL,
+    MOST_TYPES, MOST_VECTORS,
 };
 
 use super::before::Before;
@@ -17,30 +18,27 @@ fn left_over(bytes: usize) -> String {
 }
 
 /// What a field of this tag says.
-fn meaning(tag: u8) -> Option<&'static str> {
+fn meaning(tag: Tag) -> &'static str {
     match tag {
-        1 => Some("the number of inputs"),
-        2 => Some("a type"),
-        3 => Some("an edge"),
-        4 => Some("a bridge"),
-        5 => Some("an instance"),
-        6 => Some("a vector"),
-        _ => None,
+        Tag::Inputs => "the number of inputs",
+        Tag::Type => "a type",
+        Tag::Edge => "an edge",
+        Tag::Bridge => "a bridge",
+        Tag::Instance => "an instance",
+        Tag::Vector => "a vector",
     }
 }
 
-fn tag_meaning(tag: u8) -> String {
-    match meaning(tag) {
-        Some(name) => format!("{tag} ({name})"),
-        None => tag.to_string(),
+/// A tag byte, with what it means if it is one.
+fn tag_meaning(byte: u8) -> String {
+    match Tag::of(byte) {
+        Some(tag) => format!("{byte} ({})", meaning(tag)),
+        None => byte.to_string(),
     }
 }
 
-fn tag_name(tag: u8) -> String {
-    match meaning(tag) {
-        Some(name) => format!("{name} (tag {tag})"),
-        None => format!("tag {tag}"),
-    }
+fn tag_name(tag: Tag) -> String {
+    format!("{} (tag {})", meaning(tag), tag.byte())
 }
 
 pub fn too_long() -> (String, Told) {
@@ -62,7 +60,7 @@ pub fn cut_short(before: &Before, left: &[u8], place: usize) -> (String, Told) {
             left_over(body.len()),
         ),
         _ => format!(
-            "{} left in the file, but a tag with its length takes 3.",
+            "{} left in the file, but a tag with its length takes {HEAD}.",
             left_over(left.len())
         ),
     };
@@ -70,21 +68,21 @@ pub fn cut_short(before: &Before, left: &[u8], place: usize) -> (String, Told) {
 }
 
 pub fn unknown_tag(scene: &Scene) -> Told {
-    let rule = "a field begins with its tag: 1 the number of inputs, 2 a type, 3 an edge, \
-                4 a bridge, 5 an instance, 6 a vector.";
+    let tags = Tag::ALL.map(|tag| format!("{} {}", tag.byte(), meaning(tag)));
+    let rule = format!("a field begins with its tag: {}.", tags.join(", "));
     Told::new(rule, format!("the tag is {}.", scene.field.tag))
 }
 
 pub fn out_of_order(scene: &Scene) -> Told {
-    let this = tag_name(scene.field.tag);
+    let this = tag_name(scene.tag());
     let Some(latest) = scene.before.latest_tag else {
         let rule = "a file begins with the number of inputs (tag 1).";
         return Told::new(rule, format!("it begins with {this}."));
     };
-    let rule = match scene.field.tag {
-        1 => "the number of inputs (tag 1) stands once, at the start of the file.",
-        3 => "an edge stands right after its type or after another edge of that type.",
-        _ => {
+    let rule = match scene.tag() {
+        Tag::Inputs => "the number of inputs (tag 1) stands once, at the start of the file.",
+        Tag::Edge => "an edge stands right after its type or after another edge of that type.",
+        Tag::Type | Tag::Bridge | Tag::Instance | Tag::Vector => {
             "after the number of inputs come the types with their edges, then the bridges, \
               then the instances, then the vectors."
         }
@@ -95,30 +93,38 @@ pub fn out_of_order(scene: &Scene) -> Told {
 
 pub fn wrong_length(scene: &Scene) -> Told {
     let inputs = scene.before.circuit.inputs;
-    let rule = match scene.field.tag {
-        1 => "the number of inputs takes 2 bytes.".to_string(),
-        2 => "a type takes 3 bytes: highest node, output node, number of labels.".to_string(),
-        3 => "an edge takes 3 to 6 bytes: two nodes and 1 to 4 labels.".to_string(),
-        4 => "a bridge takes 4 bytes: list, kind, first and second end.".to_string(),
-        5 => "an instance takes an even number of bytes from 4 to 26: a type, a list choice, \
-              and 2 bytes for each reference."
-            .to_string(),
-        _ => format!("a vector takes 1 byte for each primary input, here {inputs}."),
+    let rule = match scene.tag() {
+        Tag::Inputs => "the number of inputs takes 2 bytes.".to_string(),
+        Tag::Type => {
+            "a type takes 3 bytes: highest node, output node, number of labels.".to_string()
+        }
+        Tag::Edge => format!(
+            "an edge takes 3 to {} bytes: two nodes and 1 to {MOST_PARALLEL} labels.",
+            2 + MOST_PARALLEL
+        ),
+        Tag::Bridge => "a bridge takes 4 bytes: list, kind, first and second end.".to_string(),
+        Tag::Instance => format!(
+            "an instance takes an even number of bytes from 4 to {}: a type, a list choice, and \
+             2 bytes for each reference.",
+            2 + 2 * MOST_LABELS
+        ),
+        Tag::Vector => format!("a vector takes 1 byte for each primary input, here {inputs}."),
     };
     let length = count(scene.field.body.len(), "byte");
     Told::new(rule, format!("its length says {length}."))
 }
 
 pub fn one_too_many(scene: &Scene) -> Told {
-    let (owner, most, things) = match scene.field.tag {
-        2 => ("a file", MOST_TYPES, "types"),
-        3 => ("a type", MOST_EDGES, "edges"),
-        4 => ("a file", MOST_BRIDGES, "bridges"),
-        5 => ("a file", MOST_INSTANCES, "instances"),
-        _ => ("a file", MOST_VECTORS, "vectors"),
+    let (owner, most, things) = match scene.tag() {
+        Tag::Type => ("a file", MOST_TYPES, "types"),
+        Tag::Edge => ("a type", MOST_EDGES, "edges"),
+        Tag::Bridge => ("a file", MOST_BRIDGES, "bridges"),
+        Tag::Instance => ("a file", MOST_INSTANCES, "instances"),
+        Tag::Vector => ("a file", MOST_VECTORS, "vectors"),
+        Tag::Inputs => unreachable!("a second number of inputs is out of order"),
     };
     let rule = format!("{owner} has at most {most} {things}.");
-    let this = scene.before.next_of(scene.field.tag);
+    let this = scene.before.next_of(scene.tag());
     Told::new(rule, format!("this is {this}."))
 }
 

@@ -1,14 +1,14 @@
 //! Refusals 10 to 13: references that lead nowhere, and lists that do not fit the
 //! type, are empty or bring too many faults.
 
+use second::bodies::instance_of;
 use second::circuit::{Bridge, Instance, Kind, ModuleType};
 use second::faults::{faults_of, fits};
-use second::read::MOST_FAULTS;
+use second::format::{HEAD, MOST_FAULTS};
 
-use super::before::instance_of;
 use super::{count, has, listed, range, sentence, span, Scene, Told};
 
-const BRIDGE_FIELD: usize = 7;
+const BRIDGE_FIELD: usize = HEAD + 4;
 
 impl Scene<'_> {
     fn instance(&self) -> (Instance, &ModuleType) {

@@ -1,23 +1,22 @@
 //! Refusal 7: numbers and letters outside their ranges. Every one that is outside
 //! is told.
 
+use second::bodies::{inputs_of, instance_of, value_of};
+use second::circuit::Kind;
 use second::faults::EXHAUSTIVE;
-use second::read::{HIGHEST_NODE, MOST_INPUTS, MOST_LABELS};
+use second::format::{Tag, HIGHEST_LIST, HIGHEST_NODE, MOST_INPUTS, MOST_LABELS};
 
-use super::before::instance_of;
 use super::{has, range, sentence, Scene, Told};
-
-const HIGHEST_LIST: u8 = 127;
 
 pub fn out_of_range(scene: &Scene) -> Told {
     let body = scene.field.body;
-    let (rule, slips) = match scene.field.tag {
-        1 => inputs(body),
-        2 => module(body),
-        3 => edge(scene, body),
-        4 => bridge(body),
-        5 => instance(scene, body),
-        _ => vector(body),
+    let (rule, slips) = match scene.tag() {
+        Tag::Inputs => inputs(body),
+        Tag::Type => module(body),
+        Tag::Edge => edge(scene, body),
+        Tag::Bridge => bridge(body),
+        Tag::Instance => instance(scene, body),
+        Tag::Vector => vector(body),
     };
     Told::new(rule, sentence(slips))
 }
@@ -31,7 +30,7 @@ fn slips<const N: usize>(values: [(&str, u8, bool); N]) -> Vec<String> {
 }
 
 fn inputs(body: &[u8]) -> (String, Vec<String>) {
-    let inputs = u16::from_be_bytes([body[0], body[1]]);
+    let inputs = inputs_of(body);
     let rule = format!("the number of primary inputs is 1 to {MOST_INPUTS}.");
     (rule, vec![format!("it is {inputs}")])
 }
@@ -88,18 +87,19 @@ fn bridge(body: &[u8]) -> (String, Vec<String>) {
          0 to {HIGHEST_NODE}, or kind 1, a node of 0 to {HIGHEST_NODE} and a label of 0 to {}.",
         MOST_LABELS - 1
     );
-    let (second_name, second_fits) = match kind {
-        0 => ("the second node", second <= HIGHEST_NODE),
-        1 => ("the label", second < MOST_LABELS),
-        _ => ("the second end", true),
+    let known_kind = Kind::of(kind);
+    let (second_name, second_fits) = match known_kind {
+        Some(Kind::Nodes) => ("the second node", second <= HIGHEST_NODE),
+        Some(Kind::Label) => ("the label", second < MOST_LABELS),
+        None => ("the second end", true),
     };
     let mut slips = slips([
         ("the list", list, (1..=HIGHEST_LIST).contains(&list)),
-        ("the kind", kind, kind <= 1),
+        ("the kind", kind, known_kind.is_some()),
         ("the first node", first, first <= HIGHEST_NODE),
         (second_name, second, second_fits),
     ]);
-    if kind == 0 && first == second {
+    if known_kind == Some(Kind::Nodes) && first == second {
         slips.push(format!("both ends are node {first}"));
     }
     (rule, slips)
@@ -108,7 +108,9 @@ fn bridge(body: &[u8]) -> (String, Vec<String>) {
 fn instance(scene: &Scene, body: &[u8]) -> (String, Vec<String>) {
     let types = scene.before.circuit.types.len();
     let instance = instance_of(body);
-    let choice = "a list choice: -1 (all bridges), 0 (none) or a list, 1 to 127";
+    let choice = format!(
+        "a list choice: {EXHAUSTIVE} (all bridges), 0 (none) or a list, 1 to {HIGHEST_LIST}"
+    );
     let rule = match types {
         0 => format!("an instance has the number of a type, and {choice}."),
         _ => format!(
@@ -132,7 +134,7 @@ fn vector(body: &[u8]) -> (String, Vec<String>) {
     let rule = "each byte of a vector is one of the letters `0` (byte 48), `1` (49) and `X` (88).";
     let wrong = body.iter().enumerate();
     let slips = wrong
-        .filter(|(_, byte)| !b"01X".contains(byte))
+        .filter(|(_, byte)| value_of(**byte).is_none())
         .map(|(index, byte)| format!("primary input {} has {}", index + 1, letter(*byte)))
         .collect();
     (rule.to_string(), slips)

@@ -1,11 +1,12 @@
 //! Refusals 8 and 9: an edge that has no channel, and a type whose output is joined
 //! to both rails or to neither under some setting of its labels.
 
+use second::bodies::{edge_of, module_of};
 use second::circuit::ModuleType;
-use second::conduction::{channel, Channel, GROUND, SUPPLY};
-use second::fields::cut;
+use second::conduction::{is_on, values_in, GROUND, SUPPLY};
+use second::fields::{cut, Field};
+use second::format::Tag;
 
-use super::before::{edge_of, module_of};
 use super::{count, listed, span, Scene, Told};
 
 pub fn no_channel(scene: &Scene) -> Told {
@@ -39,11 +40,15 @@ pub fn no_channel(scene: &Scene) -> Told {
 pub fn not_complementary(scene: &Scene, bytes: &[u8]) -> (String, Told) {
     let mut module = module_of(scene.field.body);
     let mut end = scene.field.end();
-    while let Some(edge) = cut(bytes, end).ok().filter(|next| next.tag == 3) {
-        module.edges.push(edge_of(edge.body));
-        end = edge.end();
+    let is_edge = |next: &Field| Tag::of(next.tag).is_some_and(Tag::is_edge);
+    while let Some(next) = cut(bytes, end).ok().filter(is_edge) {
+        let edge = edge_of(next.body, module.output);
+        module
+            .edges
+            .push(edge.expect("an edge of a type that is judged has a channel"));
+        end = next.end();
     }
-    let name = scene.before.next_of(scene.field.tag);
+    let name = scene.before.next_of(scene.tag());
     let place = span(scene.field.place, scene.field.end());
     let field = match module.edges.len() {
         0 => format!("{name}, {place}, without edges"),
@@ -114,33 +119,18 @@ fn path(module: &ModuleType, setting: u32, rail: u8) -> Option<Vec<u8>> {
 }
 
 fn on_edges(module: &ModuleType, setting: u32) -> Vec<[u8; 2]> {
-    let edges = module.edges.iter().filter(|edge| {
-        let needed = match channel(module.output, edge.ends) {
-            Some(Channel::P) => 0,
-            _ => 1,
-        };
-        let mut labels = edge.labels.iter();
-        labels.any(|&label| setting >> label & 1 == needed)
-    });
-    edges.map(|edge| edge.ends).collect()
+    let values = values_in(module, setting);
+    let on = module.edges.iter().filter(|edge| is_on(edge, &values));
+    on.map(|edge| edge.ends).collect()
 }
 
 #[cfg(test)]
 mod tests {
-    use second::circuit::Value;
     use second::conduction::Graph;
     use second::random::Random;
     use second::types::gate_type;
 
     use super::*;
-
-    fn values(module: &ModuleType, setting: u32) -> Vec<Value> {
-        let value = |label: u8| match setting >> label & 1 {
-            0 => Value::Zero,
-            _ => Value::One,
-        };
-        (0..module.labels).map(value).collect()
-    }
 
     /// Paths are where the second program finds nodes joined, and are of on edges.
     #[test]
@@ -150,7 +140,7 @@ mod tests {
             let mut module = gate_type(&mut random);
             module.edges.pop();
             for setting in 0..1 << module.labels {
-                let graph = Graph::of_on_edges(&module, &values(&module, setting));
+                let graph = Graph::of_on_edges(&module, &values_in(&module, setting));
                 let on = on_edges(&module, setting);
                 for rail in [SUPPLY, GROUND] {
                     let found = path(&module, setting, rail);

@@ -62,7 +62,7 @@ static int measure(void)
 
 int main(void)
 {
-    static uint8_t long_file[INPUT_MOST_BYTES + 1];
+    static uint8_t long_file[TOGYAMIRU_MOST_BYTES + 1];
     grade(); /* so that the loader has bound what the library calls, which takes stack too */
     printf("stack used by togyamiru_grade and togyamiru_rows, in bytes\n");
     input = (struct input){"long", "one byte too long, refused at once", long_file, sizeof long_file};

@@ -3,7 +3,10 @@
 use std::io::{Read, Write};
 use std::process::ExitCode;
 
-// As `include/togyamiru.h` has it, with what a caller owes.
+// As `include/togyamiru.h` has them, with what a caller owes.
+const MOST_FAULTS: usize = 2048;
+const WORDS_A_FAULT: usize = 4;
+
 #[link(name = "togyamiru", kind = "static")]
 extern "C" {
     fn togyamiru_grade(file: *const u8, file_length: usize, matrix: *mut u64, matrix_words: usize, classes: *mut u16, class_entries: usize, answer: *mut u64);
@@ -19,7 +22,7 @@ fn file_named(name: Option<&String>) -> std::io::Result<Vec<u8>> {
 }
 
 fn grade(file: &[u8]) -> [u64; 6] {
-    let (mut matrix, mut classes, mut answer) = (vec![0; 4 * 2048], vec![0; 2048], [0; 6]);
+    let (mut matrix, mut classes, mut answer) = (vec![0; WORDS_A_FAULT * MOST_FAULTS], vec![0; MOST_FAULTS], [0; 6]);
     // SAFETY: the pointers are those of a slice, two vectors and an array that live through the call, each with its own length.
     unsafe { togyamiru_grade(file.as_ptr(), file.len(), matrix.as_mut_ptr(), matrix.len(), classes.as_mut_ptr(), classes.len(), answer.as_mut_ptr()) };
     answer

@@ -16,7 +16,7 @@ use Rattle.circuit.specs.Circuit.{Circuit, joinLists}
 use Rattle.circuit.specs.Known.{start, Tag, inputs-tag, type-tag, edge-tag, bridge-tag, instance-tag, vector-tag, no-tag, tagOf, letterOf, vectorIn, taken}
 use Rattle.circuit.specs.Reading.{readingOf}
 use Rattle.grading.specs.Rows.{Row, rowsOf, CellMarked}
-use Rattle.grading.specs.Classes.{largest, classesOf, classCount}
+use Rattle.grading.specs.Classes.{largest, classesOf}
 use Rattle.grading.specs.Grading as grading
 use Rattle.grading.specs.Promise.{countsOf}
 use Rattle.demands.specs.Calls.{Call, Accepts, GradedAs, cellAt}
@@ -232,7 +232,6 @@ module _ (one other : Call) (bodies otherBodies : List (List ℕ)) (graded : Gra
       cell-marked other d as-d (otherCell r w l k) .1 (marked-alike (vectorOf d w) r marked)
 
   rows : SameRows one other
-  unfolding classCount
   rows =
       let same = same-rows c d (read .alike) in
       record {

@@ -20,7 +20,7 @@ use Rattle.circuit.specs.Table.{firstOf, misplaced, isEdge, unjudged, notComple
 use Rattle.circuit.specs.Reading.{unless, readFrom, readingOf}
 use Rattle.grading.specs.Values.{valueAt, labelValues, outputsAfter, outputsOf}
 use Rattle.grading.specs.Rows.{rowsOfInstance, rowsFrom, rowsOf, rowValues, cell, markOf, rowWords, matrixOf}
-use Rattle.grading.specs.Classes.{sameReference, sameLabel, sameBridge, sameClass, classAmongBy, largest, classesAfterBy, classesBy, hasMarkBy, classFoundBy, foundBy, classCount, foundCount}
+use Rattle.grading.specs.Classes.{sameReference, sameLabel, sameBridge, sameClass, classAmongBy, largest, classesAfterBy, classesBy, hasMarkBy, classFoundBy, foundBy, foundCount}
 use Rattle.grading.specs.Grading.{countsOfCircuit, gradingOfCircuit, afterReading, gradingOf, countsIn, numberIn, placeIn, over, matrixAfter, classesAfterGrading}
 use Rattle.grading.specs.Promise as promise
 use Rattle.circuit.specs.Refusals.{refusalNumber}
@@ -37,7 +37,7 @@ unfolding bit pack word sumTo table upTo rowOf choiceByte
     firstOf misplaced isEdge unjudged notComplementary bridgeInRange bridgeSuits isEmpty listUnsuited listEmpty isLetter
     inputsTests typeTests edgeTestsOf edgeTests bridgeTests instanceTests vectorTests bodyTests isUnknown fieldTests endTests
     unless readFrom readingOf valueAt labelValues outputsAfter outputsOf rowsOfInstance rowsFrom rowsOf rowValues cell markOf rowWords matrixOf
-    sameReference sameLabel sameBridge sameClass classAmongBy largest classesAfterBy classesBy hasMarkBy classFoundBy foundBy classCount foundCount
+    sameReference sameLabel sameBridge sameClass classAmongBy largest classesAfterBy classesBy hasMarkBy classFoundBy foundBy foundCount
     countsOfCircuit gradingOfCircuit afterReading gradingOf countsIn numberIn placeIn over matrixAfter classesAfterGrading
 computing = tt
 

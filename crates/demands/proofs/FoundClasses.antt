@@ -87,6 +87,6 @@ module _ (c : Circuit) where
     found-shown n (rowsOf c) (classesOf (rowsOf c)),
     λ s.
         holds (classFound c n (rowsOf c) (classesOf (rowsOf c)))
-        (found-by c n (rowsOf c) (classesOf (rowsOf c)) noRow (s .place) (s .within) (class-numbers c .one-each) (s .of-class)
+        (found-by (length (c .vectors)) (markOf c) n (rowsOf c) (classesOf (rowsOf c)) noRow (s .place) (s .within) (class-numbers c .one-each) (s .of-class)
         (mark-had c (getD (rowsOf c) (s .place) noRow) (s .vector) (s .is-vector) (s .mark))),
   )

@@ -15,7 +15,7 @@ use Rattle.circuit.proofs.CircuitLaws.{getD-any}
 use Rattle.grading.specs.Rows.{Row}
 use Rattle.grading.specs.Classes.{sameReference, sameLabel, sameBridge, sameClass}
 use Rattle.grading.specs.Statements.{RowOf}
-use Rattle.grading.proofs.SameClass.{reference-eq, reference-refl, either, in-first, in-second, same-class-is-equivalence}
+use Rattle.grading.proofs.SameClass.{reference-eq, reference-refl, either, in-first, in-second, one-instance}
 use Rattle.demands.specs.Two.{EqualBridges, OneClass}
 use Rattle.demands.proofs.RowFaults.{label-named}
 
@@ -76,6 +76,6 @@ one-class-is-tested c good r s p q = (
   λ t.
       let parts = both (eqb (r .number) (s .number)) (sameBridge (r .instance) (r .bridge) (s .bridge)) t in
       let same : r .number ≡ s .number = eqb→eq (r .number) (s .number) (parts .0) in
-      let one : r .instance ≡ s .instance = same-class-is-equivalence c .one-instance r s p q same in
+      let one : r .instance ≡ s .instance = one-instance c r s p q same in
       (same, tested-equal (r .instance) (r .bridge) (s .bridge) (label-named c good r p) (rw one (label-named c good s q)) (parts .1)),
 )

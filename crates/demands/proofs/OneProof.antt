@@ -16,7 +16,7 @@ use Rattle.circuit.specs.Reading.{Reading, accepted, refusal, readingOf}
 use Rattle.circuit.specs.Refusals.{refusalNumber, refusalPlace}
 use Rattle.circuit.proofs.Tested.{never-passes}
 use Rattle.grading.specs.Rows.{rowsOf, matrixOf}
-use Rattle.grading.specs.Classes.{classesOf}
+use Rattle.grading.specs.Classes.{sameClass, classesOf}
 use Rattle.grading.specs.Grading.{Grading, graded, noCounts, gradingOf, gradingOfCircuit, afterReading, over, matrixAfter, classesAfterGrading}
 use Rattle.grading.specs.Grading.{refused}
 use Rattle.grading.specs.Promise.{countsOf}
@@ -165,7 +165,7 @@ unfolding matrixOf
 grading-keeps-the-rest call c given =
     let here = gave call c given in
     let words = put-over (matrixOf c) (call .matrix) (4 * length (rowsOf c)) (length-matrix c (rowsOf c)) (here .words) in
-    let entries = put-over (classesOf (rowsOf c)) (call .classes) (length (rowsOf c)) (length-classes (rowsOf c)) (here .entries) in
+    let entries = put-over (classesOf (rowsOf c)) (call .classes) (length (rowsOf c)) (length-classes sameClass (rowsOf c)) (here .entries) in
     record {
       words = rw (here .matrix-is) (words .rest);
       entries = rw (here .classes-are) (entries .rest);

@@ -18,7 +18,7 @@ use Rattle.circuit.specs.Circuit.{Circuit, joinLists}
 use Rattle.circuit.specs.Reading.{Reading}
 use Rattle.circuit.proofs.CircuitLaws.{accepted-is-good}
 use Rattle.grading.specs.Rows.{Row, noRow, rowsOf, cell, markOf}
-use Rattle.grading.specs.Classes.{sameClass, largest, classesOf, hasMarkBy, classFoundBy, foundBy, classCount, foundCount}
+use Rattle.grading.specs.Classes.{sameClass, largest, classesOf, hasMarkBy, classFoundBy, foundBy, foundCount}
 use Rattle.grading.specs.Grading.{Grading, graded, refused, gradingOf, gradingOfCircuit, afterReading, over}
 use Rattle.grading.specs.Promise.{countsOf}
 use Rattle.grading.proofs.MatrixLaws.{word-in}
@@ -142,7 +142,7 @@ module _ (marks : Circuit → Row → ℕ → ℕ) (bits : (c : Circuit) (row : 
 
   pub marks-above : ((file : List ℕ) (c d : Circuit) → Accepts file c → AlikeButVectors c d → Refined (c .vectors) (d .vectors)
       → (row : Row) (v : ℕ) → v < length (c .vectors) → markOf c row v ≤ marks d row v) → MeetsThreeByPaths (marking marks)
-  unfolding markOf foundCount classCount
+  unfolding markOf foundCount
   marks-above above first file matrix classes c d accepts accepts′ t alike refined =
       let more = above first c d accepts alike refined in
       record {

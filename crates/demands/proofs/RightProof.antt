@@ -13,7 +13,7 @@ use Rattle.circuit.specs.Table.{Test, Verdict, passes, refusedAt, firstOf, body
 use Rattle.circuit.specs.Table.{inputsTests, typeTests, edgeTests, edgeTestsOf, bridgeTests, instanceTests, vectorTests}
 use Rattle.circuit.specs.Refusals.{refusalNumber, refusalPlace}
 use Rattle.grading.specs.Rows.{rowWords, matrixOf}
-use Rattle.grading.specs.Classes.{classCount, foundCount}
+use Rattle.grading.specs.Classes.{foundCount}
 use Rattle.grading.specs.Grading.{noCounts, Grading, graded, gradingOf, countsIn, numberIn, placeIn, matrixAfter, classesAfterGrading}
 use Rattle.grading.specs.Grading.{refused}
 use Rattle.grading.specs.Grading as grading
@@ -100,7 +100,7 @@ told-grading file words entries =
 
 outcome-meets : (g : Grading) → VerdictTold (verdictIn g) → (matrix classes : List ℕ)
     → let out : Outcome = outcomeOf rightWork g matrix classes in Meets g (out .answer) matrix classes (out .matrix) (out .classes)
-unfolding outcomeOf rightWork workBy rowWords matrixOf classCount foundCount VerdictTold verdictIn
+unfolding outcomeOf rightWork workBy rowWords matrixOf foundCount VerdictTold verdictIn
     numberOf placeOf countsOf numberIn placeIn countsIn matrixAfter classesAfterGrading grading.countsOfCircuit
 outcome-meets (graded c) told matrix classes = record { number = refl; place = refl; counts = refl; matrix-at-exit = refl; classes-at-exit = refl }
 outcome-meets (refused number place) told matrix classes =

@@ -13,7 +13,7 @@ use Rattle.switch.specs.Bridges.{Bridge}
 use Rattle.circuit.specs.Circuit.{Circuit, Instance, faultsOf}
 use Rattle.circuit.specs.Laws.{CircuitGood}
 use Rattle.grading.specs.Rows.{Row, rowWith, rowsOfInstance}
-use Rattle.grading.specs.Classes.{sameClass, classAmongBy, classAmong, largest, classesAfterBy, classesAfter, classesBy, classesOf}
+use Rattle.grading.specs.Classes.{sameClass, classAmongBy, largest, classesAfterBy, classesBy, classesOf}
 use Rattle.grading.specs.Codes.{codeOf}
 use Rattle.grading.proofs.Everywhere.{Every, every-nil, every-cons, every-append}
 use Rattle.grading.proofs.FaultRanges.{faults-fit, BridgeFits}
@@ -36,7 +36,7 @@ count-largest count (n ∷ ns) = omega (arith, count-largest (max count n) ns)
 
 -- rows that do not match are passed over
 among-skips : (row : Row) (new : ℕ) (old : List Row) (ms : List ℕ) (rest : List Row) (ns : List ℕ) → length old ≡ length ms
-    → Every (λ (r : Row). sameClass r row ≡ false) old → classAmong row new (old ++ rest) (ms ++ ns) ≡ classAmong row new rest ns
+    → Every (λ (r : Row). sameClass r row ≡ false) old → classAmongBy sameClass row new (old ++ rest) (ms ++ ns) ≡ classAmongBy sameClass row new rest ns
 unfolding classAmongBy
 among-skips row new [] [] rest ns e other = refl
 among-skips row new [] (m ∷ ms) rest ns e other = absurd (omega arith)
@@ -58,7 +58,7 @@ module _ (types : List ModuleType) (inst : Instance) (n : ℕ) where
 
   -- among rows of one instance the search is by key
   among-keys : (b : Bridge) → BridgeFits b → (new : ℕ) (ds : List Bridge) → Every BridgeFits ds → (ns : List ℕ)
-      → classAmong (rowAt b) new (map rowAt ds) ns ≡ classByKey (keyAt b) new (map keyAt ds) ns
+      → classAmongBy sameClass (rowAt b) new (map rowAt ds) ns ≡ classByKey (keyAt b) new (map keyAt ds) ns
   unfolding classAmongBy classByKey sameClass
   among-keys b p new [] q ns = refl
   among-keys b p new (d ∷ ds) q [] = refl
@@ -77,21 +77,21 @@ module _ (types : List ModuleType) (inst : Instance) (n : ℕ) where
   step : (old : List Row) (ms : List ℕ) → length old ≡ length ms → Every (λ (r : Row). r .number ≡ n → ⊥) old
       → (done : List Bridge) → Every BridgeFits done → (ns : List ℕ) (count : ℕ) → count ≡ largest (ms ++ ns)
       → (bs : List Bridge) → Every BridgeFits bs
-      → classesAfter (old ++ map rowAt done) (ms ++ ns) (map rowAt bs) ≡ ms ++ numberAfter (map keyAt done) ns count (map keyAt bs)
+      → classesAfterBy sameClass (old ++ map rowAt done) (ms ++ ns) (map rowAt bs) ≡ ms ++ numberAfter (map keyAt done) ns count (map keyAt bs)
   unfolding classesAfterBy numberAfter
   step old ms e other done p ns count k [] q = refl
   step old ms e other done p ns count k (b ∷ bs) q =
       let class : ℕ = classByKey (keyAt b) (suc count) (map keyAt done) ns in
       let fits : BridgeFits b = q b (List·Memᴰ·head refl) in
       let unlike : Every (λ (r : Row). sameClass r (rowAt b) ≡ false) old = λ r h. other-class r b (other r h) in
-      let found : classAmong (rowAt b) (suc (largest (ms ++ ns))) (old ++ map rowAt done) (ms ++ ns) ≡ class =
+      let found : classAmongBy sameClass (rowAt b) (suc (largest (ms ++ ns))) (old ++ map rowAt done) (ms ++ ns) ≡ class =
       among-skips (rowAt b) (suc (largest (ms ++ ns))) old ms (map rowAt done) ns e unlike
-      ∙ ap (λ (m : ℕ). classAmong (rowAt b) (suc m) (map rowAt done) ns) (sym k)
+      ∙ ap (λ (m : ℕ). classAmongBy sameClass (rowAt b) (suc m) (map rowAt done) ns) (sym k)
       ∙ among-keys b fits (suc count) done p ns in
       let rows-are : (old ++ map rowAt done) ++ (rowAt b ∷ []) ≡ old ++ map rowAt (done ++ (b ∷ [])) =
       append-assoc old (map rowAt done) (rowAt b ∷ []) ∙ ap (λ (l : List Row). old ++ l) (sym (map-append rowAt done (b ∷ []))) in
-      ap₂ (λ (l : List Row) (m : ℕ). classesAfter l ((ms ++ ns) ++ (m ∷ [])) (map rowAt bs)) rows-are found
-      ∙ ap (λ (l : List ℕ). classesAfter (old ++ map rowAt (done ++ (b ∷ []))) l (map rowAt bs)) (append-assoc ms ns (class ∷ []))
+      ap₂ (λ (l : List Row) (m : ℕ). classesAfterBy sameClass l ((ms ++ ns) ++ (m ∷ [])) (map rowAt bs)) rows-are found
+      ∙ ap (λ (l : List ℕ). classesAfterBy sameClass (old ++ map rowAt (done ++ (b ∷ []))) l (map rowAt bs)) (append-assoc ms ns (class ∷ []))
       ∙ step
       old
       ms
@@ -126,21 +126,21 @@ module _ (c : Circuit) (good : CircuitGood c) (i : ℕ) (within : i < length (c 
       ≡ classesOf (rowsBefore c i) ++ numbers (largest (classesOf (rowsBefore c i))) (faultKeys c (suc i) inst)
   unfolding classesBy numbers rowsOfInstance
   class-step =
-      classes-append [] [] before new
-      ∙ ap₂ (λ (l : List Row) (m : List ℕ). classesAfter l m new) (sym (append-nil before)) (sym (append-nil (classesAfter [] [] before)))
+      classes-append sameClass [] [] before new
+      ∙ ap₂ (λ (l : List Row) (m : List ℕ). classesAfterBy sameClass l m new) (sym (append-nil before)) (sym (append-nil (classesAfterBy sameClass [] [] before)))
       ∙ step
       (c .types)
       inst
       (suc i)
       before
-      (classesAfter [] [] before)
-      (sym (length-classes before))
+      (classesAfterBy sameClass [] [] before)
+      (sym (length-classes sameClass before))
       others
       []
       (every-nil BridgeFits)
       []
-      (largest (classesAfter [] [] before))
-      (ap largest (sym (append-nil (classesAfter [] [] before))))
+      (largest (classesAfterBy sameClass [] [] before))
+      (ap largest (sym (append-nil (classesAfterBy sameClass [] [] before))))
       (faultsOf (c .types) (c .bridges) inst)
       (rw is at (faults-fit c good i none within))
 

@@ -16,13 +16,13 @@ use Rattle.words.proofs.AnyMark.{any-mark}
 use Rattle.circuit.specs.Circuit.{Circuit, Instance, joinLists}
 use Rattle.circuit.specs.Laws.{CircuitGood}
 use Rattle.grading.specs.Rows.{Row, noRow, rowsOfInstance, cell, markOf, rowWords}
-use Rattle.grading.specs.Classes.{classAmong, largest, classesOf, hasMarkBy, hasMark, foundAmong}
+use Rattle.grading.specs.Classes.{sameClass, largest, classesOf, hasMarkBy, hasMark, foundAmong}
 use Rattle.grading.specs.Statements.{RowOf}
 use Rattle.grading.proofs.Everywhere.{Every, every-at, every-first}
 use Rattle.grading.proofs.MatrixLaws.{row-long, word-in}
 use Rattle.grading.proofs.RowLaws.{rowsBefore, rowsAfter, rows-split, grown}
-use Rattle.grading.proofs.FoundLaws.{found-more}
-use Rattle.grading.proofs.ClassLists.{length-classes, largest-append, classes-first, classes-snoc}
+use Rattle.grading.proofs.FoundLaws.{found-more, same-mark}
+use Rattle.grading.proofs.ClassLists.{classOf, length-classes, largest-append, classes-first, classes-snoc}
 use Rattle.grade_classes.specs.Model.{rowMarked, foundFrom}
 
 -- the rows' words stand in a matrix, from its start on
@@ -73,18 +73,18 @@ module _ (c : Circuit) (few : length (c .vectors) ≤ 256) (rows : List Row) (ou
       row = getD rows n none
 
       number : ℕ
-      number = classAmong row (suc (countIn n)) (take n rows) (classesOf (take n rows))
+      number = classOf sameClass row (take n rows) (classesOf (take n rows))
 
       classes-are : classesOf (take (suc n) rows) ≡ classesOf (take n rows) ++ (number ∷ [])
       unfolding row number countIn
-      classes-are = ap classesOf (take-suc rows n none h) ∙ classes-snoc (take n rows) (getD rows n none)
+      classes-are = ap classesOf (take-suc rows n none h) ∙ classes-snoc sameClass (take n rows) (getD rows n none)
 
       class-is : getD classes n 0 ≡ number
       class-is =
           numbered n h
-          ∙ classes-first rows (suc n) n (omega arith) h
+          ∙ classes-first sameClass rows (suc n) n (omega arith) h
           ∙ ap (λ (l : List ℕ). getD l n 0) classes-are
-          ∙ getD-at (classesOf (take n rows)) number [] 0 n (length-classes (take n rows) ∙ omega (arith, length-take n rows))
+          ∙ getD-at (classesOf (take n rows)) number [] 0 n (length-classes sameClass (take n rows) ∙ omega (arith, length-take n rows))
 
       count-more : countIn (suc n) ≡ max (countIn n) (getD classes n 0)
       unfolding countIn largest
@@ -99,7 +99,8 @@ module _ (c : Circuit) (few : length (c .vectors) ≤ 256) (rows : List Row) (ou
       found-one =
           ap (λ (l : List Row). foundAmong c l (classesOf (take (suc n) rows)) (countIn (suc n))) (take-suc rows n none h)
           ∙ ap₂ (foundAmong c (take n rows ++ (row ∷ []))) classes-are (count-more ∙ ap (max (countIn n)) class-is)
-          ∙ found-more c (take n rows) (classesOf (take n rows)) (length-classes (take n rows)) (first-ours n) row (every-at (RowOf c) rows ours n none h)
+          ∙ found-more (length (c .vectors)) (markOf c) (RowOf c) sameClass (same-mark c) (take n rows) (classesOf (take n rows)) (length-classes sameClass (take n rows))
+          (first-ours n) row (every-at (RowOf c) rows ours n none h)
           ∙ ap₂ (λ (k x : ℕ). foundIn n + cond (ltb (countIn n) k) x 0) (sym class-is) (sym marked)
 
     found-on : (left from : ℕ) → from + left ≤ length rows → foundIn (from + left) ≡ foundIn from + foundFrom matrix classes from left (countIn from)
@@ -151,4 +152,4 @@ pub words-are : (c : Circuit) (rows : List Row) (more : List ℕ) → WordsOf c 
 words-are c rows more r w none = word-in (rowWords c) (row-long c) none rows more r w
 
 pub numbers-are : (rows : List Row) (more : List ℕ) → ClassesOf rows (classesOf rows ++ more)
-numbers-are rows more r h = List·getD-append (classesOf rows) more 0 r (omega (arith, length-classes rows))
+numbers-are rows more r h = List·getD-append (classesOf rows) more 0 r (omega (arith, length-classes sameClass rows))

@@ -30,7 +30,7 @@ use Rattle.circuit.proofs.Padding.{getD-padded}
 use Rattle.circuit.proofs.RangeLaws.{in-between}
 use Rattle.circuit.proofs.TypeLaws.{type-back, type-given}
 use Rattle.grading.specs.Rows.{Row, noInstance, rowsOfInstance, rowsFrom, rowsOf, rowWords, matrixOf}
-use Rattle.grading.specs.Classes.{largest, classesAfterBy, classesBy, classesOf, classFound, foundBy, classCount, foundCount}
+use Rattle.grading.specs.Classes.{sameClass, largest, classesAfterBy, classesBy, classesOf, classFound, foundBy, foundCount}
 use Rattle.grading.specs.Grading.{over, countsOfCircuit}
 use Rattle.grading.specs.Codes.{codeOf}
 use Rattle.grading.proofs.ValueLaws.{InstanceAt, good-at, type-at, type-ranges}
@@ -82,7 +82,7 @@ found-few c good i =
           (largest (classesOf rows))
           (λ (n : ℕ). ofBool (classFound c (suc n) rows (classesOf rows)))
           (λ n. ofBool-le-one (classFound c (suc n) rows (classesOf rows))),
-      largest-most rows,
+      largest-most sameClass rows,
       rows-within c i,
       few-rows c good,
     )
@@ -141,13 +141,13 @@ module _ (c : Circuit) (m : CircuitRecord) (is : m ≡ circuitRecord c) where
           ap length (so-far .matrix-is)
               ∙ length-written matrix₀ 0 (matrixTo c i) (omega (arith, length-matrix c rows, rows-within c i, room .words, faults-are)),
           ap length (so-far .classes-are)
-              ∙ length-written classes₀ 0 (classesOf rows) (omega (arith, length-classes rows, rows-within c i, room .entries, faults-are)),
+              ∙ length-written classes₀ 0 (classesOf rows) (omega (arith, length-classes sameClass rows, rows-within c i, room .entries, faults-are)),
         )
 
   pub turned-end : (matrix₀ classes₀ ones zeros matrix classes : List ℕ) (count found from i : ℕ)
       → Turned c matrix₀ classes₀ ones zeros matrix classes count found from i → m .«instance_count» ≤ i
       → Graded c record { vectors = m .«vector_count»; faults = m .faults; classes = count; found = found } matrix₀ classes₀ matrix classes
-  unfolding countsOfCircuit classCount foundCount matrixOf
+  unfolding countsOfCircuit foundCount matrixOf
   turned-end matrix₀ classes₀ ones zeros matrix classes count found from i all past =
       let last : i ≡ length (c .instances) = omega (arith, all .inside, instances-are) in
       let rows : rowsBefore c i ≡ rowsOf c = rows-all c i (omega arith) in
@@ -286,7 +286,7 @@ module _ (c : Circuit) (good : CircuitGood c) (m : CircuitRecord) (is : m ≡ ci
               room = omega (arith, turned-long c m is room so-far .0, within, room .words, faults-are c m is);
               codes = listed-fit c good m is i noInstance h e u codes₀ from to codes listed few-faults;
             };
-            count-few = omega (arith, so-far .count-is, so-far .from-is, largest-most (rowsBefore c i));
+            count-few = omega (arith, so-far .count-is, so-far .from-is, largest-most sameClass (rowsBefore c i));
             entries = omega (arith, turned-long c m is room so-far .1, within, room .entries, faults-are c m is);
           }
 
@@ -350,9 +350,9 @@ module _ (c : Circuit) (good : CircuitGood c) (m : CircuitRecord) (is : m ≡ ci
             classes-next =
                 let old : List ℕ = classesOf (rowsBefore c i) in
                 let added : List ℕ = numbers (largest old) (faultKeys c (suc i) inst) in
-                let place : from ≡ 0 + length old = omega (arith, so-far .from-is, length-classes (rowsBefore c i)) in
+                let place : from ≡ 0 + length old = omega (arith, so-far .from-is, length-classes sameClass (rowsBefore c i)) in
                 let fits : 0 + length (old ++ added) ≤ length classes₀
-                = rw (← stepped) (omega (arith, length-classes (rowsBefore c (suc i)), rows-within c (suc i), room .entries, faults-are c m is)) in
+                = rw (← stepped) (omega (arith, length-classes sameClass (rowsBefore c (suc i)), rows-within c (suc i), room .entries, faults-are c m is)) in
                 classed .classes-are
                 ∙ rw (numbers-here, so-far .classes-are, place) (written-written classes₀ 0 old added fits ∙ ap (written classes₀ 0) (sym stepped))
 

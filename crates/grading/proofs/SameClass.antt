@@ -20,7 +20,7 @@ use Rattle.circuit.specs.Circuit.{Circuit, Instance, Listed, Reference, primary
 use Rattle.grading.specs.Values.{labelValues, outputsOf}
 use Rattle.grading.specs.Rows.{Row, rowWith, rowsOfInstance, rowsFrom, rowsOf, rowValues, cell}
 use Rattle.grading.specs.Classes.{sameReference, sameLabel, sameBridge, sameClass}
-use Rattle.grading.specs.Statements.{RowOf, SameClassIsEquivalence, ClassesHaveEqualMarks}
+use Rattle.grading.specs.Statements.{RowOf, OneInstance, SameClassIsEquivalence, ClassesHaveEqualMarks}
 use Rattle.grading.proofs.Everywhere.{Every, every-nil, every-append, every-map}
 use Rattle.grading.proofs.ValueLaws.{label-value}
 
@@ -149,7 +149,7 @@ module _ (types : List ModuleType) (bridges : List Listed) (none : Instance) whe
             type-is = p .type-is;
           }
 
-one-instance : (c : Circuit) (r s : Row) → RowOf c r → RowOf c s → r .number ≡ s .number → r .instance ≡ s .instance
+pub one-instance : OneInstance
 unfolding rowsOf
 one-instance c r s p q e =
     let a = rows-placed (c .types) (c .bridges) (r .instance) 1 (c .instances) r p in
@@ -179,10 +179,9 @@ join r s e m =
     (rw (eq-eqb (r .number) (s .number) e) tt)
     (meant-same (r .instance) (r .bridge) (s .bridge) m)
 
-pub same-class-is-equivalence : (c : Circuit) → SameClassIsEquivalence c
+pub same-class-is-equivalence : SameClassIsEquivalence
 same-class-is-equivalence c = record {
-  one-instance = one-instance c;
-  itself = λ r. join r r refl refl;
+  itself = λ r p. join r r refl refl;
   turned = λ r s p q t.
       let parts = split r s t in
       join s r (sym (parts .0)) (rw (← (one-instance c r s p q (parts .0))) (sym (parts .1)));

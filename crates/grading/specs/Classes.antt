@@ -31,11 +31,11 @@ sameBridge i (input m l) (input n k) = eqb m n && sameLabel i l k
 unfoldable pub sameClass : Row → Row → Bool
 sameClass r s = eqb (r .number) (s .number) && sameBridge (r .instance) (r .bridge) (s .bridge)
 
--- ---- class numbers, by a test for one class
+-- ---- class numbers of any things, here called rows, by a test for one class
 
 -- the class of a row: that of the first earlier row that matches, else the next new number.
 -- The earlier rows come with their classes, in order
-unfoldable pub classAmongBy : (Row → Row → Bool) → Row → ℕ → List Row → List ℕ → ℕ
+unfoldable pub classAmongBy : {A : Type 0} → (A → A → Bool) → A → ℕ → List A → List ℕ → ℕ
 classAmongBy same row new [] classes = new
 classAmongBy same row new (r ∷ rs) [] = new
 classAmongBy same row new (r ∷ rs) (n ∷ ns) = let later = classAmongBy same row new rs ns in cond (same r row) n later
@@ -45,37 +45,31 @@ unfoldable pub largest : List ℕ → ℕ
 largest [] = 0
 largest (n ∷ ns) = max n (largest ns)
 
-unfoldable pub classesAfterBy : (Row → Row → Bool) → List Row → List ℕ → List Row → List ℕ
+unfoldable pub classesAfterBy : {A : Type 0} → (A → A → Bool) → List A → List ℕ → List A → List ℕ
 classesAfterBy same before classes [] = classes
 classesAfterBy same before classes (row ∷ rows) =
     classesAfterBy same (before ++ (row ∷ [])) (classes ++ (classAmongBy same row (suc (largest classes)) before classes ∷ [])) rows
 
-unfoldable pub classesBy : (Row → Row → Bool) → List Row → List ℕ
+unfoldable pub classesBy : {A : Type 0} → (A → A → Bool) → List A → List ℕ
 classesBy same rows = classesAfterBy same [] [] rows
 
 -- ---- found classes, by the marks of rows under so many vectors
 
 -- has a row a mark
-unfoldable pub hasMarkBy : ℕ → (Row → ℕ → ℕ) → Row → Bool
+unfoldable pub hasMarkBy : {A : Type 0} → ℕ → (A → ℕ → ℕ) → A → Bool
 hasMarkBy vectors marks row = ltb 0 (sumTo vectors (marks row))
 
 -- has a row of class n a mark
-unfoldable pub classFoundBy : ℕ → (Row → ℕ → ℕ) → ℕ → List Row → List ℕ → Bool
+unfoldable pub classFoundBy : {A : Type 0} → ℕ → (A → ℕ → ℕ) → ℕ → List A → List ℕ → Bool
 classFoundBy vectors marks n [] classes = false
 classFoundBy vectors marks n (r ∷ rs) [] = false
 classFoundBy vectors marks n (r ∷ rs) (m ∷ ms) = eqb m n && hasMarkBy vectors marks r || classFoundBy vectors marks n rs ms
 
 -- of the classes 1 to `count`, how many are found
-unfoldable pub foundBy : ℕ → (Row → ℕ → ℕ) → List Row → List ℕ → ℕ → ℕ
+unfoldable pub foundBy : {A : Type 0} → ℕ → (A → ℕ → ℕ) → List A → List ℕ → ℕ → ℕ
 foundBy vectors marks rows classes count = sumTo count (λ (n : ℕ). ofBool (classFoundBy vectors marks (suc n) rows classes))
 
 -- ---- 01's: by `sameClass`, and by the marks under the circuit's vectors
-
-abbrev pub classAmong : Row → ℕ → List Row → List ℕ → ℕ
-classAmong = classAmongBy sameClass
-
-abbrev pub classesAfter : List Row → List ℕ → List Row → List ℕ
-classesAfter = classesAfterBy sameClass
 
 abbrev pub classesOf : List Row → List ℕ
 classesOf = classesBy sameClass
@@ -89,7 +83,7 @@ classFound c = classFoundBy (length (c .vectors)) (markOf c)
 abbrev pub foundAmong : Circuit → List Row → List ℕ → ℕ → ℕ
 foundAmong c = foundBy (length (c .vectors)) (markOf c)
 
-unfoldable pub classCount : Circuit → ℕ
+abbrev pub classCount : Circuit → ℕ
 classCount c = largest (classesOf (rowsOf c))
 
 unfoldable pub foundCount : Circuit → ℕ

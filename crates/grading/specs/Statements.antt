@@ -1,6 +1,7 @@
 -- The theorems on classes that later crates rest on. Their proofs are in proofs/: SameClass and ClassNumbering.
 use Prim.Native.Nat.{ℕ, _≤_, _<_}
 use mathlib.Core.Path.{_≡_}
+use mathlib.Core.Bool.{Bool}
 use mathlib.Core.Logic.{_↔_}
 use mathlib.Core.List.{List, List·Memᴰ}
 use lib.Dec.{T}
@@ -8,19 +9,46 @@ use lib.ListN.{length, getD}
 use Rattle.switch.specs.Conduction.{Value}
 use Rattle.circuit.specs.Circuit.{Circuit}
 use Rattle.grading.specs.Rows.{Row, rowsOf, cell}
-use Rattle.grading.specs.Classes.{sameClass, classesOf, classCount}
+use Rattle.grading.specs.Classes.{sameClass, largest, classesBy, classesOf}
+
+-- ---- any test for one class
+
+-- a test that is an equivalence on those of which P holds
+pub record Equivalence {A : Type 0} (P : A → Type 0) (same : A → A → Bool) : Type 0 where
+  pub itself : (r : A) → P r → T (same r r)
+  pub turned : (r s : A) → P r → P s → T (same r s) → T (same s r)
+  pub through : (q r s : A) → P q → P r → P s → T (same q r) → T (same r s) → T (same q s)
+
+-- each row has a number; two rows have equal numbers exactly when the test says that they are one class; the numbers are 1 to the number of
+-- classes, each of them is a row's, and comes first after those below it. `none` stands past the last row
+pub record NumbersTell {A : Type 0} (test : A → A → Bool) (rows : List A) (classes : List ℕ) : Type 0 where
+  pub one-each : length classes ≡ length rows
+  pub same : (r s : ℕ) (none : A) → r < length rows → s < length rows
+      → (getD classes r 0 ≡ getD classes s 0) ↔ T (test (getD rows r none) (getD rows s none))
+  pub low : (r : ℕ) → r < length rows → 1 ≤ getD classes r 0
+  pub high : (r : ℕ) → r < length rows → getD classes r 0 ≤ largest classes
+  pub each : (n : ℕ) → 1 ≤ n → n ≤ largest classes → (r : ℕ) × (r < length rows) × (getD classes r 0 ≡ n)
+  pub at-its-first-row : (r n : ℕ) → r < length rows → 1 ≤ n → n < getD classes r 0 → (s : ℕ) × (s < r) × (getD classes s 0 ≡ n)
+
+-- the numbering tells the classes of every equivalence
+abbrev pub NumberingTells : Type 1
+NumberingTells =
+    (A : Type 0) (P : A → Type 0) (same : A → A → Bool) → Equivalence P same
+    → (rows : List A) → ((row : A) → List·Memᴰ row rows → P row) → NumbersTell same rows (classesBy same rows)
+
+-- ---- 01's
 
 -- a row of a circuit
 abbrev pub RowOf : Circuit → Row → Type 0
 RowOf c row = List·Memᴰ row (rowsOf c)
 
--- on the rows of a circuit, to be of one class is an equivalence. Rows with equal numbers are of one instance, which says what labels have
--- equal references
-pub record SameClassIsEquivalence (c : Circuit) : Type 0 where
-  pub one-instance : (r s : Row) → RowOf c r → RowOf c s → r .number ≡ s .number → r .instance ≡ s .instance
-  pub itself : (r : Row) → T (sameClass r r)
-  pub turned : (r s : Row) → RowOf c r → RowOf c s → T (sameClass r s) → T (sameClass s r)
-  pub through : (q r s : Row) → RowOf c q → RowOf c r → RowOf c s → T (sameClass q r) → T (sameClass r s) → T (sameClass q s)
+-- rows of a circuit with equal numbers are of one instance
+abbrev pub OneInstance : Type 0
+OneInstance = (c : Circuit) (r s : Row) → RowOf c r → RowOf c s → r .number ≡ s .number → r .instance ≡ s .instance
+
+-- on the rows of a circuit, to be of one class is an equivalence
+abbrev pub SameClassIsEquivalence : Type 0
+SameClassIsEquivalence = (c : Circuit) → Equivalence (RowOf c) sameClass
 
 -- rows of one class have equal cells under every vector
 abbrev pub ClassesHaveEqualMarks : Type 0
@@ -31,12 +59,6 @@ ClassesHaveEqualMarks =
 abbrev pub classNumber : Circuit → ℕ → ℕ
 classNumber c r = getD (classesOf (rowsOf c)) r 0
 
--- each row has a number; two rows have equal numbers exactly when they are of one class; the numbers are 1 to the number of classes, and
--- each of them is a row's. `none` stands past the last row
-pub record ClassNumbers (c : Circuit) : Type 0 where
-  pub one-each : length (classesOf (rowsOf c)) ≡ length (rowsOf c)
-  pub same : (r s : ℕ) (none : Row) → r < length (rowsOf c) → s < length (rowsOf c)
-      → (classNumber c r ≡ classNumber c s) ↔ T (sameClass (getD (rowsOf c) r none) (getD (rowsOf c) s none))
-  pub low : (r : ℕ) → r < length (rowsOf c) → 1 ≤ classNumber c r
-  pub high : (r : ℕ) → r < length (rowsOf c) → classNumber c r ≤ classCount c
-  pub each : (n : ℕ) → 1 ≤ n → n ≤ classCount c → (r : ℕ) × (r < length (rowsOf c)) × (classNumber c r ≡ n)
+-- the class numbers of a circuit tell its classes
+abbrev pub ClassNumbers : Circuit → Type 0
+ClassNumbers c = NumbersTell sameClass (rowsOf c) (classesOf (rowsOf c))

@@ -7,7 +7,7 @@ use native.Mathlib.Nat.{add-suc, suc-add, mul-suc, not-suc-le-zero, le-of-suc-le
 use native.Mathlib.Decide.{decLt}
 use native.Mathlib.Omega.{arith}
 use lib.ListN.{length, getD, take, drop, length-append, length-map, length-take, List·getD-append, List·getD-eq-default, List·getD-map, drop-of-length-le}
-use lib.Seq.{getD-append-add, getD-take, drop-cons}
+use lib.Seq.{getD-take, drop-cons}
 use Rattle.words.specs.Written.{written}
 use Rattle.words.proofs.WrittenLaws.{written-nothing}
 use Rattle.switch.specs.Conduction.{Value, Edge}
@@ -18,7 +18,9 @@ use Rattle.circuit.proofs.CircuitLaws.{getD-any}
 use Rattle.circuit.specs.Circuit.{Circuit, Instance, Listed, numbered, noType}
 use Rattle.circuit.specs.Reading.{Reading, accepted, refusal}
 use Rattle.circuit.specs.declared.Reading.{Reading as ReadingRecord}
-use Rattle.print_lines.specs.Lines.{refusalLine}
+use Rattle.print_lines.specs.Pieces.{lineIn}
+use Rattle.print_lines.proofs.LineSizes.{refusal-sized}
+use Rattle.print_lines.proofs.LineList.{EachLine, each-at, each-append, each-map, line-behind}
 use Rattle.print_circuit.specs.Lines.{inputsLine, typeLine, edgeLine, bridgeLine, instanceLine, vectorLine}
 use Rattle.print_circuit.specs.Listing.{numberedLines, typeLines, allTypeLines, inputsLines, circuitLines, refusalLines, listingOf}
 use Rattle.print_circuit.specs.Told.{circuitTold, readingTold, listingTold}
@@ -28,22 +30,18 @@ use Rattle.print_circuit.specs.declared.parts.Part.{Part}
 -- ---- no line is empty
 
 abbrev pub Filled : List (List ℕ) → Type 0
-Filled [] = Unit {0}
-Filled (line ∷ lines) = (1 ≤ length line) × Filled lines
+Filled lines = EachLine (λ (line : List ℕ). 1 ≤ length line) lines
 
 pub filled-at : (lines : List (List ℕ)) (n : ℕ) → Filled lines → n < length lines → 1 ≤ length (getD lines n [])
-filled-at [] n f h = absurd (not-suc-le-zero h)
-filled-at (line ∷ lines) zero f h = f .0
-filled-at (line ∷ lines) (suc n) f h = filled-at lines n (f .1) (le-of-suc-le-suc h)
+unfolding lineIn
+filled-at lines n f h = each-at (λ (line : List ℕ). 1 ≤ length line) lines n f h
 
 filled-append : (a b : List (List ℕ)) → Filled a → Filled b → Filled (a ++ b)
-filled-append [] b f g = g
-filled-append (line ∷ a) b f g = (f .0, filled-append a b (f .1) g)
+filled-append a b f g = each-append (λ (line : List ℕ). 1 ≤ length line) a b f g
 
 module _ {A : Type 0} where
   filled-map : (line : A → List ℕ) → ((a : A) → 1 ≤ length (line a)) → (l : List A) → Filled (map line l)
-  filled-map line some [] = tt
-  filled-map line some (a ∷ l) = (some a, filled-map line some l)
+  filled-map line some l = each-map (λ (line : List ℕ). 1 ≤ length line) line some l
 
   filled-numbered : (line : ℕ → A → List ℕ) → ((n : ℕ) (a : A) → 1 ≤ length (line n a)) → (first : ℕ) (l : List A) → Filled (numberedLines line first l)
   unfolding numberedLines
@@ -89,9 +87,9 @@ circuit-filled c =
     (filled-append (numberedLines instanceLine 1 (c .instances)) _ (instances-filled (c .instances)) (vectors-filled (c .vectors)))))
 
 refusal-filled : (reading : Reading) → Filled (refusalLines reading)
-unfolding refusalLines refusalLine
+unfolding refusalLines
 refusal-filled (accepted c) = tt
-refusal-filled (refusal number place) = (simp length-append (omega arith), tt)
+refusal-filled (refusal number place) = (refusal-sized number place .0, tt)
 
 pub listing-filled : (r : ReadingRecord) → Filled (listingTold r)
 unfolding listingTold listingOf
@@ -183,11 +181,6 @@ module _ (a b : List (List ℕ)) (n : ℕ) (buffer : List ℕ) {put : ℕ} {afte
 
   pub here-is : (put ≡ 0 → ⊥) → getD (a ++ b) n [] ≡ getD a n []
   here-is some = List·getD-append a b [] n (is-here some)
-
-pub behind-is : (a b : List (List ℕ)) (n : ℕ) → length a ≤ n → getD (a ++ b) n [] ≡ getD b (n - length a) []
-behind-is a b n h =
-    let e : n ≡ length a + (n - length a) = omega arith in
-    ap (λ (k : ℕ). getD (a ++ b) k []) e ∙ getD-append-add a b (n - length a) []
 
 -- ---- the lines of lists
 
@@ -300,7 +293,7 @@ module _ (types : List ModuleType) (n : ℕ) where
         record {
           line = so-far .line
               ∙ ap (λ (l : List (List ℕ)). getD l left []) split
-              ∙ behind-is (typeLines (suc i) t) later left (behind .0)
+              ∙ line-behind (typeLines (suc i) t) later left (behind .0)
               ∙ ap (λ (k : ℕ). getD later k []) (sym (p .left));
           rest = omega (arith, so-far .rest, both, p .left, behind .0);
           near = omega (arith, so-far .near, p .near, mul-suc 65 i);

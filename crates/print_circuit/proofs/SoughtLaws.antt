@@ -4,7 +4,6 @@ use mathlib.Core.Bool.{Bool, true, false, cond}
 use mathlib.Core.List.{List, [], _∷_, _++_}
 use Prim.Native.Nat.{ℕ, zero, suc, _+_, _-_, _≤_, _<_}
 use native.Mathlib.Nat.{zero-add}
-use native.Mathlib.Decide.{decLt}
 use native.Mathlib.Omega.{arith}
 use borrow.Author.Tests.{le-leb}
 use lib.Dec.{leb}
@@ -12,16 +11,14 @@ use lib.ListN.{length, getD, take, drop, length-append, length-drop, List·getD-
 use Rattle.words.specs.Written.{written}
 use Rattle.words.proofs.WrittenLaws.{written-nothing, take-written}
 use Rattle.print_lines.specs.Given.{LineGiven}
-use Rattle.print_lines.specs.Pieces.{lineIn}
-use Rattle.print_lines.proofs.GrowingLine.{at-most-21}
+use Rattle.print_lines.proofs.LineList.{line-behind}
 use Rattle.circuit.specs.Reading.{Reading, accepted, refusal, unless}
 use Rattle.circuit.specs.Refusals.{numberedVerdict}
 use Rattle.circuit.specs.Verdicts.{isRefused}
-use Rattle.print_lines.specs.Lines.{refusalLine}
 use Rattle.print_circuit.specs.Listing.{refusalLines}
 use Rattle.print_circuit.specs.Puts.{Puts, PutsLine}
 use Rattle.print_circuit.specs.declared.parts.Part.{Part}
-use Rattle.print_circuit.proofs.PartLaws.{Filled, not-here, is-here, here-is, behind-is}
+use Rattle.print_circuit.proofs.PartLaws.{Filled, not-here, is-here, here-is}
 
 -- line n of the lines is line `left` of the rest, past its end as far as past theirs, and there are at most `most` before it
 pub record Sought (lines rest : List (List ℕ)) (n left most : ℕ) (buffer after : List ℕ) : Type 0 where
@@ -43,7 +40,7 @@ module _ (lines a b : List (List ℕ)) (n left most more : ℕ) (buffer now : Li
   sought-more filled none =
       let behind = not-here a b left now (p .line) filled none in
       record {
-        line = so-far .line ∙ behind-is a b left (behind .0) ∙ ap (λ (k : ℕ). getD b k []) (sym (p .left));
+        line = so-far .line ∙ line-behind a b left (behind .0) ∙ ap (λ (k : ℕ). getD b k []) (sym (p .left));
         past = omega (arith, so-far .past, p .left, behind .0, length-append a b);
         same = behind .1 ∙ so-far .same;
         near = omega (arith, so-far .near, p .near);
@@ -118,10 +115,6 @@ unfolding refusalLines
 refusal-few (accepted c) = omega arith
 refusal-few (refusal number place) = omega arith
 
-pub refusal-short : (number place : ℕ) → length (refusalLine number place) ≤ 512
-unfolding refusalLine
-refusal-short number place = simp length-append (omega (arith, at-most-21 number, at-most-21 place))
-
 -- a line that has room is put
 pub given-puts : (line buffer : List ℕ) (count : ℕ) (after : List ℕ) → length line ≤ length buffer → LineGiven line buffer count after
     → Puts line buffer 0 count after
@@ -130,37 +123,6 @@ given-puts line buffer count after room given =
       given .count-is ∙ ap (λ (b : Bool). cond b (length line) 0) fits ∙ sym (zero-add (length line)),
       given .after-is ∙ ap (λ (b : Bool). cond b (written buffer 0 line) buffer) fits,
     )
-
-pub given-some : (line buffer : List ℕ) (count : ℕ) (after : List ℕ) → LineGiven line buffer count after → 0 < count → 0 < length line
-given-some line buffer count after given some = go (leb (length line) (length buffer)) refl
-  where
-    go : (fits : Bool) → leb (length line) (length buffer) ≡ fits → 0 < length line
-    go true e = omega (arith, given .count-is ∙ ap (λ (b : Bool). cond b (length line) 0) e)
-    go false e = absurd (omega (arith, given .count-is ∙ ap (λ (b : Bool). cond b (length line) 0) e))
-
--- where nothing was given the buffer is as it was
-pub given-none : (line buffer : List ℕ) (count : ℕ) (after : List ℕ) → LineGiven line buffer count after → count ≡ 0 → after ≡ buffer
-given-none line buffer count after given none = go line given (leb (length line) (length buffer)) refl
-  where
-    go : (text : List ℕ) → LineGiven text buffer count after → (fits : Bool) → leb (length text) (length buffer) ≡ fits → after ≡ buffer
-    go [] given fits e = given .after-is ∙ empty (leb 0 (length buffer))
-      where
-        empty : (b : Bool) → cond b (written buffer 0 []) buffer ≡ buffer
-        empty true = written-nothing buffer 0
-        empty false = refl
-    go (a ∷ text) given true e = absurd (omega (arith, given .count-is ∙ ap (λ (b : Bool). cond b (suc (length text)) 0) e))
-    go (a ∷ text) given false e = given .after-is ∙ ap (λ (b : Bool). cond b (written buffer 0 (a ∷ text)) buffer) e
-
--- a line that is not empty is one of the lines
-pub line-there : (lines : List (List ℕ)) (n : ℕ) → 0 < length (lineIn lines n) → n < length lines
-unfolding lineIn
-line-there lines n some = go (decLt n (length lines))
-  where
-    go : Dec (n < length lines) → n < length lines
-    go (yes h) = h
-    go (no h) =
-        let past : getD lines n [] ≡ [] = List·getD-eq-default lines [] (omega arith) in
-        absurd (omega (arith, ap length past))
 
 -- ---- what was put at the front of a buffer
 

@@ -14,7 +14,7 @@ use Rattle.words.proofs.WrittenLaws.{take-written}
 use Rattle.print_lines.specs.Pieces.{textFrom, PieceGiven}
 use Rattle.print_lines.specs.Handing.{TextHandsOn, TextHanded}
 use Rattle.print_lines.specs.declared.Piece.{Piece}
-use Rattle.print_lines.proofs.PieceLaws.{stand-length}
+use Rattle.print_lines.proofs.PieceLoop.{stand-length}
 
 module _ {line : ℕ → List ℕ} {total from : ℕ} {buffer : List ℕ} {piece : Piece} {after : List ℕ} (given : PieceGiven line total from buffer piece after) where
   pub hands-on : TextHandsOn line from piece after

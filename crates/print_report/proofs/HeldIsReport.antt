@@ -1,15 +1,13 @@
--- What is held is the report: under an outcome of a file each held line is the report's line, and there are as many. Assumes nothing.
+-- What is held is the report: under an outcome of a file the held lines are the report's. Assumes nothing.
 use Prim.Native.Nat.{ℕ, zero, suc, _+_, _*_, _/_, _%_, _≤_, _<_, min}
 use mathlib.Core.Path.{_≡_, refl, sym, ap, subst, _∙_}
 use mathlib.Core.List.{List, [], _∷_, _++_}
 use native.Mathlib.Omega.{arith}
 use lib.ListN.{length, getD, drop, length-append, List·getD-append}
-use Rattle.print_lines.specs.Lines.{refusalLine}
 use Rattle.print_lines.specs.Pieces.{lineIn, PieceGiven}
 use Rattle.print_lines.specs.declared.Piece.{Piece}
-use Rattle.print_lines.proofs.PieceLaws.{same-piece}
 use Rattle.words.specs.Rows as marks
-use Rattle.words.proofs.Tables.{length-table}
+use Rattle.words.proofs.Tables.{length-table, is-table}
 use Rattle.switch.specs.Modules.{ModuleType}
 use Rattle.switch.specs.Bridges.{Bridge, nodes, input}
 use Rattle.circuit.specs.Circuit.{Circuit, Instance, Listed, faultsOf}
@@ -34,9 +32,10 @@ use Rattle.grading.proofs.ClassNumbering.{class-numbers}
 use Rattle.grade_rows.specs.Model.{codesOf}
 use Rattle.print_report.specs.Lines.{rowLine}
 use Rattle.print_report.specs.Report.{kindOf, firstEnd, secondEnd, lineOf, rowLines, countsLine, reportLines, reportLine, lineCount}
-use Rattle.print_report.specs.Held.{headOf, headLine, wordsAt, gradedLine, toldLine, heldLine, heldCount}
+use Rattle.print_report.specs.Held.{headOf, headLine, wordsAt, heldRow, gradedLines, toldLines, heldLines, heldLine, heldCount}
 use Rattle.print_report.specs.Promise.{OutcomeOf, ReportPiece, RowsAreHeld}
 use Rattle.print_report.specs.declared.RowHead.{RowHead}
+use Rattle.print_report.proofs.HeldLaws.{held-count-is}
 use Rattle.print_report.proofs.ReportLaws.{length-lines, line-at, GradingSound, grading-sound}
 
 -- ---- a row as a number
@@ -136,34 +135,23 @@ module _
 
 -- ---- the whole
 
--- as many lines, and each the report's
-abbrev LinesAre : Grading → Counts → (ℕ → List ℕ) → Type 0
-LinesAre g counts line = (suc (counts .faults) ≡ lineCount g) × ((n : ℕ) → n < lineCount g → line n ≡ reportLine g n)
-
 module _
     (file matrix-before classes-before codes matrix classes : List ℕ)
     (listed : (c : Circuit) → readingOf file ≡ accepted c → codes ≡ padded 2048 0 (codesOf (rowsOf c))) where
-  told-is : (g : Grading) → GradingSound file g → matrix ≡ matrixAfter g matrix-before → classes ≡ classesAfterGrading g classes-before
-      → LinesAre g (countsIn g) (toldLine (numberIn g) (placeIn g) (countsIn g) codes matrix classes)
-  unfolding GradingSound matrixAfter classesAfterGrading countsIn numberIn placeIn toldLine gradedLine reportLine lineIn lineCount reportLines countsOfCircuit
-  told-is (graded c) reads matrix-is classes-are = (ap suc (sym many), line)
-    where
-      many : length (rowLines c (rowsOf c) (classesOf (rowsOf c))) ≡ length (rowsOf c)
-      many = length-lines c (rowsOf c) (classesOf (rowsOf c)) (class-numbers c .one-each)
-
-      line : (n : ℕ) → n < suc (length (rowLines c (rowsOf c) (classesOf (rowsOf c))))
-          → gradedLine (countsOfCircuit c) codes matrix classes n ≡ getD (countsLine (countsOfCircuit c) ∷ rowLines c (rowsOf c) (classesOf (rowsOf c))) n []
-      line zero h = refl
-      line (suc r) h =
-          let inside : r < length (rowsOf c) = omega (arith, many, h) in
-          row-is c (accepted-is-good file c reads) codes matrix classes matrix-before classes-before (listed c reads) matrix-is classes-are r inside
-          ∙ sym (line-at c (rowsOf c) (classesOf (rowsOf c)) r (class-numbers c .one-each) inside)
-  told-is (refused zero place) low matrix-is classes-are = absurd (omega (arith, low))
-  told-is (refused (suc number) place) low matrix-is classes-are = (refl, line)
-    where
-      line : (n : ℕ) → n < 1 → refusalLine (suc number) place ≡ getD (refusalLine (suc number) place ∷ []) n []
-      line zero h = refl
-      line (suc n) h = absurd (omega arith)
+  told-are : (g : Grading) → GradingSound file g → matrix ≡ matrixAfter g matrix-before → classes ≡ classesAfterGrading g classes-before
+      → toldLines (numberIn g) (placeIn g) (countsIn g) codes matrix classes ≡ reportLines g
+  unfolding GradingSound matrixAfter classesAfterGrading countsIn numberIn placeIn toldLines gradedLines heldRow reportLines countsOfCircuit
+  told-are (graded c) reads matrix-is classes-are =
+      let each = class-numbers c .one-each in
+      ap (λ (rows : List (List ℕ)). countsLine (countsOfCircuit c) ∷ rows)
+      (sym
+      (is-table [] (length (rowsOf c)) (heldRow (countsOfCircuit c) codes matrix classes) (rowLines c (rowsOf c) (classesOf (rowsOf c)))
+      (length-lines c (rowsOf c) (classesOf (rowsOf c)) each)
+      (λ (r : ℕ) (h : r < length (rowsOf c)).
+      line-at c (rowsOf c) (classesOf (rowsOf c)) r each h
+      ∙ sym (row-is c (accepted-is-good file c reads) codes matrix classes matrix-before classes-before (listed c reads) matrix-is classes-are r h))))
+  told-are (refused zero place) low matrix-is classes-are = absurd (omega (arith, low))
+  told-are (refused (suc number) place) low matrix-is classes-are = refl
 
   rows-in : (g : Grading) → GradingSound file g → matrix ≡ matrixAfter g matrix-before → classes ≡ classesAfterGrading g classes-before
       → (countsIn g .faults ≤ length codes) × (4 * countsIn g .faults ≤ length matrix) × (countsIn g .faults ≤ length classes)
@@ -195,30 +183,24 @@ rows-are-held file matrix-before classes-before answer codes matrix classes outc
 
 pub held-is-report : (file matrix-before classes-before : List ℕ) (answer : Answer) (codes matrix classes : List ℕ)
     → OutcomeOf file matrix-before classes-before answer codes matrix classes
-    → LinesAre (gradingOf file (length matrix-before) (length classes-before)) (countsOf answer) (heldLine answer codes matrix classes)
-unfolding heldLine
+    → heldLines answer codes matrix classes ≡ reportLines (gradingOf file (length matrix-before) (length classes-before))
+unfolding heldLines
 held-is-report file matrix-before classes-before answer codes matrix classes outcome =
     let g : Grading = gradingOf file (length matrix-before) (length classes-before) in
-    let told = told-is file matrix-before classes-before codes matrix classes (outcome .listed) g
-    (grading-sound file (length matrix-before) (length classes-before))
-    (outcome .promised .matrix-at-exit) (outcome .promised .classes-at-exit) in (
-      ap (λ (m : Counts). suc (m .faults)) (outcome .promised .counts) ∙ told .0,
-      λ (n : ℕ) (h : n < lineCount g).
-          ap (λ (k : ℕ). toldLine k (placeOf answer) (countsOf answer) codes matrix classes n) (outcome .promised .number)
-          ∙ ap (λ (k : ℕ). toldLine (numberIn g) k (countsOf answer) codes matrix classes n) (outcome .promised .place)
-          ∙ ap (λ (m : Counts). toldLine (numberIn g) (placeIn g) m codes matrix classes n) (outcome .promised .counts)
-          ∙ told .1 n h,
-    )
+    ap (λ (k : ℕ). toldLines k (placeOf answer) (countsOf answer) codes matrix classes) (outcome .promised .number)
+    ∙ ap (λ (k : ℕ). toldLines (numberIn g) k (countsOf answer) codes matrix classes) (outcome .promised .place)
+    ∙ ap (λ (m : Counts). toldLines (numberIn g) (placeIn g) m codes matrix classes) (outcome .promised .counts)
+    ∙ told-are file matrix-before classes-before codes matrix classes (outcome .listed) g
+    (grading-sound file (length matrix-before) (length classes-before)) (outcome .promised .matrix-at-exit) (outcome .promised .classes-at-exit)
 
 pub report-piece : (answer : Answer) (codes matrix classes : List ℕ) (from : ℕ) (buffer : List ℕ) (piece : Piece) (after : List ℕ)
     → PieceGiven (heldLine answer codes matrix classes) (heldCount answer) from buffer piece after
     → ReportPiece answer codes matrix classes from buffer piece after
-unfolding heldCount
+unfolding heldLine reportLine lineCount
 report-piece answer codes matrix classes from buffer piece after given = record {
   of-held = given;
   of-report = λ file matrix-before classes-before outcome.
-      let g : Grading = gradingOf file (length matrix-before) (length classes-before) in
-      let are = held-is-report file matrix-before classes-before answer codes matrix classes outcome in
-      same-piece (heldLine answer codes matrix classes) (reportLine g) (lineCount g) from buffer piece after (are .1)
-      (subst (λ (n : ℕ). PieceGiven (heldLine answer codes matrix classes) n from buffer piece after) (are .0) given);
+      subst (λ (lines : List (List ℕ)). PieceGiven (lineIn lines) (length lines) from buffer piece after)
+      (held-is-report file matrix-before classes-before answer codes matrix classes outcome)
+      (subst (λ (n : ℕ). PieceGiven (heldLine answer codes matrix classes) n from buffer piece after) (sym (held-count-is answer codes matrix classes)) given);
 }

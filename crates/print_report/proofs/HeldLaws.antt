@@ -1,11 +1,15 @@
 -- The lines of what is held: which of them each call of the code gives, and that none is empty. Assumes nothing.
 use Prim.Native.Nat.{ℕ, zero, suc, _-_, _≤_, _<_, min}
 use mathlib.Core.Path.{_≡_, refl, sym, ap, subst, _∙_}
-use mathlib.Core.List.{List}
+use mathlib.Core.List.{List, []}
 use native.Mathlib.Omega.{arith}
 use lib.ListN.{length, getD}
+use Rattle.words.proofs.Tables.{length-table, getD-table}
 use Rattle.print_lines.specs.Lines.{refusalLine}
+use Rattle.print_lines.specs.Pieces.{lineIn}
 use Rattle.print_lines.specs.Given.{LineGiven}
+use Rattle.print_lines.proofs.LineList.{EachLine, each-at, each-table}
+use Rattle.print_lines.proofs.LineSizes.{Sized, refusal-sized}
 use Rattle.grading.specs.Grading.{Counts}
 use Rattle.grading.specs.Promise.{numberOf, placeOf, countsMeant, countsOf}
 use Rattle.grading.specs.declared.Counts.{Counts as CountsRecord}
@@ -13,8 +17,8 @@ use Rattle.grading.specs.declared.Answer.{Answer}
 use Rattle.print_report.specs.Lines.{firstLine}
 use Rattle.print_report.specs.Report.{countsLine}
 use Rattle.print_report.specs.declared.RowHead.{RowHead}
-use Rattle.print_report.specs.Held.{headOf, headLine, wordsAt, gradedLine, toldLine, heldLine}
-use Rattle.print_report.proofs.LineSizes.{Sized, first-sized, refusal-sized, row-sized}
+use Rattle.print_report.specs.Held.{headOf, headLine, wordsAt, heldRow, gradedLines, toldLines, heldLines, heldLine, toldCount, heldCount}
+use Rattle.print_report.proofs.LineSizes.{counts-sized, row-sized}
 
 pub given-line : (line other : List ℕ) {buffer after : List ℕ} {count : ℕ} → line ≡ other → LineGiven line buffer count after → LineGiven other buffer count after
 given-line line other {buffer} {after} {count} e g = subst (λ (l : List ℕ). LineGiven l buffer count after) e g
@@ -23,47 +27,79 @@ pub given-head : {head said : RowHead} (vectors : ℕ) (row : List ℕ) {buffer 
     → LineGiven (headLine head vectors row) buffer count after → LineGiven (headLine said vectors row) buffer count after
 given-head {head} {said} vectors row e g = given-line (headLine head vectors row) (headLine said vectors row) (ap (λ (h : RowHead). headLine h vectors row) e) g
 
+-- ---- how many lines there are
+
+pub held-count-is : (answer : Answer) (codes matrix classes : List ℕ) → length (heldLines answer codes matrix classes) ≡ heldCount answer
+unfolding heldLines heldCount toldLines toldCount gradedLines
+held-count-is answer codes matrix classes = told (numberOf answer)
+  where
+    told : (number : ℕ) → length (toldLines number (placeOf answer) (countsOf answer) codes matrix classes) ≡ toldCount number (countsOf answer)
+    told zero = ap suc (length-table (countsOf answer .faults) (heldRow (countsOf answer) codes matrix classes))
+    told (suc number) = refl
+
 -- ---- the line that a call gives
 
-module _ (answer : Answer) (codes matrix classes : List ℕ) (n number : ℕ) (number-is : number ≡ numberOf answer) where
-  pub refused-line : (place : ℕ) → place ≡ placeOf answer → 0 < number → refusalLine number place ≡ heldLine answer codes matrix classes n
-  unfolding heldLine toldLine
-  refused-line place place-is some =
-      go number some
-      ∙ ap (λ (k : ℕ). toldLine k place (countsOf answer) codes matrix classes n) number-is
-      ∙ ap (λ (p : ℕ). toldLine (numberOf answer) p (countsOf answer) codes matrix classes n) place-is
+module _ (answer : Answer) (number : ℕ) (number-is : number ≡ numberOf answer) where
+  pub refused-count : 0 < number → heldCount answer ≡ 1
+  unfolding heldCount toldCount
+  refused-count some = ap (λ (k : ℕ). toldCount k (countsOf answer)) (sym number-is) ∙ go number some
     where
-      go : (k : ℕ) → 0 < k → refusalLine k place ≡ toldLine k place (countsOf answer) codes matrix classes n
+      go : (k : ℕ) → 0 < k → toldCount k (countsOf answer) ≡ 1
       go zero h = absurd (omega arith)
       go (suc k) h = refl
 
-  module _ (none : number ≤ 0) (counts : CountsRecord) (counts-are : countsMeant counts ≡ countsOf answer) where
-    graded-line : gradedLine (countsMeant counts) codes matrix classes n ≡ heldLine answer codes matrix classes n
-    unfolding heldLine toldLine
-    graded-line =
-        let zero-is : 0 ≡ numberOf answer = omega (arith, none, number-is) in
-        ap (λ (m : Counts). toldLine 0 (placeOf answer) m codes matrix classes n) counts-are
-        ∙ ap (λ (k : ℕ). toldLine k (placeOf answer) (countsOf answer) codes matrix classes n) zero-is
+  pub graded-count : number ≤ 0 → heldCount answer ≡ suc (countsOf answer .faults)
+  unfolding heldCount toldCount
+  graded-count none =
+      let zero-is : numberOf answer ≡ 0 = omega (arith, none, number-is) in ap (λ (k : ℕ). toldCount k (countsOf answer)) zero-is
 
-    pub counts-line : n ≡ 0 → firstLine (counts .vectors) (counts .faults) (counts .classes) (counts .found) ≡ heldLine answer codes matrix classes n
-    unfolding gradedLine countsLine
-    counts-line first = ap (λ (k : ℕ). gradedLine (countsMeant counts) codes matrix classes k) (sym first) ∙ graded-line
+  module _ (codes matrix classes : List ℕ) (n : ℕ) (inside : n < heldCount answer) where
+    pub refused-line : (place : ℕ) → place ≡ placeOf answer → 0 < number → refusalLine number place ≡ heldLine answer codes matrix classes n
+    unfolding heldLine heldLines toldLines lineIn
+    refused-line place place-is some =
+        let first : n ≡ 0 = omega (arith, inside, refused-count some) in
+        go number some
+        ∙ ap (λ (k : ℕ). getD (toldLines k place (countsOf answer) codes matrix classes) 0 []) number-is
+        ∙ ap (λ (p : ℕ). getD (toldLines (numberOf answer) p (countsOf answer) codes matrix classes) 0 []) place-is
+        ∙ ap (λ (k : ℕ). getD (heldLines answer codes matrix classes) k []) (sym first)
+      where
+        go : (k : ℕ) → 0 < k → refusalLine k place ≡ getD (toldLines k place (countsOf answer) codes matrix classes) 0 []
+        go zero h = absurd (omega arith)
+        go (suc k) h = refl
 
-    pub row-line-held : 0 < n
-        → headLine (headOf (getD codes (n - 1) 0) (getD classes (n - 1) 0)) (counts .vectors) (wordsAt matrix (n - 1)) ≡ heldLine answer codes matrix classes n
-    unfolding gradedLine
-    row-line-held later =
-        let place : suc (n - 1) ≡ n = omega arith in ap (λ (k : ℕ). gradedLine (countsMeant counts) codes matrix classes k) place ∙ graded-line
+    module _ (none : number ≤ 0) (counts : CountsRecord) (counts-are : countsMeant counts ≡ countsOf answer) where
+      graded-line : lineIn (gradedLines (countsMeant counts) codes matrix classes) n ≡ heldLine answer codes matrix classes n
+      unfolding heldLine heldLines toldLines
+      graded-line =
+          let zero-is : 0 ≡ numberOf answer = omega (arith, none, number-is) in
+          ap (λ (m : Counts). lineIn (toldLines 0 (placeOf answer) m codes matrix classes) n) counts-are
+          ∙ ap (λ (k : ℕ). lineIn (toldLines k (placeOf answer) (countsOf answer) codes matrix classes) n) zero-is
+
+      pub counts-line : n ≡ 0 → firstLine (counts .vectors) (counts .faults) (counts .classes) (counts .found) ≡ heldLine answer codes matrix classes n
+      unfolding gradedLines countsLine lineIn
+      counts-line first = ap (λ (k : ℕ). getD (gradedLines (countsMeant counts) codes matrix classes) k []) (sym first) ∙ graded-line
+
+      pub row-line-held : 0 < n → heldRow (countsMeant counts) codes matrix classes (n - 1) ≡ heldLine answer codes matrix classes n
+      unfolding gradedLines lineIn
+      row-line-held later =
+          let place : suc (n - 1) ≡ n = omega arith in
+          let row : n - 1 < counts .faults = omega (arith, later, inside, graded-count none, ap (λ (m : Counts). m .faults) counts-are) in
+          sym (getD-table (counts .faults) (heldRow (countsMeant counts) codes matrix classes) [] (n - 1) row)
+          ∙ ap (λ (k : ℕ). getD (gradedLines (countsMeant counts) codes matrix classes) k []) place
+          ∙ graded-line
 
 -- ---- no line is empty
 
-pub held-some : (answer : Answer) (codes matrix classes : List ℕ) (n : ℕ) → 0 < length (heldLine answer codes matrix classes n)
-unfolding heldLine toldLine gradedLine countsLine
-held-some answer codes matrix classes n = told (numberOf answer) n .0
+pub held-some : (answer : Answer) (codes matrix classes : List ℕ) (n : ℕ) → n < heldCount answer → 0 < length (heldLine answer codes matrix classes n)
+unfolding heldLine heldLines toldLines gradedLines heldRow
+held-some answer codes matrix classes n h =
+    each-at Sized (heldLines answer codes matrix classes) n (told (numberOf answer)) (omega (arith, h, held-count-is answer codes matrix classes)) .0
   where
-    told : (number n : ℕ) → Sized (toldLine number (placeOf answer) (countsOf answer) codes matrix classes n)
-    told zero zero = first-sized (countsOf answer .vectors) (countsOf answer .faults) (countsOf answer .classes) (countsOf answer .found)
-    told zero (suc r) =
+    row : (r : ℕ) → Sized (heldRow (countsOf answer) codes matrix classes r)
+    row r =
         let head = headOf (getD codes r 0) (getD classes r 0) in
         row-sized (head .instance) (head .kind) (head .first) (head .second) (head .class) (min (countsOf answer .vectors) 256) (wordsAt matrix r) (omega arith)
-    told (suc number) n = refusal-sized (suc number) (placeOf answer)
+
+    told : (number : ℕ) → EachLine Sized (toldLines number (placeOf answer) (countsOf answer) codes matrix classes)
+    told zero = (counts-sized (countsOf answer), each-table Sized (countsOf answer .faults) (heldRow (countsOf answer) codes matrix classes) row)
+    told (suc number) = (refusal-sized (suc number) (placeOf answer), tt)

@@ -1,12 +1,13 @@
 -- The report's lines: one by one, all together, and how long they are. Assumes nothing.
 use Prim.Native.Nat.{ℕ, zero, suc, _*_, _≤_, _<_}
-use mathlib.Core.Path.{_≡_, refl, sym, ap, subst}
+use mathlib.Core.Path.{_≡_, refl, ap}
 use mathlib.Core.Bool.{Bool, true, false, cond}
 use mathlib.Core.List.{List, [], _∷_}
 use native.Mathlib.Omega.{arith}
 use lib.Dec.{ltb}
 use lib.ListN.{length, getD}
-use Rattle.print_lines.specs.Pieces.{lineIn}
+use Rattle.print_lines.proofs.LineList.{EachLine, each-at}
+use Rattle.print_lines.proofs.LineSizes.{Sized, refusal-sized}
 use Rattle.print_lines.proofs.PieceLaws.{text-of-list}
 use Rattle.circuit.specs.Circuit.{Circuit, joinLists}
 use Rattle.circuit.specs.Reading.{Reading, accepted, refusal, readingOf}
@@ -15,9 +16,9 @@ use Rattle.grading.specs.Rows.{Row, noRow, rowsOf, rowWords}
 use Rattle.grading.specs.Classes.{classesOf}
 use Rattle.grading.specs.Grading.{Grading, graded, refused, countsOfCircuit, gradingOfCircuit, afterReading, gradingOf}
 use Rattle.grading.proofs.ClassNumbering.{class-numbers}
-use Rattle.print_report.specs.Report.{kindOf, firstEnd, secondEnd, lineOf, rowLines, countsLine, reportLines, reportLine, lineCount, reportOf}
+use Rattle.print_report.specs.Report.{kindOf, firstEnd, secondEnd, lineOf, rowLines, reportLines, reportLine, lineCount, reportOf}
 use Rattle.print_report.specs.Promise.{ReportIsLines, LinesFit}
-use Rattle.print_report.proofs.LineSizes.{Sized, first-sized, refusal-sized, row-sized}
+use Rattle.print_report.proofs.LineSizes.{counts-sized, row-sized}
 
 -- ---- the report's lines, one by one
 
@@ -60,19 +61,21 @@ grading-sound file words entries = go (readingOf file) refl
     go (accepted c) e = by c e (ltb words (4 * length (rowsOf c))) (ltb entries (length (rowsOf c)))
     go (refusal number place) e = refusal-is-good file number place e .low
 
-lines-sized : (file : List ℕ) (g : Grading) → GradingSound file g → (n : ℕ) → n < lineCount g → Sized (reportLine g n)
-unfolding GradingSound reportLine lineIn lineCount reportLines countsLine lineOf
-lines-sized file (graded c) reads zero h =
-    first-sized (countsOfCircuit c .vectors) (countsOfCircuit c .faults) (countsOfCircuit c .classes) (countsOfCircuit c .found)
-lines-sized file (graded c) reads (suc r) h =
-    let each = class-numbers c .one-each in
-    let row = getD (rowsOf c) r noRow in
-    let inside : r < length (rowsOf c) = omega (arith, h, length-lines c (rowsOf c) (classesOf (rowsOf c)) each) in
-    subst Sized (sym (line-at c (rowsOf c) (classesOf (rowsOf c)) r each inside))
-    (row-sized (row .number) (kindOf (row .bridge)) (firstEnd (row .bridge)) (secondEnd (row .bridge)) (getD (classesOf (rowsOf c)) r 0) (length (c .vectors))
-    (rowWords c row) (accepted-is-good file c reads .few-vectors))
-lines-sized file (refused number place) low zero h = refusal-sized number place
-lines-sized file (refused number place) low (suc n) h = absurd (omega (arith, h))
+rows-sized : (c : Circuit) → length (c .vectors) ≤ 256 → (rows : List Row) (classes : List ℕ) → EachLine Sized (rowLines c rows classes)
+unfolding rowLines lineOf
+rows-sized c few [] classes = tt
+rows-sized c few (row ∷ rows) [] = tt
+rows-sized c few (row ∷ rows) (class ∷ classes) =
+    let b = row .bridge in
+    (row-sized (row .number) (kindOf b) (firstEnd b) (secondEnd b) class (length (c .vectors)) (rowWords c row) few, rows-sized c few rows classes)
+
+lines-sized : (file : List ℕ) (g : Grading) → GradingSound file g → EachLine Sized (reportLines g)
+unfolding GradingSound reportLines
+lines-sized file (graded c) reads =
+    (counts-sized (countsOfCircuit c), rows-sized c (accepted-is-good file c reads .few-vectors) (rowsOf c) (classesOf (rowsOf c)))
+lines-sized file (refused number place) low = (refusal-sized number place, tt)
 
 pub lines-fit : LinesFit
-lines-fit file words entries n h = lines-sized file (gradingOf file words entries) (grading-sound file words entries) n h
+unfolding reportLine lineCount
+lines-fit file words entries n h =
+    let g : Grading = gradingOf file words entries in each-at Sized (reportLines g) n (lines-sized file g (grading-sound file words entries)) h

@@ -1,6 +1,6 @@
 -- 01, "The report": fields are separated by one space, lines end with byte 10. First line: vectors, faults, classes and found, each word
 -- before its number. Row: instance; n for kind 0 or i for kind 1; first; second; class; one digit for each vector, 1 for a mark; number of
--- marks; first marking vector or 0. A refusal's line is in text/specs/Lines.
+-- marks; first marking vector or 0. A refusal's line is in print_lines/specs/Lines.
 use Prim.Native.Nat.{ℕ, zero, suc, _+_}
 use mathlib.Core.List.{List, [], _∷_, _++_}
 use Rattle.words.specs.Tables.{table}

@@ -13,11 +13,11 @@ use print_lines::refusal_line;
 use words::first_mark;
 use words::marks;
 ghost use mathlib.Core.Path.{_≡_};
-ghost use Prim.Native.Nat.{_+_, _*_, _≤_, _<_, min};
+ghost use Prim.Native.Nat.{_+_, _*_, _^_, _≤_, _<_, min};
 ghost use lib.ListN.{length, getD};
 ghost use Rattle.words.specs.Written.{written};
 ghost use Rattle.print_report.specs.Lines.{firstLine, kindLetter, digitsOfMarks, rowLine};
-ghost use Rattle.print_report.specs.Held.{headOf, headLine, wordsAt, heldLine, RowsHeld};
+ghost use Rattle.print_report.specs.Held.{headOf, headLine, wordsAt, heldLine, heldCount, RowsHeld};
 ghost use Rattle.print_report.specs.Promise.{ReportPiece};
 ghost use Rattle.grading.specs.Promise.{countsOf};
 ghost use Rattle.print_lines.specs.Given.{LineGiven};
@@ -144,6 +144,18 @@ fn held_row(
     row_line(head, vectors, row, out)
 }
 
+// How many lines the report has: a refusal is one; else one for the counts and one for each row.
+fn held_count(answer: Answer) -> usize
+    requires { ⌜ 4 * countsOf answer .faults < 2 ^ 64 ⌝ }
+    ensures { λ r. ⌜ r ≡ heldCount answer ⌝ }
+{
+    if 0 < number_of(answer) {
+        return 1;
+    }
+    let counts = counts_of(answer);
+    counts.faults + 1
+}
+
 // The line at a number: the counts or the refusal, then the rows.
 fn held_line(
     answer: Answer,
@@ -154,7 +166,7 @@ fn held_line(
     out: &mut [u8],
 ) -> usize
     requires { ⌜ RowsHeld answer (now codes) (now matrix) (now classes) ⌝ }
-    requires { ⌜ number ≤ countsOf answer .faults ⌝ }
+    requires { ⌜ number < heldCount answer ⌝ }
     ensures { λ r. ⌜ LineGiven (heldLine answer (now (codes .entry)) (now (matrix .entry)) (now (classes .entry)) number) (now (out .entry)) r (now (out .exit)) ⌝ }
 {
     let refused = number_of(answer);
@@ -186,11 +198,10 @@ pub fn report_piece(
     requires { ⌜ RowsHeld answer (now codes) (now matrix) (now classes) ⌝ }
     ensures { λ r. ⌜ ReportPiece answer (now (codes .entry)) (now (matrix .entry)) (now (classes .entry)) from (now (out .entry)) r (now (out .exit)) ⌝ }
 {
-    let counts = counts_of(answer);
-    let rows = counts.faults;
+    let lines = held_count(answer);
     let mut next = from;
     let mut count: usize = 0;
-    while next <= rows {
+    while next < lines {
         let given = held_line(answer, codes, matrix, classes, next, &mut out[count..]);
         if given == 0 {
             break;

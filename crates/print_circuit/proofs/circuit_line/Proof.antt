@@ -1,4 +1,4 @@
--- `listing::circuit_line` meets its contract. Assumes nothing.
+-- `print_circuit::circuit_line` meets its contract. Assumes nothing.
 use Prim.Native.Nat.{ℕ, _≤_}
 use mathlib.Core.Path.{_≡_, refl, _∙_}
 use mathlib.Core.List.{List, _++_, map}

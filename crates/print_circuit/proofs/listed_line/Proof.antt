@@ -1,4 +1,4 @@
--- `listing::listed_line` meets its contract. Assumes nothing.
+-- `print_circuit::listed_line` meets its contract. Assumes nothing.
 use Prim.Native.Nat.{ℕ}
 use mathlib.Core.Path.{_≡_, refl, sym, ap, _∙_}
 use mathlib.Core.Bool.{true, false}
@@ -9,11 +9,12 @@ use Rattle.circuit.specs.Refusals.{refusalNumber, refusalPlace, verdictOf}
 use Rattle.circuit.specs.Verdicts.{isRefused}
 use Rattle.circuit.specs.declared.Reading.{Reading as ReadingRecord}
 use Rattle.print_lines.specs.Lines.{refusalLine}
+use Rattle.print_lines.proofs.LineSizes.{refusal-sized}
 use Rattle.print_circuit.specs.Listing.{circuitLines, refusalLines, listingOf}
 use Rattle.print_circuit.specs.Told.{circuitTold, readingTold, listingTold}
 use Rattle.print_circuit.proofs.Putting.{puts-same}
 use Rattle.print_circuit.proofs.PartLaws.{circuit-filled}
-use Rattle.print_circuit.proofs.SoughtLaws.{Sought, sought-start, sought-more, sought-found, sought-one, sought-past, part-puts, refused-told, accepted-told, refusal-few, refusal-short, given-puts}
+use Rattle.print_circuit.proofs.SoughtLaws.{Sought, sought-start, sought-more, sought-found, sought-one, sought-past, part-puts, refused-told, accepted-told, refusal-few, given-puts}
 use borrow.Author.Needs.{needs}
 use Rattle.print_circuit.proofs.listed_line.Statement.{statement}
 use Rattle.print_circuit.proofs.listed_line.Tie as tie
@@ -83,7 +84,7 @@ returns-2 c =
     let refuses = sym (c .before .before .before .before .before .before .before .refuses .ensures) ∙ c .before .before .before .before .before .before .if3 .taken in
     let said : refusalLine (c .before .before .before .before .before .number-of .result) (c .before .before .before .before .place-of .result) ≡ refusalLine (refusalNumber (r .refusal)) (refusalPlace (r .refusal))
     = ap (λ (k : ℕ). refusalLine k (c .before .before .before .before .place-of .result)) (c .before .before .before .before .before .number-of .ensures) ∙ ap (λ (k : ℕ). refusalLine (refusalNumber (r .refusal)) k) (c .before .before .before .before .place-of .ensures) in
-    let given = given-puts _ _ _ _ (omega (arith, refusal-short (c .before .before .before .before .before .number-of .result) (c .before .before .before .before .place-of .result))) (c .before .before .refusal-line .ensures) in
+    let given = given-puts _ _ _ _ (omega (arith, refusal-sized (c .before .before .before .before .before .number-of .result) (c .before .before .before .before .place-of .result) .1)) (c .before .before .refusal-line .ensures) in
     rw (← (lines-are r))
     (sought-one (circuit-of r ++ refusal-of r) (refusal-of r) _ _ _ 1681 _ _ (sought behind) (told-refused r refuses) (c .before .before .before .before .before .before .before .before .if2 .taken) (puts-same _ _ said given))
 

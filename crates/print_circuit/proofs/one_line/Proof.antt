@@ -1,4 +1,4 @@
--- `listing::one_line` meets its contract. Assumes nothing.
+-- `print_circuit::one_line` meets its contract. Assumes nothing.
 use Prim.Native.Nat.{ℕ, _≤_}
 use mathlib.Core.Path.{_≡_, sym}
 use mathlib.Core.List.{List}
@@ -7,7 +7,8 @@ use lib.ListN.{length, take, replicate, length-take}
 use lib.Seq.{length-take-le}
 use Rattle.print_lines.specs.Pieces.{lineIn}
 use Rattle.print_circuit.specs.Told.{listingTold}
-use Rattle.print_circuit.proofs.SoughtLaws.{given-some, put-within, take-put}
+use Rattle.print_lines.proofs.Within.{given-some}
+use Rattle.print_circuit.proofs.SoughtLaws.{put-within, take-put}
 use borrow.Author.Needs.{needs}
 use Rattle.print_circuit.proofs.one_line.Statement.{statement}
 use Rattle.print_circuit.proofs.one_line.Tie as tie

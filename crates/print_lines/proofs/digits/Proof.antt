@@ -1,4 +1,4 @@
--- `text::digits` meets its contract. The loop's invariant: the count, which has one digit of what is left already, and the digits of what is left are
+-- `print_lines::digits` meets its contract. The loop's invariant: the count, which has one digit of what is left already, and the digits of what is left are
 -- one more than the number's; and what is left is short enough that the definition's limit is not met. Assumes nothing.
 use mathlib.Core.Path.{_≡_}
 use Prim.Native.Nat.{_≤_, _<_, _-_, _+_, _^_, _/_, ℕ, zero, suc}

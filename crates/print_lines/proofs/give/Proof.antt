@@ -1,4 +1,4 @@
--- `text::give` meets its contract. Assumes nothing.
+-- `print_lines::give` meets its contract. Assumes nothing.
 use mathlib.Core.Path.{_∙_}
 use native.Mathlib.Nat.{zero-add}
 use native.Mathlib.Omega.{arith}

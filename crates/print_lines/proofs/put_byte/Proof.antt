@@ -1,4 +1,4 @@
--- `text::put_byte` meets its contract: one stored byte is a text of one byte. Assumes nothing.
+-- `print_lines::put_byte` meets its contract: one stored byte is a text of one byte. Assumes nothing.
 use mathlib.Core.Path.{refl}
 use borrow.Author.Needs.{needs}
 use Rattle.words.proofs.WrittenLaws.{set-written}

@@ -1,4 +1,4 @@
--- `text::put_bytes` meets its contract. The loop's invariant: the bytes passed stand in the buffer at their place, and all else there is as it was.
+-- `print_lines::put_bytes` meets its contract. The loop's invariant: the bytes passed stand in the buffer at their place, and all else there is as it was.
 -- Assumes nothing.
 use mathlib.Core.Path.{_≡_, refl, ap, _∙_}
 use Prim.Native.Nat.{suc, _≤_, _-_, _+_}

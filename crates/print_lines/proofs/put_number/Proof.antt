@@ -1,4 +1,4 @@
--- `text::put_number` meets its contract. The loop's invariant: the digits from i on stand in the buffer at their place and all else there is as it was,
+-- `print_lines::put_number` meets its contract. The loop's invariant: the digits from i on stand in the buffer at their place and all else there is as it was,
 -- and the digits before i are the last i digits of what is left of the number. Assumes nothing.
 use mathlib.Core.Path.{_≡_, refl, ap, sym, _∙_}
 use mathlib.Core.List.{List, [], _∷_}

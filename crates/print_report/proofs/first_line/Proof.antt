@@ -1,4 +1,4 @@
--- `report::first_line` meets its contract: each call adds its piece to the line, which has room for it, and the pieces make the promised line. Assumes nothing.
+-- `print_report::first_line` meets its contract: each call adds its piece to the line, which has room for it, and the pieces make the promised line. Assumes nothing.
 use mathlib.Core.Path.{refl, sym}
 use mathlib.Core.List.{_∷_, append-assoc}
 use native.Mathlib.Omega.{arith}

@@ -1,6 +1,7 @@
--- `report::held_line` meets its contract: a refusal, the counts or a row, by the line's number. Assumes nothing.
+-- `print_report::held_line` meets its contract: a refusal, the counts or a row, by the line's number. Assumes nothing.
 use native.Mathlib.Omega.{arith}
-use Rattle.print_report.proofs.HeldLaws.{given-line, refused-line, counts-line, row-line-held}
+use Rattle.print_report.proofs.HeldLaws.{given-line, graded-count, refused-line, counts-line, row-line-held}
+use Rattle.print_report.specs.Held.{heldRow}
 use borrow.Author.Needs.{needs}
 use Rattle.print_report.proofs.held_line.Statement.{statement}
 use Rattle.print_report.proofs.held_line.Tie as tie
@@ -19,9 +20,11 @@ same-length c = search needs
 
 returns : tie.Need-returns
 returns c =
-    let e = c .before .before .before .before .before .before .before .before .before .before .before .args in
-    given-line _ _ (refused-line (e .answer) (e .codes .now) (e .matrix .now) (e .classes .now) (e .number) _ (c .before .before .before .before .before .before .number-of .ensures) _ (c .before .before .before .before .place-of .ensures) (omega arith))
-    (c .before .before .refusal-line .ensures)
+    let start = c .before .before .before .before .before .before .before .before .before .before .before in
+    let numbered = c .before .before .before .before .before .before .number-of .ensures in
+    let placed = c .before .before .before .before .place-of .ensures in
+    let given = c .before .before .refusal-line .ensures in
+    given-line _ _ (refused-line (start .args .answer) _ numbered _ _ _ _ (start .pre .1) _ placed (omega arith)) given
 
 counts-of-requires : tie.Need-counts-of-requires
 counts-of-requires c κs = search needs
@@ -34,26 +37,31 @@ same-length-2 c = search needs
 
 returns-2 : tie.Need-returns-2
 returns-2 c =
-    let e = c .before .before .before .before .before .before .before .before .before .before .before .before .args in
-    given-line _ _
-    (counts-line (e .answer) (e .codes .now) (e .matrix .now) (e .classes .now) (e .number) _ (c .before .before .before .before .before .before .before .number-of .ensures) (omega arith) _ (c .before .before .before .before .before .counts-of .ensures) (omega arith))
-    (c .before .before .first-line .ensures)
+    let start = c .before .before .before .before .before .before .before .before .before .before .before .before in
+    let numbered = c .before .before .before .before .before .before .before .number-of .ensures in
+    let counted = c .before .before .before .before .before .counts-of .ensures in
+    let given = c .before .before .first-line .ensures in
+    given-line _ _ (counts-line (start .args .answer) _ numbered _ _ _ _ (start .pre .1) (omega arith) _ counted (omega arith)) given
 
 sub-held-row : tie.Need-sub-held-row
 sub-held-row c = search needs
 
 held-row-requires : tie.Need-held-row-requires
-held-row-requires c κs = search needs
+held-row-requires c κs =
+    let numbered = c .before .before .before .before .number-of .ensures in
+    let rows = graded-count _ _ numbered (omega arith) in search needs
 
 same-length-3 : tie.Need-same-length-3
 same-length-3 c = search needs
 
 returns-3 : tie.Need-returns-3
+unfolding heldRow
 returns-3 c =
-    let e = c .before .before .before .before .before .before .before .before .before .before .before .before .args in
-    given-line _ _
-    (row-line-held (e .answer) (e .codes .now) (e .matrix .now) (e .classes .now) (e .number) _ (c .before .before .before .before .before .before .before .number-of .ensures) (omega arith) _ (c .before .before .before .before .before .counts-of .ensures) (omega arith))
-    (c .before .before .held-row .ensures)
+    let start = c .before .before .before .before .before .before .before .before .before .before .before .before in
+    let numbered = c .before .before .before .before .before .before .before .number-of .ensures in
+    let counted = c .before .before .before .before .before .counts-of .ensures in
+    let given = c .before .before .held-row .ensures in
+    given-line _ _ (row-line-held (start .args .answer) _ numbered _ _ _ _ (start .pre .1) (omega arith) _ counted (omega arith)) given
 
 pub held-line-spec : {M : Type 1} → statement M
 held-line-spec =

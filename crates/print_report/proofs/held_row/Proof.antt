@@ -1,4 +1,4 @@
--- `report::held_row` meets its contract: the head is that of the row's number. Assumes nothing.
+-- `print_report::held_row` meets its contract: the head is that of the row's number. Assumes nothing.
 use Rattle.print_report.specs.Held.{wordsAt}
 use Rattle.print_report.proofs.HeldLaws.{given-head}
 use borrow.Author.Needs.{needs}

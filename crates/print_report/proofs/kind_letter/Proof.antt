@@ -1,4 +1,4 @@
--- `report::kind_letter` meets its contract. Assumes nothing.
+-- `print_report::kind_letter` meets its contract. Assumes nothing.
 use mathlib.Core.Path.{_≡_, refl}
 use Prim.Native.Nat.{ℕ, zero, suc}
 use Rattle.print_report.specs.Lines.{kindLetter}

@@ -1,4 +1,4 @@
--- `report::put_marks` meets its contract. The loop's invariant: the digits of the vectors passed stand in the line at their place, and all else there is
+-- `print_report::put_marks` meets its contract. The loop's invariant: the digits of the vectors passed stand in the line at their place, and all else there is
 -- as it was. Assumes nothing.
 use mathlib.Core.Path.{_≡_, refl, sym, ap, _∙_}
 use mathlib.Core.List.{List}

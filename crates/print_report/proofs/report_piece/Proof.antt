@@ -1,13 +1,9 @@
--- `report::report_piece` meets its contract. The loop's invariant: the lines passed stand at the buffer's front, and the rows are there. Assumes nothing.
-use Prim.Native.Nat.{suc, _-_, _≤_, max}
-use mathlib.Core.Path.{_≡_, refl, ap}
+-- `print_report::report_piece` meets its contract. The loop's invariant: the lines passed stand at the buffer's front, and the rows are there. Assumes nothing.
+use Prim.Native.Nat.{_-_, _≤_, _<_}
+use mathlib.Core.Path.{_≡_}
 use native.Mathlib.Omega.{arith}
 use borrow.Author.Needs.{needs}
-use lib.ListN.{length}
-use Rattle.print_lines.specs.Pieces.{LinesStand}
-use Rattle.print_lines.proofs.PieceLaws.{stand-none, stand-next, stand-length, more-fits, no-room}
-use Rattle.grading.specs.Grading.{Counts}
-use Rattle.grading.specs.Promise.{countsOf}
+use Rattle.print_lines.proofs.PieceLoop.{PieceSoFar, piece-begins, piece-ends, count-fits, piece-grows, piece-full}
 use Rattle.print_report.specs.Held.{heldLine, heldCount, RowsHeld}
 use Rattle.print_report.proofs.HeldLaws.{held-some}
 use Rattle.print_report.proofs.HeldIsReport.{report-piece}
@@ -15,20 +11,17 @@ use Rattle.print_report.proofs.report_piece.Statement.{statement}
 use Rattle.print_report.proofs.report_piece.Tie as tie
 
 abbrev Inv-loop : tie.InvT-loop
-Inv-loop answer codes matrix classes from out₀ rows next₀ count₀ out next count =
-    LinesStand (heldLine answer codes matrix classes) from out₀ next count out × (count ≤ length out) × (length out ≡ length out₀) × (next ≤ max from (suc rows)) × (rows ≡ countsOf answer .faults)
-    × RowsHeld answer codes matrix classes
+Inv-loop answer codes matrix classes from out₀ lines next₀ count₀ out next count =
+    PieceSoFar (heldLine answer codes matrix classes) (heldCount answer) from out₀ next count out × (lines ≡ heldCount answer) × RowsHeld answer codes matrix classes
 
 abbrev μ-loop : tie.MeasureT-loop
-μ-loop answer codes matrix classes from out₀ rows next₀ count₀ out next count = suc rows - next
+μ-loop answer codes matrix classes from out₀ lines next₀ count₀ out next count = lines - next
 
-counts-of-requires : tie.Need-counts-of-requires Inv-loop μ-loop
-counts-of-requires c κs = search needs
+held-count-requires : tie.Need-held-count-requires Inv-loop μ-loop
+held-count-requires c κs = search needs
 
 loop-holds : tie.Need-loop-holds Inv-loop μ-loop
-loop-holds c =
-    let start = c .before .before .before .before .before in
-    (stand-none _ (start .args .from) (start .args .out .now), omega arith, refl, omega arith, ap (λ (m : Counts). m .faults) (c .counts-of .ensures), start .pre)
+loop-holds c = (piece-begins, c .held-count .ensures, c .before .before .before .before .before .pre)
 
 sub-held-line : tie.Need-sub-held-line Inv-loop μ-loop
 sub-held-line c = search needs
@@ -47,46 +40,30 @@ add-next c = search needs
 
 add-count : tie.Need-add-count Inv-loop μ-loop
 add-count c =
-    let l = c .before .before .before .before .before .before .loop in
-    let fits = more-fits _ _ _ _ _ _ (l .inv .0) _ _ (c .before .before .before .held-line .ensures) in search needs
+    let turn = c .before .before .before .before .before .before .loop in
+    let fits = count-fits (turn .inv .0) (c .before .before .before .held-line .ensures) in search needs
 
 loop-less : tie.Need-loop-less Inv-loop μ-loop
 loop-less c = search needs
 
 loop-again : tie.Need-loop-again Inv-loop μ-loop
 loop-again c =
-    let l = c .before .before .before .before .before .before .loop in
-    let handed = c .before .before .before .held-line .ensures in
-    let some = stand-next _ _ _ _ _ _ (l .inv .0) _ _ handed (omega arith) in
-    let long = stand-length _ _ _ _ _ _ some in
-    (some, omega (arith, long, some .room), long, omega arith, l .inv .4, l .inv .5)
+    let turn = c .before .before .before .before .before .before .loop in
+    (piece-grows (turn .inv .0) (c .before .before .before .held-line .ensures) (omega arith) (omega arith), turn .inv .1, turn .inv .2)
 
 same-length : tie.Need-same-length Inv-loop μ-loop
 same-length c = search needs
 
 returns : tie.Need-returns Inv-loop μ-loop
-unfolding heldCount
-returns c =
-    let l = c .before .loop in
-    let rows = l .inv .4 in
-    report-piece _ _ _ _ _ _ _ _ (record { stands = l .inv .0; within = omega (arith, rows, l .inv .3); full = λ h. absurd (omega (arith, rows, h)) })
+returns c = let turn = c .before .loop in report-piece _ _ _ _ _ _ _ _ (piece-ends (turn .inv .0) (omega arith))
 
 same-length-2 : tie.Need-same-length-2 Inv-loop μ-loop
 same-length-2 c = search needs
 
 returns-2 : tie.Need-returns-2 Inv-loop μ-loop
-unfolding heldCount
 returns-2 c =
-    let e = c .before .before .before .before .before .before .before .before .before .before .before .before .args in
-    let l = c .before .before .before .before .before .before .loop in
-    let rows = l .inv .4 in
-    let handed = c .before .before .before .held-line .ensures in
-    let kept = no-room _ _ _ _ _ _ (l .inv .0) _ _ handed (omega arith) (held-some (e .answer) (e .codes .now) (e .matrix .now) (e .classes .now) (l .next)) in
-    report-piece _ _ _ _ _ _ _ _ (record {
-      stands = rw (kept .0) (l .inv .0);
-      within = omega (arith, rows, l .inv .3);
-      full = λ h. kept .1;
-    })
+    let turn = c .before .before .before .before .before .before .loop in
+    report-piece _ _ _ _ _ _ _ _ (piece-full (turn .inv .0) (c .before .before .before .held-line .ensures) (omega arith) (λ (more : _). held-some _ _ _ _ _ more))
 
 pub report-piece-spec : {M : Type 1} → statement M
 report-piece-spec =
@@ -94,7 +71,7 @@ report-piece-spec =
     (tie.spec
     Inv-loop
     μ-loop
-    counts-of-requires
+    held-count-requires
     loop-holds
     sub-held-line
     part-held-line-start

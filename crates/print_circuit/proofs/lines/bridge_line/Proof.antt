@@ -1,4 +1,4 @@
--- `listing::lines::bridge_line` meets its contract: each call adds its piece to the text, which has room for it. Assumes nothing.
+-- `print_circuit::lines::bridge_line` meets its contract: each call adds its piece to the text, which has room for it. Assumes nothing.
 use native.Mathlib.Omega.{arith}
 use borrow.Author.Needs.{needs}
 use Rattle.print_lines.specs.Ascii.{bytesOf}

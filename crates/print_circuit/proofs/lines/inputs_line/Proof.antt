@@ -1,4 +1,4 @@
--- `listing::lines::inputs_line` meets its contract: each call adds its piece to the text, which has room for it. Assumes nothing.
+-- `print_circuit::lines::inputs_line` meets its contract: each call adds its piece to the text, which has room for it. Assumes nothing.
 use mathlib.Core.Path.{refl}
 use native.Mathlib.Omega.{arith}
 use borrow.Author.Needs.{needs}

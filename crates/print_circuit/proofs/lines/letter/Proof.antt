@@ -1,4 +1,4 @@
--- `listing::lines::letter` meets its contract. Assumes nothing.
+-- `print_circuit::lines::letter` meets its contract. Assumes nothing.
 use native.Mathlib.Omega.{arith}
 use Rattle.words.specs.Bits.{bit}
 use Rattle.print_circuit.proofs.TextLaws.{letter-1, letter-0, letter-X}

@@ -1,4 +1,4 @@
--- `listing::lines::put_choice` meets its contract. Assumes nothing.
+-- `print_circuit::lines::put_choice` meets its contract. Assumes nothing.
 use Rattle.print_circuit.proofs.Putting.{puts-same}
 use Rattle.print_circuit.proofs.TextLaws.{choice-255, choice-other}
 use borrow.Author.Needs.{needs}

@@ -1,4 +1,4 @@
--- `listing::lines::put_kind` meets its contract. Assumes nothing.
+-- `print_circuit::lines::put_kind` meets its contract. Assumes nothing.
 use Rattle.print_circuit.proofs.Putting.{puts-same}
 use Rattle.print_circuit.proofs.TextLaws.{kind-n, kind-i}
 use borrow.Author.Needs.{needs}

@@ -1,4 +1,4 @@
--- `listing::lines::put_labels` meets its contract. Assumes nothing.
+-- `print_circuit::lines::put_labels` meets its contract. Assumes nothing.
 use Prim.Native.Nat.{ℕ, suc, _+_, _-_, _*_, _≤_, _<_, min}
 use mathlib.Core.Path.{_≡_}
 use mathlib.Core.List.{List}

@@ -1,4 +1,4 @@
--- `listing::lines::put_letters` meets its contract. Assumes nothing.
+-- `print_circuit::lines::put_letters` meets its contract. Assumes nothing.
 use Prim.Native.Nat.{ℕ, _+_, _-_, _≤_}
 use mathlib.Core.Path.{_≡_, refl, sym, ap, _∙_}
 use mathlib.Core.List.{List}

@@ -1,4 +1,4 @@
--- `listing::lines::put_reference` meets its contract. Assumes nothing.
+-- `print_circuit::lines::put_reference` meets its contract. Assumes nothing.
 use mathlib.Core.Path.{refl}
 use native.Mathlib.Omega.{arith}
 use Rattle.print_lines.specs.Ascii.{bytesOf}

@@ -1,4 +1,4 @@
--- `listing::lines::vector_line` meets its contract: each call adds its piece to the text, which has room for it. Assumes nothing.
+-- `print_circuit::lines::vector_line` meets its contract: each call adds its piece to the text, which has room for it. Assumes nothing.
 use mathlib.Core.Path.{ap}
 use mathlib.Core.List.{List, _++_, map}
 use native.Mathlib.Omega.{arith}

@@ -1,4 +1,4 @@
--- `listing::parts::inputs_part` meets its contract. Assumes nothing.
+-- `print_circuit::parts::inputs_part` meets its contract. Assumes nothing.
 use borrow.Author.Needs.{needs}
 use Rattle.print_circuit.proofs.PartLaws.{inputs-none, inputs-here, inputs-past}
 use Rattle.print_circuit.proofs.parts.inputs_part.Statement.{statement}

@@ -1,4 +1,4 @@
--- `listing::parts::instance_part` meets its contract. Assumes nothing.
+-- `print_circuit::parts::instance_part` meets its contract. Assumes nothing.
 use Prim.Native.Nat.{ℕ, _+_, _<_}
 use mathlib.Core.Path.{_≡_, ap, _∙_}
 use mathlib.Core.List.{List, [], map}

@@ -1,4 +1,4 @@
--- `listing::parts::labels_of` meets its contract. Assumes nothing.
+-- `print_circuit::parts::labels_of` meets its contract. Assumes nothing.
 use mathlib.Core.List.{List, map}
 use native.Mathlib.Omega.{arith}
 use lib.ListN.{take, length-map}

@@ -1,4 +1,4 @@
--- `listing::parts::one_type` meets its contract. Assumes nothing.
+-- `print_circuit::parts::one_type` meets its contract. Assumes nothing.
 use Rattle.switch.specs.Records.{typeOf}
 use Rattle.print_circuit.specs.Listing.{typeLines}
 use Rattle.print_circuit.proofs.PartLaws.{part-first, part-later}

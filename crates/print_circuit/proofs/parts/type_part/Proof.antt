@@ -1,4 +1,4 @@
--- `listing::parts::type_part` meets its contract. Assumes nothing.
+-- `print_circuit::parts::type_part` meets its contract. Assumes nothing.
 use Prim.Native.Nat.{ℕ, suc, _-_, _≤_, _<_}
 use mathlib.Core.Path.{_≡_, refl, ap, subst}
 use mathlib.Core.List.{List, [], map}

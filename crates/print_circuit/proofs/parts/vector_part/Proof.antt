@@ -1,4 +1,4 @@
--- `listing::parts::vector_part` meets its contract. Assumes nothing.
+-- `print_circuit::parts::vector_part` meets its contract. Assumes nothing.
 use Prim.Native.Nat.{_<_}
 use mathlib.Core.Path.{_≡_, _∙_}
 use mathlib.Core.List.{List, map}

@@ -11,21 +11,22 @@ use Rattle.print_lines.specs.Ascii.{bytesOf}
 use Rattle.circuit.specs.Circuit.{Circuit, Instance, Reference, primary, outputOf, no-faults}
 use Rattle.circuit.specs.Reading.{Reading, accepted, refusal, readingOf}
 use Rattle.circuit.specs.Records.{emptyCircuit}
-use Rattle.demands.specs.Calls.{Call, isGraded, cellAt}
+use Rattle.grading.specs.Promise.{isGraded}
+use Rattle.demands.specs.Calls.{Call, cellAt}
 use Rattle.demands.specs.Files.{inputsField, nand3Fields, instanceField, vectorField, nandUnder}
 use Rattle.demands.specs.Graders.{called, rightly}
 use Rattle.demands.specs.AlikeFiles.{TagAndBody, AlikeFiles, KeepsLetters, FinerBodies, NandRefined}
 use Rattle.demands.specs.SplitFiles.{AlikeAfterBytes, NotAnyHead}
-use Rattle.demands.proofs.Computing.{grader-computing, room, entries}
+use Rattle.demands.proofs.Computing.{grader-computing, blank}
 use Rattle.demands.proofs.RightProof.{rightly-is-right}
 
 -- ---- a NAND under 0X, and under 01 and 11
 
 abbrev under0X : Call
-under0X = called rightly (nandUnder ("0X" ∷ [])) room entries
+under0X = called rightly (nandUnder ("0X" ∷ [])) blank
 
 abbrev under01 : Call
-under01 = called rightly (nandUnder ("01" ∷ "11" ∷ [])) room entries
+under01 = called rightly (nandUnder ("01" ∷ "11" ∷ [])) blank
 
 abbrev tagged : ℕ → List ℕ → TagAndBody
 tagged tag body = record { tag = tag; body = body }
@@ -43,7 +44,7 @@ nand-files = record { head = nandHead; one-split = record { no-vector = tt; is =
 record Computed : Type 0 where
   graded : T (isGraded (under0X .answer))
   graded′ : T (isGraded (under01 .answer))
-  mark : cellAt (under0X .matrix-after) 1 0 ≡ 1
+  mark : cellAt (under0X .after .matrix) 1 0 ≡ 1
 
 computed : Computed
 unfolding grader-computing cellAt isGraded
@@ -69,8 +70,8 @@ nand-refined = record {
   one-file = refl;
   finer-file = refl;
   graded = record {
-    first = record { kept = rightly-is-right _ _ _; graded = computed .graded };
-    second = record { kept = rightly-is-right _ _ _; graded = computed .graded′ };
+    first = record { kept = rightly-is-right _ _; graded = computed .graded };
+    second = record { kept = rightly-is-right _ _; graded = computed .graded′ };
     files = nand-files;
   };
   more = more-bodies;

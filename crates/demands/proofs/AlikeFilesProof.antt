@@ -207,7 +207,7 @@ module _ (one other : Call) (bodies otherBodies : List (List ℕ)) (graded : Gra
       rw (← same-rows c d (read .alike)) (cell-decides d vector row .1 t)
 
   column : (v w : ℕ) → v < length bodies → w < length otherBodies → getD bodies v [] ≡ getD otherBodies w []
-      → (r : ℕ) → r < countsOf (one .answer) .faults → cellAt (one .matrix-after) r v ≡ cellAt (other .matrix-after) r w
+      → (r : ℕ) → r < countsOf (one .answer) .faults → cellAt (one .after .matrix) r v ≡ cellAt (other .after .matrix) r w
   unfolding vectorIn
   column v w h k same r l =
       let vector = List·getD-map vectorIn bodies v [] in
@@ -222,7 +222,7 @@ module _ (one other : Call) (bodies otherBodies : List (List ℕ)) (graded : Gra
       record { marks = λ r v h k. stands .marks (cellOf r v h k); found = stands .found }
 
   filled : (v w : ℕ) → v < length bodies → w < length otherBodies → KeepsLetters (getD bodies v []) (getD otherBodies w [])
-      → (r : ℕ) → r < countsOf (one .answer) .faults → cellAt (one .matrix-after) r v ≡ 1 → cellAt (other .matrix-after) r w ≡ 1
+      → (r : ℕ) → r < countsOf (one .answer) .faults → cellAt (one .after .matrix) r v ≡ 1 → cellAt (other .after .matrix) r w ≡ 1
   unfolding given
   filled v w h k keeps r l mark =
       let refines : (i : ℕ) → (getD (vectorOf c v) i atX ≡ atX) ⊎ (getD (vectorOf d w) i atX ≡ getD (vectorOf c v) i atX) =

@@ -24,7 +24,9 @@ use Rattle.demands.proofs.FileSplits.{accepted-is-split, split-once}
 use Rattle.demands.proofs.AlikeFilesExamples.{not-any-head, nand-refined}
 use Rattle.demands.proofs.Determines.{demands-leave-one-outcome, demands-are-the-promise}
 use Rattle.demands.proofs.ContractsProof.{grade-is-kept, entry-is-kept}
+use Rattle.demands.proofs.CircuitCallsProof.{circuit-is-graded-as-file, circuit-answers-as-file, grade-circuit-is-kept}
 use Rattle.demands.proofs.UniqueProof.{unique}
+use Rattle.demands.proofs.MetProof.{met-by-every-file}
 use Rattle.demands.proofs.KnownProof.{all-known}
 use Rattle.demands.proofs.WrongProof.{refuses-every-is-wrong, skips-nine-is-wrong, skips-fourteen-is-wrong, marks-all-is-wrong, marks-never-is-wrong, leaves-matrix-is-wrong}
 use Rattle.demands.proofs.WrongProof.{first-word-only-is-wrong, invents-found-is-wrong, sweeps-once-is-wrong, one-plane-is-wrong, marks-floating-is-wrong, counts-rows-is-wrong}
@@ -67,7 +69,11 @@ all-proved = record {
   demands-are-the-promise = demands-are-the-promise;
   grade-is-kept = grade-is-kept;
   entry-is-kept = entry-is-kept;
+  grade-circuit-is-kept = grade-circuit-is-kept;
+  circuit-is-graded-as-file = circuit-is-graded-as-file;
+  circuit-answers-as-file = circuit-answers-as-file;
   unique = unique;
+  met-by-every-file = met-by-every-file;
   one-piece = one-piece;
   pieces-join = pieces-join;
   piece-moves = piece-moves;

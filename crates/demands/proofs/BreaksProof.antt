@@ -18,9 +18,10 @@ use Rattle.circuit.specs.Circuit.{Circuit}
 use Rattle.circuit.specs.Records.{emptyCircuit}
 use Rattle.circuit.specs.Refusals.{refusalPlace}
 use Rattle.circuit.specs.Reading.{Reading, accepted, refusal, readingOf}
+use Rattle.grading.specs.Buffers.{Buffers}
 use Rattle.grading.specs.Rows.{rowsOf, cell}
-use Rattle.grading.specs.Promise.{countsOf}
-use Rattle.demands.specs.Calls.{Call, isGraded, Refuses, cellAt, classAt}
+use Rattle.grading.specs.Promise.{isGraded, countsOf}
+use Rattle.demands.specs.Calls.{Call, Refuses, cellAt, classAt}
 use Rattle.demands.specs.One.{bufferTests, testsFrom, tableOf, passed}
 use Rattle.demands.specs.Two.{vectorOf, rowAt, MatrixCell, AlikeButVectors, EqualBridges, OneClass, Found}
 use Rattle.demands.specs.Three.{given, Refined}
@@ -32,13 +33,13 @@ use Rattle.demands.specs.Wrong.{isOne, watchesOutputs, holdsLevels, coun
 use Rattle.demands.specs.Breaks.{MeetsCells, MeetsClasses, MeetsThree, MeetsThreeByPaths, MeetsFillings}
 use Rattle.demands.specs.Breaks.{BreakDemandOne, BreakDemandTwo, BreakDemandThree}
 use Rattle.demands.proofs.Cells.{cell-decides}
-use Rattle.demands.proofs.Computing.{room, entries}
+use Rattle.demands.proofs.Computing.{blank}
 use Rattle.demands.proofs.WrongProof.{wrong-computing, many, lastOnly, listedTwice, ones, Differ, apart}
 
 -- ---- the call of a grader for a file, and the circuit that the file tells
 
 abbrev callFor : Grader → List ℕ → Call
-callFor grader file = called grader file room entries
+callFor grader file = called grader file blank
 
 unfoldable toldBy : Reading → Circuit
 toldBy (accepted c) = c
@@ -56,11 +57,11 @@ wordAt i words = getD words i 0
 pub break-demand-one : BreakDemandOne
 unfolding wrong-computing toldBy isGraded bufferTests testsFrom tableOf passed Refuses refusalPlace
 break-demand-one = record {
-  refuses-every = λ meets. meets inverter room entries .graded-when-none-applies .1 tt;
-  skips-nine = λ meets. meets splitRails room entries .graded-when-none-applies .0 tt;
-  skips-fourteen = λ meets. meets (inverterUnder []) room entries .graded-when-none-applies .0 tt;
-  clears-first = λ meets. apart 0 1 refl (ap (wordAt 0) (meets [] ones entries .refusal-keeps-the-matrix 14 0 (refl, refl)));
-  writes-past = λ meets. apart 0 1 refl (ap (wordAt 0) (meets inverter ones entries (circuitOf inverter) refl tt .words));
+  refuses-every = λ meets. meets inverter blank .graded-when-none-applies .1 tt;
+  skips-nine = λ meets. meets splitRails blank .graded-when-none-applies .0 tt;
+  skips-fourteen = λ meets. meets (inverterUnder []) blank .graded-when-none-applies .0 tt;
+  clears-first = λ meets. apart 0 1 refl (ap (λ (buffers : Buffers). wordAt 0 (buffers .matrix)) (meets [] ones .refusal-keeps-the-buffers 14 0 (refl, refl)));
+  writes-past = λ meets. apart 0 1 refl (ap (wordAt 0) (meets inverter ones (circuitOf inverter) refl tt .words));
 }
 
 -- ---- demand 2
@@ -73,7 +74,7 @@ Grades grader file = (readingOf file ≡ accepted (circuitOf file)) × T (isGrad
 abbrev CellWrong : Grader → List ℕ → ℕ → ℕ → Type 0
 CellWrong grader file r v =
     Grades grader file × T (ltb r (length (rowsOf (circuitOf file)))) × T (ltb v (length (circuitOf file .vectors)))
-    × (cellAt (callFor grader file .matrix-after) r v
+    × (cellAt (callFor grader file .after .matrix) r v
     ≡ ofBool (not (cell (circuitOf file) (vectorOf (circuitOf file) v) (rowAt (circuitOf file) r))))
 
 opposite : (n : ℕ) (b : Bool) → n ≡ ofBool (not b) → (n ≡ 1) ↔ T b → ⊥
@@ -84,7 +85,7 @@ by-cell : (grader : Grader) (file : List ℕ) (r v : ℕ) → CellWrong grader f
 by-cell grader file r v (grades, is-row, is-vector, differs) meets =
     let c = circuitOf file in
     let at : MatrixCell c = record { row = r; vector = v; is-row = leb→le _ _ is-row; is-vector = leb→le _ _ is-vector } in
-    let tells = meets file room entries c (grades .0) (grades .1) .marked at in
+    let tells = meets file blank c (grades .0) (grades .1) .marked at in
     let decides = cell-decides c (vectorOf c v) (rowAt c r) in
     opposite _ (cell c (vectorOf c v) (rowAt c r)) differs (λ e. decides .0 (tells .0 e), λ t. tells .1 (decides .1 t))
 
@@ -92,11 +93,11 @@ by-cell grader file r v (grades, is-row, is-vector, differs) meets =
 abbrev MarkPast : Grader → List ℕ → ℕ → ℕ → Type 0
 MarkPast grader file r v =
     Grades grader file × T (ltb r (length (rowsOf (circuitOf file)))) × T (leb (length (circuitOf file .vectors)) v) × T (ltb v 256)
-    × (cellAt (callFor grader file .matrix-after) r v ≡ 1)
+    × (cellAt (callFor grader file .after .matrix) r v ≡ 1)
 
 by-past : (grader : Grader) (file : List ℕ) (r v : ℕ) → MarkPast grader file r v → MeetsCells grader → ⊥
 by-past grader file r v (grades, is-row, past, inside, mark) meets =
-    let tells = meets file room entries (circuitOf file) (grades .0) (grades .1) in
+    let tells = meets file blank (circuitOf file) (grades .0) (grades .1) in
     let none = tells .past-the-last-vector r v (leb→le _ _ is-row) (leb→le _ _ past) (leb→le _ _ inside) in
     omega arith
 
@@ -105,11 +106,11 @@ abbrev ClassWrong : Grader → List ℕ → ℕ → ℕ → Type 0
 ClassWrong grader file r s =
     Grades grader file × T (ltb r (length (rowsOf (circuitOf file)))) × T (ltb s (length (rowsOf (circuitOf file))))
     × OneClass (rowAt (circuitOf file) r) (rowAt (circuitOf file) s)
-    × Differ (classAt (callFor grader file .classes-after) r) (classAt (callFor grader file .classes-after) s)
+    × Differ (classAt (callFor grader file .after .classes) r) (classAt (callFor grader file .after .classes) s)
 
 by-class : (grader : Grader) (file : List ℕ) (r s : ℕ) → ClassWrong grader file r s → MeetsClasses grader → ⊥
 by-class grader file r s (grades, is-row, is-row-too, one, differ) meets =
-    let tells = meets file room entries (circuitOf file) (grades .0) (grades .1) in
+    let tells = meets file blank (circuitOf file) (grades .0) (grades .1) in
     apart _ _ differ (tells .same r s (leb→le _ _ is-row) (leb→le _ _ is-row-too) .1 one)
 
 -- ---- found counts, on one short whose rows, all of class 1, are marked or not
@@ -118,7 +119,7 @@ by-class grader file r s (grades, is-row, is-row-too, one, differ) meets =
 abbrev EachRow : Grader → List ℕ → Bool → Type 0
 EachRow grader file found =
     (r : ℕ) → r < length (rowsOf (circuitOf file))
-    → (classAt (callFor grader file .classes-after) r ≡ 1) × (cellAt (callFor grader file .matrix-after) r 0 ≡ ofBool found)
+    → (classAt (callFor grader file .after .classes) r ≡ 1) × (cellAt (callFor grader file .after .matrix) r 0 ≡ ofBool found)
 
 record FoundWrong (grader : Grader) (file : List ℕ) (found : Bool) : Type 0 where
   grades : Grades grader file
@@ -146,7 +147,7 @@ module _ (grader : Grader) (file : List ℕ) (found : Bool) (w : FoundWrong grad
       let at = f .cell in
       let first : at .vector ≡ 0 = omega (arith, at .is-vector, w .one-vector) in
       sym (w .rows (at .row) (at .is-row) .1)
-      ∙ subst (λ (v : ℕ). cellAt (callFor grader file .matrix-after) (at .row) v ≡ 1) first (f .mark)
+      ∙ subst (λ (v : ℕ). cellAt (callFor grader file .after .matrix) (at .row) v ≡ 1) first (f .mark)
 
   -- so what counts class 1 is what it should be
   counted : (n : ℕ) → n ≤ 1 → (n ≡ 1) ↔ HereFound → n ≡ ofBool found
@@ -163,7 +164,7 @@ module _ (grader : Grader) (file : List ℕ) (found : Bool) (w : FoundWrong grad
   by-found : MeetsClasses grader → ⊥
   unfolding sumTo
   by-found meets =
-      let tells = meets file room entries (circuitOf file) (w .grades .0) (w .grades .1) .found in
+      let tells = meets file blank (circuitOf file) (w .grades .0) (w .grades .1) .found in
       let f : ℕ → ℕ = tells .0 in
       apart _ _ (w .differs)
       (tells .3 ∙ ap (λ (n : ℕ). sumTo n f) (w .one-class) ∙ add-zero (f 0) ∙ counted (f 0) (tells .1 0) (tells .2 0))
@@ -271,7 +272,7 @@ by-path : (grader : Grader) (file : List ℕ) (r v : ℕ) → CellWrong grader f
     → T (cell (circuitOf file) (vectorOf (circuitOf file) v) (rowAt (circuitOf file) r)) → MeetsThreeByPaths grader → ⊥
 by-path grader file r v (grades, is-row, is-vector, differs) path meets =
     let c = circuitOf file in
-    let stands = meets file file room entries c c (grades .0) (grades .0) (grades .1) (alike-itself c) (refined-itself (c .vectors)) in
+    let stands = meets file file blank c c (grades .0) (grades .0) (grades .1) (alike-itself c) (refined-itself (c .vectors)) in
     let decides = cell-decides c (vectorOf c v) (rowAt c r) in
     opposite _ (cell c (vectorOf c v) (rowAt c r)) differs (
       λ e. path,
@@ -286,13 +287,13 @@ record TakenBack (grader : Grader) (file finer : List ℕ) (r v : ℕ) : Type 0 
   refined : Refined (circuitOf file .vectors) (circuitOf finer .vectors)
   is-row : T (ltb r (length (rowsOf (circuitOf file))))
   is-vector : T (ltb v (length (circuitOf file .vectors)))
-  mark : cellAt (callFor grader file .matrix-after) r v ≡ 1
-  none : cellAt (callFor grader finer .matrix-after) r v ≡ 0
+  mark : cellAt (callFor grader file .after .matrix) r v ≡ 1
+  none : cellAt (callFor grader finer .after .matrix) r v ≡ 0
 
 by-mark : (grader : Grader) (file finer : List ℕ) (r v : ℕ) → TakenBack grader file finer r v → MeetsThree grader → ⊥
 by-mark grader file finer r v w meets =
     let three =
-    meets file room entries finer room entries (circuitOf file) (circuitOf finer) (w .grades .0) (w .grades .1) (w .grades′ .0) (w .grades′ .1)
+    meets file blank finer blank (circuitOf file) (circuitOf finer) (w .grades .0) (w .grades .1) (w .grades′ .0) (w .grades′ .1)
     (w .alike) (w .refined) in
     omega (arith, w .none, three .marks (record { row = r; vector = v; is-row = leb→le _ _ (w .is-row); is-vector = leb→le _ _ (w .is-vector) }) (w .mark))
 
@@ -346,7 +347,7 @@ all-under-x : MeetsFillings marksAll → ⊥
 unfolding wrong-computing toldBy isGraded cellAt
 all-under-x meets =
     let c = circuitOf (inverterAt "X") in
-    let path = meets (inverterAt "X") room entries c refl tt
+    let path = meets (inverterAt "X") blank c refl tt
     (record { row = 0; vector = 0; is-row = omega arith; is-vector = omega arith }) refl (at1 ∷ [])
     (record { long = refl; keeps = filled; no-x = no-x }) in
     cell-decides c (at1 ∷ []) (rowAt c 0) .0 path

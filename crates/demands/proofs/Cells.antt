@@ -37,18 +37,18 @@ module _ (call : Call) (c : Circuit) (given : GradedAs call c) (r v : ℕ) (h : 
   here : Gave call c
   here = gave call c given
 
-  marks : v < 256 → cellAt (call .matrix-after) r v ≡ upTo (length (c .vectors)) (markOf c (rowAt c r)) v
+  marks : v < 256 → cellAt (call .after .matrix) r v ≡ upTo (length (c .vectors)) (markOf c (rowAt c r)) v
   unfolding cellAt matrixOf over rowWords markAt markOf
   marks k =
-      rw (here .matrix-is, words-are c (rowsOf c) (drop (length (matrixOf c)) (call .matrix)) r (v / 64) noRow h (omega arith))
+      rw (here .matrix-is, words-are c (rowsOf c) (drop (length (matrixOf c)) (call .before .matrix)) r (v / 64) noRow h (omega arith))
       (row-mark (length (c .vectors)) (markOf c (rowAt c r)) (λ u. ofBool-le-one (rows.cell c (vectorOf c u) (rowAt c r))) v k)
 
-  pub mark-is : v < length (c .vectors) → cellAt (call .matrix-after) r v ≡ markOf c (rowAt c r) v
+  pub mark-is : v < length (c .vectors) → cellAt (call .after .matrix) r v ≡ markOf c (rowAt c r) v
   mark-is k =
       let few = here .good .few-vectors in
       marks (omega arith) ∙ up-below (length (c .vectors)) (markOf c (rowAt c r)) v k
 
-  cell-past : length (c .vectors) ≤ v → v < 256 → cellAt (call .matrix-after) r v ≡ 0
+  cell-past : length (c .vectors) ≤ v → v < 256 → cellAt (call .after .matrix) r v ≡ 0
   cell-past k l = marks l ∙ up-past (length (c .vectors)) (markOf c (rowAt c r)) v k
 
 -- a bit that tells a test which decides a fact

@@ -36,7 +36,7 @@ same-lists n xs ys long front behind = ext-getD 0 xs ys long (λ i h. go i (decL
 
 -- the words of the rows have 64 bits
 abbrev pub RowsAreWords : Call → Circuit → Type 0
-RowsAreWords call c = (i : ℕ) → i < 4 * length (rowsOf c) → getD (call .matrix-after) i 0 < 2 ^ 64
+RowsAreWords call c = (i : ℕ) → i < 4 * length (rowsOf c) → getD (call .after .matrix) i 0 < 2 ^ 64
 
 -- a cell by its word and its bit
 cell-of-word : (matrix : List ℕ) (r w v : ℕ) → v < 64 → cellAt matrix r (64 * w + v) ≡ bit (getD matrix (4 * r + w) 0) v
@@ -52,7 +52,7 @@ module _ (one other : Call) (c : Circuit) (cells : CellsTell one c) (cells′ : 
   same-mark at = go (ℕ-discrete (markIn one at) 1)
     where
       few : markIn one at < 2
-      few = omega (arith, bit-le-one (getD (one .matrix-after) (4 * at .row + at .vector / 64) 0) (at .vector % 64))
+      few = omega (arith, bit-le-one (getD (one .after .matrix) (4 * at .row + at .vector / 64) 0) (at .vector % 64))
 
       go : Dec (markIn one at ≡ 1) → markIn one at ≡ markIn other at
       go (yes e) = e ∙ sym (cells′ .marked at .1 (cells .marked at .0 e))
@@ -60,28 +60,28 @@ module _ (one other : Call) (c : Circuit) (cells : CellsTell one c) (cells′ : 
           let none : markIn one at ≡ 0 = omega (arith, few) in
           none ∙ sym (cells′ .not-marked at .1 (cells .not-marked at .0 none))
 
-  same-cell : (r v : ℕ) → r < length (rowsOf c) → v < 256 → cellAt (one .matrix-after) r v ≡ cellAt (other .matrix-after) r v
+  same-cell : (r v : ℕ) → r < length (rowsOf c) → v < 256 → cellAt (one .after .matrix) r v ≡ cellAt (other .after .matrix) r v
   same-cell r v h k = go (decLt v (length (c .vectors)))
     where
-      go : Dec (v < length (c .vectors)) → cellAt (one .matrix-after) r v ≡ cellAt (other .matrix-after) r v
+      go : Dec (v < length (c .vectors)) → cellAt (one .after .matrix) r v ≡ cellAt (other .after .matrix) r v
       go (yes l) = same-mark (record { row = r; vector = v; is-row = h; is-vector = l })
       go (no l) = cells .past-the-last-vector r v h (omega arith) k ∙ sym (cells′ .past-the-last-vector r v h (omega arith) k)
 
   pub same-word : RowsAreWords one c → RowsAreWords other c → (i : ℕ) → i < 4 * length (rowsOf c)
-      → getD (one .matrix-after) i 0 ≡ getD (other .matrix-after) i 0
+      → getD (one .after .matrix) i 0 ≡ getD (other .after .matrix) i 0
   same-word words words′ i h =
-      bits-eq 64 (getD (one .matrix-after) i 0) (getD (other .matrix-after) i 0) (words i h) (words′ i h) same-bit
+      bits-eq 64 (getD (one .after .matrix) i 0) (getD (other .after .matrix) i 0) (words i h) (words′ i h) same-bit
     where
       told : (matrix : List ℕ) (v : ℕ) → v < 64 → cellAt matrix (i / 4) (64 * (i % 4) + v) ≡ bit (getD matrix i 0) v
       told matrix v k =
           let place : 4 * (i / 4) + i % 4 ≡ i = omega arith in
           cell-of-word matrix (i / 4) (i % 4) v k ∙ ap (λ (j : ℕ). bit (getD matrix j 0) v) place
 
-      same-bit : (v : ℕ) → v < 64 → bit (getD (one .matrix-after) i 0) v ≡ bit (getD (other .matrix-after) i 0) v
+      same-bit : (v : ℕ) → v < 64 → bit (getD (one .after .matrix) i 0) v ≡ bit (getD (other .after .matrix) i 0) v
       same-bit v k =
-          sym (told (one .matrix-after) v k)
+          sym (told (one .after .matrix) v k)
           ∙ same-cell (i / 4) (64 * (i % 4) + v) (omega arith) (omega arith)
-          ∙ told (other .matrix-after) v k
+          ∙ told (other .after .matrix) v k
 
 -- a call that keeps the promise has such words
 pub kept-words : (call : Call) (c : Circuit) → GradedAs call c → RowsAreWords call c
@@ -89,10 +89,10 @@ unfolding matrixOf over rowWords markOf
 kept-words call c given i h =
     let place : 4 * (i / 4) + i % 4 ≡ i = omega arith in
     let row : Row = rowAt c (i / 4) in
-    let word-is : getD (call .matrix-after) i 0 ≡ word (marks row) =
-    ap (λ (j : ℕ). getD (call .matrix-after) j 0) (sym place)
+    let word-is : getD (call .after .matrix) i 0 ≡ word (marks row) =
+    ap (λ (j : ℕ). getD (call .after .matrix) j 0) (sym place)
     ∙ ap (λ (matrix : List ℕ). getD matrix (4 * (i / 4) + i % 4) 0) (gave call c given .matrix-is)
-    ∙ words-are c (rowsOf c) (drop (length (matrixOf c)) (call .matrix)) (i / 4) (i % 4) noRow (omega arith) (omega arith)
+    ∙ words-are c (rowsOf c) (drop (length (matrixOf c)) (call .before .matrix)) (i / 4) (i % 4) noRow (omega arith) (omega arith)
     ∙ row-word (length (c .vectors)) (markOf c row) (i % 4) (omega arith) in
     rw word-is (word-lt (marks row) (few row))
   where

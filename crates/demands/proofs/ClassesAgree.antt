@@ -17,7 +17,7 @@ use Rattle.demands.specs.Two.{rowAt, MatrixCell, markIn, OneClass, Found
 
 -- the class of a row, and how many classes and found ones there are
 abbrev classIn : Call → ℕ → ℕ
-classIn call r = classAt (call .classes-after) r
+classIn call r = classAt (call .after .classes) r
 
 abbrev classesIn : Call → ℕ
 classesIn call = countsOf (call .answer) .classes

@@ -1,7 +1,5 @@
 -- What a file's grading computes with. A proof that says `unfolding computing` may compute readings, matrices, classes and counts of concrete files; with
 -- `grader-computing` also what a grader answers. Assumes nothing.
-use Prim.Native.Nat.{ℕ}
-use mathlib.Core.List.{List}
 use lib.ListN.{replicate}
 use Rattle.words.specs.Bits.{bit, pack, word, sumTo}
 use Rattle.words.specs.Tables.{table, upTo}
@@ -18,10 +16,11 @@ use Rattle.circuit.specs.Known.{tagOf, typeIn, edgeIn, bridgeOf, listedIn, refe
 use Rattle.circuit.specs.Records.{choiceByte}
 use Rattle.circuit.specs.Table.{firstOf, misplaced, isEdge, unjudged, notComplementary, bridgeInRange, bridgeSuits, isEmpty, listUnsuited, listEmpty, isLetter, inputsTests, typeTests, edgeTestsOf, edgeTests, bridgeTests, instanceTests, vectorTests, bodyTests, isUnknown, fieldTests, endTests}
 use Rattle.circuit.specs.Reading.{unless, readFrom, readingOf}
+use Rattle.grading.specs.Buffers.{Buffers, buffersOf}
 use Rattle.grading.specs.Values.{valueAt, labelValues, outputsAfter, outputsOf}
 use Rattle.grading.specs.Rows.{rowsOfInstance, rowsFrom, rowsOf, rowValues, cell, markOf, rowWords, matrixOf}
 use Rattle.grading.specs.Classes.{sameReference, sameLabel, sameBridge, sameClass, classAmongBy, largest, classesAfterBy, classesBy, hasMarkBy, classFoundBy, foundBy, foundCount}
-use Rattle.grading.specs.Grading.{countsOfCircuit, gradingOfCircuit, afterReading, gradingOf, countsIn, numberIn, placeIn, over, matrixAfter, classesAfterGrading}
+use Rattle.grading.specs.Grading.{countsOfCircuit, gradingOfCircuit, afterReading, gradingOf, countsIn, numberIn, placeIn, over, buffersAfter}
 use Rattle.grading.specs.Promise as promise
 use Rattle.circuit.specs.Refusals.{refusalNumber}
 use Rattle.demands.specs.Graders.{refusalOf, refusing, outcomeOf, gradesBy, workBy, marksBy, rightWork, rightly}
@@ -38,7 +37,7 @@ unfolding bit pack word sumTo table upTo rowOf choiceByte
     inputsTests typeTests edgeTestsOf edgeTests bridgeTests instanceTests vectorTests bodyTests isUnknown fieldTests endTests
     unless readFrom readingOf valueAt labelValues outputsAfter outputsOf rowsOfInstance rowsFrom rowsOf rowValues cell markOf rowWords matrixOf
     sameReference sameLabel sameBridge sameClass classAmongBy largest classesAfterBy classesBy hasMarkBy classFoundBy foundBy foundCount
-    countsOfCircuit gradingOfCircuit afterReading gradingOf countsIn numberIn placeIn over matrixAfter classesAfterGrading
+    countsOfCircuit gradingOfCircuit afterReading gradingOf countsIn numberIn placeIn over buffersAfter
 computing = tt
 
 -- and what a grader of specs/Graders does
@@ -48,8 +47,5 @@ unfolding computing refusalNumber promise.numberOf promise.countsOf
 grader-computing = tt
 
 -- buffers that hold zeros, enough for 16 rows
-abbrev pub room : List ℕ
-room = replicate 64 0
-
-abbrev pub entries : List ℕ
-entries = replicate 16 0
+abbrev pub blank : Buffers
+blank = buffersOf (replicate 64 0) (replicate 16 0)

@@ -3,28 +3,27 @@ use Prim.Native.Nat.{ℕ}
 use mathlib.Core.Path.{_≡_, refl, sym, ap, ap₂, _∙_}
 use mathlib.Core.List.{List, [], _∷_}
 use lib.Dec.{T}
-use lib.ListN.{length}
 use base.Logic.{emp}
 use prog.Routine.{Routine}
 use contract.Lifetimes.{Lfts}
 use contract.Monad.{fact, fact-mono}
 use contract.Running.{givenOf}
 use denote.Ask.Run.{routine-mono}
-use denote.Ref.{now}
 use denote.Triple.Clauses.{Ended, AtExit, atExit}
 use denote.Triple.Entry.{Args, Res}
 use denote.Triple.Weaken.{weaken}
-use Rattle.grading.specs.Grading.{Counts, Grading, gradingOf, countsIn, numberIn, placeIn, matrixAfter, classesAfterGrading}
-use Rattle.grading.specs.Promise.{numberOf, placeOf, countsOf}
+use Rattle.grading.specs.Buffers.{Buffers, roomOf}
+use Rattle.grading.specs.Grading.{Counts, Grading, gradingOf, countsIn, numberIn, placeIn, buffersAfter}
+use Rattle.grading.specs.Promise.{isGraded, numberOf, placeOf, countsOf}
 use Rattle.grading.specs.declared.Answer.{Answer}
 use Rattle.grading.specs.declared.Answer.the-variants.{Graded, Refused, ShortMatrix, ShortClasses}
 use Rattle.grade_file.proofs.grade.grade as grade
 use Rattle.togyamiru.specs.Entry.{sixNumbers, EntryPromise}
 use Rattle.togyamiru.proofs.togyamiru_grade as togyamiru-grade
-use Rattle.demands.specs.Calls.{Kept, Refuses, isGraded}
+use Rattle.demands.specs.Calls.{Kept, Refuses}
 use Rattle.demands.specs.One.{CanBeMet}
 use Rattle.demands.specs.Determined.{MeetsDemands}
-use Rattle.demands.specs.Contracts.{ToldBy, RoutineTells, callOf, GradeIsKept, sixOf, EntryIsCall, EntryIsKept}
+use Rattle.demands.specs.Contracts.{ToldBy, RoutineTells, callOf, GradeIsKept, sixOf, EntryIsCall, ofEntry, EntryIsKept}
 use Rattle.demands.proofs.Determines.{kept-meets}
 use Rattle.demands.proofs.RightProof.{promise-can-be-met}
 
@@ -76,16 +75,16 @@ nothing-refused (Refused refusal) g = absurd g
 nothing-refused (ShortMatrix words) g = absurd g
 nothing-refused (ShortClasses faults) g = absurd g
 
-entry-is-call : (file matrix classes six matrix′ classes′ : List ℕ)
-    → EntryPromise file matrix classes six matrix′ classes′ → EntryIsCall file matrix classes six matrix′ classes′
-entry-is-call file matrix classes six matrix′ classes′ promise = go (promise-can-be-met file matrix classes)
+entry-is-call : (file : List ℕ) (before : Buffers) (six : List ℕ) (after : Buffers) → EntryPromise file before six after → EntryIsCall file before six after
+entry-is-call file before six after promise = go (promise-can-be-met file before)
   where
     g : Grading
-    g = gradingOf file (length matrix) (length classes)
+    g = gradingOf file (roomOf before)
 
-    go : CanBeMet file matrix classes → EntryIsCall file matrix classes six matrix′ classes′
+    go : CanBeMet file before → EntryIsCall file before six after
     go by =
-        let same : gradingOf (by .call .file) (length (by .call .matrix)) (length (by .call .classes)) ≡ g = rw (by .of-file, by .of-matrix, by .of-classes) in
+        let same : gradingOf (by .call .file) (roomOf (by .call .before)) ≡ g =
+        ap₂ (λ (bytes : List ℕ) (buffers : Buffers). gradingOf bytes (roomOf buffers)) (by .of-file) (by .of-buffers) in
         let six-numbers : six ≡ sixOf (by .call .answer) =
         promise .answer-at-exit
         ∙ six-are g (by .call .answer) (by .kept .number ∙ ap numberIn same) (by .kept .place ∙ ap placeIn same) (by .kept .counts ∙ ap countsIn same)
@@ -93,28 +92,19 @@ entry-is-call file matrix classes six matrix′ classes′ promise = go (promise
         record {
           call = by .call;
           of-file = by .of-file;
-          of-matrix = by .of-matrix;
-          of-classes = by .of-classes;
+          of-buffers = by .of-buffers;
           kept = by .kept;
-          to-matrix = by .kept .matrix-at-exit ∙ ap₂ matrixAfter same (by .of-matrix) ∙ sym (promise .matrix-at-exit);
-          to-classes = by .kept .classes-at-exit ∙ ap₂ classesAfterGrading same (by .of-classes) ∙ sym (promise .classes-at-exit);
+          to-buffers = by .kept .buffers-at-exit ∙ ap₂ buffersAfter same (by .of-buffers) ∙ sym (promise .buffers-at-exit);
           six-numbers = six-numbers;
           refusal-counts-nothing = λ number place r. six-numbers ∙ six-refused (by .call .answer) number place r;
           grading-refuses-nothing = λ graded. six-numbers ∙ nothing-refused (by .call .answer) graded;
         }
 
--- of the entry's arguments, and of what was lent, at exit
-abbrev told : (κs : Lfts 4) (a : Args togyamiru-grade.signature κs) → AtExit togyamiru-grade.ended κs
-    → (List ℕ → List ℕ → List ℕ → List ℕ → List ℕ → List ℕ → Type 0) → Type 0
-told κs a e Told = Told (now (a .0)) (now (a .1 .0)) (now (a .1 .1 .0)) (now (e .1 .1 .1 .0)) (now (e .1 .0)) (now (e .1 .1 .0))
-
 pub entry-is-kept : EntryIsKept
 entry-is-kept = record {
   asks-nothing = λ κs a. tt;
-  is-call = λ κs a r e promise.
-      entry-is-call (now (a .0)) (now (a .1 .0)) (now (a .1 .1 .0)) (now (e .1 .1 .1 .0)) (now (e .1 .0)) (now (e .1 .1 .0)) promise;
+  is-call = λ κs a r e promise. entry-is-call _ _ _ _ promise;
   routine-is-call = λ M.
-      so-of-routine M togyamiru-grade.Symbol.routine togyamiru-grade.ended (λ κs a r e. told κs a e EntryPromise) (λ κs a r e. told κs a e EntryIsCall)
-      (λ κs a r e.
-      entry-is-call (now (a .0)) (now (a .1 .0)) (now (a .1 .1 .0)) (now (e .1 .1 .1 .0)) (now (e .1 .0)) (now (e .1 .1 .0))) togyamiru-grade.Met.met;
+      so-of-routine M togyamiru-grade.Symbol.routine togyamiru-grade.ended (λ κs a r e. ofEntry κs a e EntryPromise) (λ κs a r e. ofEntry κs a e EntryIsCall)
+      (λ κs a r e promise. entry-is-call _ _ _ _ promise) togyamiru-grade.Met.met;
 }

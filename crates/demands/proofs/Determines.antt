@@ -10,10 +10,12 @@ use Rattle.switch.specs.Modules.{allOf}
 use Rattle.circuit.specs.Circuit.{Circuit}
 use Rattle.circuit.specs.Table.{Test}
 use Rattle.circuit.specs.Reading.{readingOf}
+use Rattle.grading.specs.Buffers.{Buffers, Room, roomOf}
 use Rattle.grading.specs.Rows.{rowsOf}
 use Rattle.grading.specs.Grading.{Counts}
-use Rattle.grading.specs.Promise.{numberOf, placeOf, countsOf}
-use Rattle.demands.specs.Calls.{Call, Kept, Accepts, GradedAs, isGraded, Refuses, classAt}
+use Rattle.grading.specs.Promise.{isGraded, numberOf, placeOf, countsOf}
+use Rattle.grading.proofs.PromiseLaws.{same-buffers}
+use Rattle.demands.specs.Calls.{Call, Kept, Accepts, GradedAs, Refuses, classAt}
 use Rattle.demands.specs.One.{passed, FirstApplying, tableOf, tableFor, SameOutcome, RestKept}
 use Rattle.demands.specs.Two.{CellsTell, ClassesTell}
 use Rattle.demands.specs.Graders.{called, rightly}
@@ -34,8 +36,13 @@ all-counts a b vectors faults classes found = λ i. record { vectors = vectors i
 abbrev WordsGiven : Call → Type 0
 WordsGiven call = (c : Circuit) → Accepts (call .file) c → T (isGraded (call .answer)) → RowsAreWords call c
 
-module _ (one other : Call) (meets : MeetsDemands one) (meets′ : MeetsDemands other) (same-matrix : one .matrix ≡ other .matrix)
-    (same-classes : one .classes ≡ other .classes) where
+module _ (one other : Call) (meets : MeetsDemands one) (meets′ : MeetsDemands other) (same : one .before ≡ other .before) where
+  same-matrix : one .before .matrix ≡ other .before .matrix
+  same-matrix = ap (λ (buffers : Buffers). buffers .matrix) same
+
+  same-classes : one .before .classes ≡ other .before .classes
+  same-classes = ap (λ (buffers : Buffers). buffers .classes) same
+
   both-refused : (number place : ℕ) → Refuses (one .answer) number place → Refuses (other .answer) number place → SameOutcome one other
   both-refused number place r r′ =
       let a = meets .one in
@@ -44,8 +51,7 @@ module _ (one other : Call) (meets : MeetsDemands one) (meets′ : MeetsDemands 
         answer = same-answer (one .answer) (other .answer)
             (refuses-is (one .answer) number place .0 r ∙ sym (refuses-is (other .answer) number place .0 r′))
             (a .refusal-counts-nothing number place r ∙ sym (b .refusal-counts-nothing number place r′));
-        matrix = a .refusal-keeps-the-matrix number place r ∙ same-matrix ∙ sym (b .refusal-keeps-the-matrix number place r′);
-        classes = a .refusal-keeps-the-classes number place r ∙ same-classes ∙ sym (b .refusal-keeps-the-classes number place r′);
+        buffers = a .refusal-keeps-the-buffers number place r ∙ same ∙ sym (b .refusal-keeps-the-buffers number place r′);
       }
 
   module _ (c : Circuit) (accepts : Accepts (one .file) c) (accepts′ : Accepts (other .file) c)
@@ -79,38 +85,39 @@ module _ (one other : Call) (meets : MeetsDemands one) (meets′ : MeetsDemands 
         (same-count one other c numbers numbers′)
         (same-found one other c numbers numbers′ (same-mark one other c cells cells′))
 
-    matrices : RowsAreWords one c → RowsAreWords other c → one .matrix-after ≡ other .matrix-after
+    -- as long at exit as each other
+    as-long : roomOf (one .after) ≡ roomOf (other .after)
+    as-long = rest .as-long ∙ ap roomOf same ∙ sym (rest′ .as-long)
+
+    matrices : RowsAreWords one c → RowsAreWords other c → one .after .matrix ≡ other .after .matrix
     matrices words words′ =
-        same-lists (4 * rows) (one .matrix-after) (other .matrix-after)
-        (rest .as-many-words ∙ ap length same-matrix ∙ sym (rest′ .as-many-words))
+        same-lists (4 * rows) (one .after .matrix) (other .after .matrix)
+        (ap (λ (room : Room). room .words) as-long)
         (same-word one other c cells cells′ words words′)
         (rest .words ∙ ap (drop (4 * rows)) same-matrix ∙ sym (rest′ .words))
 
-    class-buffers : one .classes-after ≡ other .classes-after
+    class-buffers : one .after .classes ≡ other .after .classes
     unfolding classAt
     class-buffers =
-        same-lists rows (one .classes-after) (other .classes-after)
-        (rest .as-many-entries ∙ ap length same-classes ∙ sym (rest′ .as-many-entries))
+        same-lists rows (one .after .classes) (other .after .classes)
+        (ap (λ (room : Room). room .entries) as-long)
         (same-class one other c numbers numbers′)
         (rest .entries ∙ ap (drop rows) same-classes ∙ sym (rest′ .entries))
 
     both-graded : RowsAreWords one c → RowsAreWords other c → SameOutcome one other
     both-graded words words′ = record {
       answer = same-answer (one .answer) (other .answer) (graded-is (one .answer) .0 g ∙ sym (graded-is (other .answer) .0 g′)) same-counts;
-      matrix = matrices words words′;
-      classes = class-buffers;
+      buffers = same-buffers (one .after) (other .after) (matrices words words′) class-buffers;
     }
 
 -- ---- any two calls
 
 one-outcome : (one other : Call) → WordsGiven one → WordsGiven other → MeetsDemands one → MeetsDemands other
-    → one .file ≡ other .file → one .matrix ≡ other .matrix → one .classes ≡ other .classes → SameOutcome one other
-one-outcome one other words words′ meets meets′ file matrix classes = go (meets .one .graded-or-refused)
+    → one .file ≡ other .file → one .before ≡ other .before → SameOutcome one other
+one-outcome one other words words′ meets meets′ file before = go (meets .one .graded-or-refused)
   where
     same-table : tableFor one ≡ tableFor other
-    same-table =
-        ap (λ (bytes : List ℕ). tableOf bytes (length (one .matrix)) (length (one .classes))) file
-        ∙ ap₂ (λ (m n : List ℕ). tableOf (other .file) (length m) (length n)) matrix classes
+    same-table = ap₂ (λ (bytes : List ℕ) (buffers : Buffers). tableOf bytes (roomOf buffers)) file before
 
     accepts′ : (c : Circuit) → Accepts (one .file) c → Accepts (other .file) c
     accepts′ c e = ap readingOf (sym file) ∙ e
@@ -123,9 +130,9 @@ one-outcome one other words words′ meets meets′ file matrix classes = go (me
         let its = meets .one .graded-is-accepted g in
         let c : Circuit = its .0 in
         let e : Accepts (other .file) c = accepts′ c (its .1) in
-        both-graded one other meets meets′ matrix classes c (its .1) e g g′ (words c (its .1) g) (words′ c e g′)
+        both-graded one other meets meets′ before c (its .1) e g g′ (words c (its .1) g) (words′ c e g′)
     go (inr (number, place, r, first)) =
-        both-refused one other meets meets′ matrix classes number place r
+        both-refused one other meets meets′ before number place r
         (meets′ .one .refused-by-the-table number place .1
         (subst (λ (tests : List Test). FirstApplying tests number place) same-table first))
 
@@ -150,20 +157,20 @@ pub demands-are-the-promise : DemandsAreThePromise
 demands-are-the-promise call words = (meets-kept, kept-meets call)
   where
     right : Call
-    right = called rightly (call .file) (call .matrix) (call .classes)
+    right = called rightly (call .file) (call .before)
 
     right-kept : Kept right
-    right-kept = rightly-is-right (call .file) (call .matrix) (call .classes)
+    right-kept = rightly-is-right (call .file) (call .before)
 
     meets-kept : MeetsDemands call → Kept call
     meets-kept meets =
         let same : SameOutcome call right =
         one-outcome call right (λ c e g i h. words i) (λ c e g. kept-words right c (as-graded right right-kept c e g))
-        meets (kept-meets right right-kept) refl refl refl in
+        meets (kept-meets right right-kept) refl refl in
         record {
+          is-graded = ap isGraded (same .answer) ∙ right-kept .is-graded;
           number = ap numberOf (same .answer) ∙ right-kept .number;
           place = ap placeOf (same .answer) ∙ right-kept .place;
           counts = ap countsOf (same .answer) ∙ right-kept .counts;
-          matrix-at-exit = same .matrix ∙ right-kept .matrix-at-exit;
-          classes-at-exit = same .classes ∙ right-kept .classes-at-exit;
+          buffers-at-exit = same .buffers ∙ right-kept .buffers-at-exit;
         }

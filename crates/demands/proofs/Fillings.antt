@@ -166,9 +166,9 @@ graded-too one other bodies finer calls more accepts-too =
     let d = too .0 in
     let read = alike-files-read-alike (one .file) (other .file) bodies finer (calls .files) c d (here .1 .accepts) (too .1) in
     let rows = ap length (same-rows c d (read .alike)) in
-    let room = gave one c (here .1) in
+    let room = gave one c (here .1) .room in
     let graded = one-holds other (calls .second) .accepted-is-graded d (too .1)
-    (omega (arith, room .words, calls .words)) (omega (arith, room .entries, calls .entries)) in
+    (record { words = omega (arith, rows, room .words, calls .room .words); entries = omega (arith, rows, room .entries, calls .room .entries) }) in
     let both-graded : GradedAlike one other bodies finer =
     record { first = calls .first; second = record { kept = calls .second; graded = graded }; files = calls .files } in
     record { graded = graded; three = three-holds-of-files one other bodies finer both-graded more }

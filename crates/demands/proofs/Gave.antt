@@ -1,5 +1,5 @@
--- What a call that graded its file gave: its circuit is a good one, both buffers are long enough, and the counts and both buffers are the circuit's.
-use Prim.Native.Nat.{ℕ, _*_, _≤_, _<_}
+-- What a call that graded its file gave: its circuit is a good one, the buffers are long enough, and the counts and the buffers are the circuit's.
+use Prim.Native.Nat.{ℕ, _*_, _<_}
 use mathlib.Core.Path.{_≡_, refl, ap, subst, _∙_}
 use mathlib.Core.Bool.{Bool, true, false, cond}
 use mathlib.Core.List.{List}
@@ -11,23 +11,25 @@ use Rattle.circuit.specs.Circuit.{Circuit}
 use Rattle.circuit.specs.Reading.{Reading}
 use Rattle.circuit.specs.Laws.{CircuitGood}
 use Rattle.circuit.proofs.CircuitLaws.{accepted-is-good}
+use Rattle.grading.specs.Buffers.{roomOf}
 use Rattle.grading.specs.Rows.{rowsOf, matrixOf}
 use Rattle.grading.specs.Classes.{classesOf, classCount, foundCount}
-use Rattle.grading.specs.Grading.{Grading, graded, refused, gradingOf, gradingOfCircuit, afterReading, over, countsIn, numberIn, matrixAfter, classesAfterGrading}
+use Rattle.grading.specs.Grading.{Grading, graded, refused, gradingOf, gradingOfCircuit, afterReading, over, countsIn, numberIn, buffersAfter}
 use Rattle.grading.specs.Grading as grading
-use Rattle.grading.specs.Promise.{numberOf, countsOf, Meets}
+use Rattle.grading.specs.Promise.{isGraded, numberOf, countsOf, AnswersAs}
 use Rattle.grading.specs.declared.Answer.{Answer}
 use Rattle.grading.specs.declared.Answer.the-variants.{Graded, Refused, ShortMatrix, ShortClasses}
+use Rattle.grading.proofs.PromiseLaws.{matrix-at-exit, classes-at-exit}
 use Rattle.grade_classes.proofs.FoundMeaning.{numbers-are}
-use Rattle.demands.specs.Calls.{Call, GradedAs, isGraded, classAt}
+use Rattle.demands.specs.Calls.{Call, GradedAs, classAt}
+use Rattle.demands.specs.One.{AnswerFits}
 
 pub record Gave (call : Call) (c : Circuit) : Type 0 where
   pub good : CircuitGood c
-  pub words : 4 * length (rowsOf c) ≤ length (call .matrix)
-  pub entries : length (rowsOf c) ≤ length (call .classes)
+  pub room : AnswerFits c (roomOf (call .before))
   pub counts-are : countsOf (call .answer) ≡ grading.countsOfCircuit c
-  pub matrix-is : call .matrix-after ≡ over (matrixOf c) (call .matrix)
-  pub classes-are : call .classes-after ≡ over (classesOf (rowsOf c)) (call .classes)
+  pub matrix-is : call .after .matrix ≡ over (matrixOf c) (call .before .matrix)
+  pub classes-are : call .after .classes ≡ over (classesOf (rowsOf c)) (call .before .classes)
 
 no-number : (answer : Answer) → T (isGraded answer) → numberOf answer ≡ 0
 unfolding isGraded numberOf
@@ -37,22 +39,22 @@ no-number (ShortMatrix words) t = absurd t
 no-number (ShortClasses faults) t = absurd t
 
 pub gave : (call : Call) (c : Circuit) → GradedAs call c → Gave call c
-unfolding gradingOf afterReading gradingOfCircuit numberIn countsIn matrixAfter classesAfterGrading
+unfolding gradingOf afterReading gradingOfCircuit numberIn countsIn buffersAfter
 gave call c given =
     go (ltb words (4 * faults)) (ltb entries faults) refl refl
-    (subst (λ (read : Reading). Kept (afterReading read words entries)) (given .accepts) (given .kept))
+    (subst (λ (read : Reading). Kept (afterReading read (roomOf (call .before)))) (given .accepts) (given .kept))
   where
     words : ℕ
-    words = length (call .matrix)
+    words = length (call .before .matrix)
 
     entries : ℕ
-    entries = length (call .classes)
+    entries = length (call .before .classes)
 
     faults : ℕ
     faults = length (rowsOf c)
 
     Kept : Grading → Type 0
-    Kept g = Meets g (call .answer) (call .matrix) (call .classes) (call .matrix-after) (call .classes-after)
+    Kept g = AnswersAs g (call .answer) (call .before) (call .after)
 
     go : (a b : Bool) → ltb words (4 * faults) ≡ a → ltb entries faults ≡ b
         → Kept (cond a (refused 15 (4 * faults)) (cond b (refused 22 faults) (graded c))) → Gave call c
@@ -60,11 +62,10 @@ gave call c given =
     go false true p q kept = absurd (omega (arith, kept .number, no-number (call .answer) (given .graded)))
     go false false p q kept = record {
       good = accepted-is-good (call .file) c (given .accepts);
-      words = ltb-false words (4 * faults) p;
-      entries = ltb-false entries faults q;
+      room = record { words = ltb-false words (4 * faults) p; entries = ltb-false entries faults q };
       counts-are = kept .counts;
-      matrix-is = kept .matrix-at-exit;
-      classes-are = kept .classes-at-exit;
+      matrix-is = matrix-at-exit _ _ _ _ kept;
+      classes-are = classes-at-exit _ _ _ _ kept;
     }
 
 -- ---- counts and class numbers
@@ -78,8 +79,8 @@ module _ (call : Call) (c : Circuit) (given : GradedAs call c) where
   unfolding grading.countsOfCircuit
   found-counted = ap (λ (counts : grading.Counts). counts .found) (gave call c given .counts-are)
 
-  pub class-is : (r : ℕ) → r < length (rowsOf c) → classAt (call .classes-after) r ≡ getD (classesOf (rowsOf c)) r 0
+  pub class-is : (r : ℕ) → r < length (rowsOf c) → classAt (call .after .classes) r ≡ getD (classesOf (rowsOf c)) r 0
   unfolding classAt over
   class-is r h =
       ap (λ (classes : List ℕ). getD classes r 0) (gave call c given .classes-are)
-      ∙ numbers-are (rowsOf c) (drop (length (classesOf (rowsOf c))) (call .classes)) r h
+      ∙ numbers-are (rowsOf c) (drop (length (classesOf (rowsOf c))) (call .before .classes)) r h

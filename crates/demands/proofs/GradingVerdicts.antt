@@ -1,10 +1,9 @@
 -- The verdict of a grading: it is that of the table's first test that refuses, and that of an answer that keeps the promise.
-use Prim.Native.Nat.{ℕ, _*_, _≤_}
-use mathlib.Core.Path.{_≡_, refl, sym, ap, ap₂, _∙_}
-use mathlib.Core.Bool.{Bool, true, false, cond}
+use Prim.Native.Nat.{ℕ, _*_}
+use mathlib.Core.Path.{_≡_, refl, sym, ap₂, _∙_}
+use mathlib.Core.Bool.{Bool, true, false, cond, true≢false}
 use mathlib.Core.Logic.{_↔_}
 use mathlib.Core.List.{List}
-use native.Mathlib.Omega.{arith}
 use lib.Dec.{T, ltb}
 use lib.ListN.{length}
 use Rattle.circuit.specs.Limits.{mostBytes}
@@ -14,16 +13,15 @@ use Rattle.circuit.specs.Known.{Known, start, knownAfter}
 use Rattle.circuit.specs.Table.{Verdict, passes, refusedAt, firstOf, fieldTests, endTests}
 use Rattle.circuit.specs.Reading.{Reading, accepted, refusal, unless, readFrom, readingOf}
 use Rattle.circuit.specs.Refusals.{refusalNumber, refusalPlace}
-use Rattle.circuit.proofs.CircuitLaws.{accepted-is-good, refusal-is-good}
 use Rattle.circuit.proofs.Tested.{never-passes}
+use Rattle.grading.specs.Buffers.{Buffers, Room, roomOf}
 use Rattle.grading.specs.Rows.{rowsOf}
-use Rattle.grading.specs.Grading.{Grading, graded, gradingOf, gradingOfCircuit, afterReading, countsIn, numberIn, placeIn}
+use Rattle.grading.specs.Grading.{Grading, graded, gradingOf, gradingOfCircuit, afterReading, isGradedIn, numberIn, placeIn}
 use Rattle.grading.specs.Grading.{refused}
-use Rattle.grading.specs.Grading as grading
-use Rattle.grading.specs.Promise.{numberOf, placeOf, countsOf, Meets}
+use Rattle.grading.specs.Promise.{isGraded, numberOf, placeOf, AnswersAs}
 use Rattle.grading.specs.declared.Answer.{Answer}
 use Rattle.grading.specs.declared.Answer.the-variants.{Graded, Refused, ShortMatrix, ShortClasses}
-use Rattle.demands.specs.Calls.{Call, Kept, isGraded, Refuses}
+use Rattle.demands.specs.Calls.{Call, Kept, Refuses}
 use Rattle.demands.specs.One.{bufferTests, testsFrom, tableOf}
 use Rattle.demands.proofs.Verdicts.{orLater, first-append}
 
@@ -33,16 +31,16 @@ unfoldable pub verdictIn : Grading → Verdict
 verdictIn (graded c) = passes
 verdictIn (refused number place) = refusedAt number place
 
-module _ (size words entries : ℕ) where
-  later-is : (v later : Verdict) (read : Reading) → later ≡ verdictIn (afterReading read words entries)
-      → orLater v later ≡ verdictIn (afterReading (unless v read) words entries)
+module _ (size : ℕ) (room : Room) where
+  later-is : (v later : Verdict) (read : Reading) → later ≡ verdictIn (afterReading read room)
+      → orLater v later ≡ verdictIn (afterReading (unless v read) room)
   unfolding orLater unless afterReading verdictIn
   later-is passes later read e = e
   later-is (refusedAt number place) later read e = refl
 
-  buffers-tell : (c : Circuit) → firstOf (bufferTests c words entries) ≡ verdictIn (gradingOfCircuit c words entries)
+  buffers-tell : (c : Circuit) → firstOf (bufferTests c room) ≡ verdictIn (gradingOfCircuit c room)
   unfolding firstOf bufferTests gradingOfCircuit verdictIn
-  buffers-tell c = go (ltb words (4 * length (rowsOf c))) (ltb entries (length (rowsOf c)))
+  buffers-tell c = go (ltb (room .words) (4 * length (rowsOf c))) (ltb (room .entries) (length (rowsOf c)))
     where
       faults : ℕ
       faults = length (rowsOf c)
@@ -54,48 +52,27 @@ module _ (size words entries : ℕ) where
       go false false = refl
 
   rest-tells : (known : Known) (cut : Cut)
-      → firstOf (testsFrom size words entries known cut) ≡ verdictIn (afterReading (readFrom size known cut) words entries)
+      → firstOf (testsFrom size room known cut) ≡ verdictIn (afterReading (readFrom size known cut) room)
   unfolding testsFrom readFrom afterReading verdictIn firstOf
   rest-tells known clean =
-      first-append (endTests known size) (bufferTests (known .circuit) words entries)
-      ∙ later-is (firstOf (endTests known size)) (firstOf (bufferTests (known .circuit) words entries)) (accepted (known .circuit)) (buffers-tell (known .circuit))
+      first-append (endTests known size) (bufferTests (known .circuit) room)
+      ∙ later-is (firstOf (endTests known size)) (firstOf (bufferTests (known .circuit) room)) (accepted (known .circuit)) (buffers-tell (known .circuit))
   rest-tells known (broken at) = refl
   rest-tells known (field f rest) =
-      first-append (fieldTests known f) (testsFrom size words entries (knownAfter known f) rest)
-      ∙ later-is (firstOf (fieldTests known f)) (firstOf (testsFrom size words entries (knownAfter known f) rest)) (readFrom size (knownAfter known f) rest)
+      first-append (fieldTests known f) (testsFrom size room (knownAfter known f) rest)
+      ∙ later-is (firstOf (fieldTests known f)) (firstOf (testsFrom size room (knownAfter known f) rest)) (readFrom size (knownAfter known f) rest)
       (rest-tells (knownAfter known f) rest)
 
-pub table-tells : (file : List ℕ) (words entries : ℕ) → firstOf (tableOf file words entries) ≡ verdictIn (gradingOf file words entries)
+pub table-tells : (file : List ℕ) (room : Room) → firstOf (tableOf file room) ≡ verdictIn (gradingOf file room)
 unfolding tableOf gradingOf readingOf afterReading verdictIn firstOf
-table-tells file words entries = go (ltb mostBytes (length file))
+table-tells file room = go (ltb mostBytes (length file))
   where
-    go : (long : Bool) → cond long (refusedAt 1 0) (firstOf (testsFrom (length file) words entries start (cutFrom file 0)))
-        ≡ verdictIn (afterReading (cond long (refusal 1 0) (readFrom (length file) start (cutFrom file 0))) words entries)
+    go : (long : Bool) → cond long (refusedAt 1 0) (firstOf (testsFrom (length file) room start (cutFrom file 0)))
+        ≡ verdictIn (afterReading (cond long (refusal 1 0) (readFrom (length file) start (cutFrom file 0))) room)
     go true = refl
-    go false = rest-tells (length file) words entries start (cutFrom file 0)
+    go false = rest-tells (length file) room start (cutFrom file 0)
 
 -- ---- the grading and the answer
-
--- a graded circuit has a vector, and a refusal has a number
-GradingGood : Grading → Type 0
-GradingGood (graded c) = 1 ≤ length (c .vectors)
-GradingGood (refused number place) = 1 ≤ number
-
-grading-good : (file : List ℕ) (words entries : ℕ) → GradingGood (gradingOf file words entries)
-unfolding gradingOf afterReading gradingOfCircuit GradingGood
-grading-good file words entries = go (readingOf file) refl
-  where
-    go : (read : Reading) → readingOf file ≡ read → GradingGood (afterReading read words entries)
-    go (refusal number place) e = refusal-is-good file number place e .low
-    go (accepted c) e = buffers (ltb words (4 * length (rowsOf c))) (ltb entries (length (rowsOf c)))
-      where
-        faults : ℕ
-        faults = length (rowsOf c)
-
-        buffers : (a b : Bool) → GradingGood (cond a (refused 15 (4 * faults)) (cond b (refused 22 faults) (graded c)))
-        buffers true b = omega arith
-        buffers false true = omega arith
-        buffers false false = accepted-is-good file c e .some-vector
 
 unfoldable pub answered : Answer → Verdict
 answered (Graded counts) = passes
@@ -103,17 +80,16 @@ answered (Refused r) = refusedAt (refusalNumber r) (refusalPlace r)
 answered (ShortMatrix words) = refusedAt 15 words
 answered (ShortClasses faults) = refusedAt 22 faults
 
-module _ (matrix classes matrix′ classes′ : List ℕ) where
-  answer-tells : (g : Grading) (answer : Answer) → GradingGood g → Meets g answer matrix classes matrix′ classes′ → answered answer ≡ verdictIn g
-  unfolding GradingGood answered verdictIn numberOf placeOf countsOf countsIn numberIn placeIn grading.countsOfCircuit
-  answer-tells (graded c) (Graded counts) good meets = refl
-  answer-tells (graded c) (Refused r) good meets = let none : 0 ≡ length (c .vectors) = ap (λ k. k .vectors) (meets .counts) in absurd (omega arith)
-  answer-tells (graded c) (ShortMatrix words) good meets = absurd (omega (arith, meets .number))
-  answer-tells (graded c) (ShortClasses faults) good meets = absurd (omega (arith, meets .number))
-  answer-tells (refused number place) (Graded counts) good meets = absurd (omega (arith, meets .number))
-  answer-tells (refused number place) (Refused r) good meets = ap₂ refusedAt (meets .number) (meets .place)
-  answer-tells (refused number place) (ShortMatrix words) good meets = ap₂ refusedAt (meets .number) (meets .place)
-  answer-tells (refused number place) (ShortClasses faults) good meets = ap₂ refusedAt (meets .number) (meets .place)
+pub answer-tells : (g : Grading) (answer : Answer) (before after : Buffers) → AnswersAs g answer before after → answered answer ≡ verdictIn g
+unfolding answered verdictIn isGraded isGradedIn numberOf placeOf numberIn placeIn
+answer-tells (graded c) (Graded counts) before after kept = refl
+answer-tells (graded c) (Refused r) before after kept = absurd (true≢false (sym (kept .is-graded)))
+answer-tells (graded c) (ShortMatrix words) before after kept = absurd (true≢false (sym (kept .is-graded)))
+answer-tells (graded c) (ShortClasses faults) before after kept = absurd (true≢false (sym (kept .is-graded)))
+answer-tells (refused number place) (Graded counts) before after kept = absurd (true≢false (kept .is-graded))
+answer-tells (refused number place) (Refused r) before after kept = ap₂ refusedAt (kept .number) (kept .place)
+answer-tells (refused number place) (ShortMatrix words) before after kept = ap₂ refusedAt (kept .number) (kept .place)
+answer-tells (refused number place) (ShortClasses faults) before after kept = ap₂ refusedAt (kept .number) (kept .place)
 
 pub graded-is : (answer : Answer) → T (isGraded answer) ↔ (answered answer ≡ passes)
 unfolding isGraded answered
@@ -130,9 +106,5 @@ refuses-is (ShortMatrix words) number place = (λ p. ap₂ refusedAt (p .0) (p .
 refuses-is (ShortClasses faults) number place = (λ p. ap₂ refusedAt (p .0) (p .1), λ e. (cc, cc))
 
 -- an answer that keeps the promise has the verdict of the grading
-pub answer-is : (call : Call) → Kept call → answered (call .answer) ≡ verdictIn (gradingOf (call .file) (length (call .matrix)) (length (call .classes)))
-answer-is call kept =
-    let words = length (call .matrix) in
-    let entries = length (call .classes) in
-    answer-tells (call .matrix) (call .classes) (call .matrix-after) (call .classes-after) (gradingOf (call .file) words entries) (call .answer)
-    (grading-good (call .file) words entries) kept
+pub answer-is : (call : Call) → Kept call → answered (call .answer) ≡ verdictIn (gradingOf (call .file) (roomOf (call .before)))
+answer-is call kept = answer-tells (gradingOf (call .file) (roomOf (call .before))) (call .answer) (call .before) (call .after) kept

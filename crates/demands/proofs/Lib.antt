@@ -5,7 +5,7 @@
 --   demand 3      Refining, RefinedMarks, NoConverseProof
 --   of two files  WholeFields, AlikeFilesProof, FileSplits, OtherVectors, Fillings, AlikeFilesExamples
 --   one outcome   CellsAgree, ClassesAgree, Determines
---   contracts     ContractsProof, StepsOnce, CanBeMet, UniqueProof
+--   contracts     ContractsProof, CircuitCallsProof, StepsOnce, CanBeMet, UniqueProof, MetProof
 --   all of them   AllProofs
 --   by computing  KnownProof, WrongProof, BreaksProof; MeetsProof, what the demands do not break
 pub mod Gave
@@ -45,4 +45,6 @@ pub mod StepsOnce
 pub mod CanBeMet
 pub mod UniqueProof
 pub mod ContractsProof
+pub mod CircuitCallsProof
+pub mod MetProof
 pub mod AllProofs

@@ -7,7 +7,6 @@ use mathlib.Core.Bool.{Bool, true, false, cond}
 use mathlib.Core.List.{List}
 use native.Mathlib.Omega.{arith}
 use lib.Dec.{T, ltb}
-use lib.ListN.{length}
 use Rattle.words.specs.Tables.{upTo}
 use Rattle.words.proofs.Laws.{ofBool-le-one}
 use Rattle.words.proofs.Rows.{upTo-le-one}
@@ -15,10 +14,12 @@ use Rattle.circuit.specs.Circuit.{Circuit}
 use Rattle.circuit.specs.Table.{refusedAt}
 use Rattle.circuit.proofs.CircuitLaws.{accepted-is-good}
 use Rattle.circuit.proofs.Tested.{never-passes}
+use Rattle.grading.specs.Buffers.{Buffers, roomOf}
 use Rattle.grading.specs.Rows.{Row, cell, markOf}
 use Rattle.grading.specs.Grading.{Grading, graded, gradingOf, over}
 use Rattle.grading.specs.Grading.{refused}
-use Rattle.demands.specs.Calls.{Call, Accepts, GradedAs, isGraded}
+use Rattle.grading.specs.Promise.{isGraded}
+use Rattle.demands.specs.Calls.{Call, Accepts, GradedAs}
 use Rattle.demands.specs.Two.{vectorOf, CellsTell}
 use Rattle.demands.specs.Graders.{Work, outcomeOf, gradesBy, workBy, rightWork, rightly, called}
 use Rattle.demands.specs.Wrong.{marksAll, marksNever, firstWordOnly, inventsFound, countsRows, countsTwice, countsLabels}
@@ -33,10 +34,10 @@ use Rattle.demands.proofs.RightProof.{rightly-is-right}
 
 -- ---- the right grader
 
-right-as : (file matrix classes : List ℕ) (c : Circuit) → Accepts file c → T (isGraded (rightly file matrix classes .answer))
-    → GradedAs (called rightly file matrix classes) c
-right-as file matrix classes c accepts is-graded =
-    record { kept = rightly-is-right file matrix classes; accepts = accepts; graded = is-graded }
+right-as : (file : List ℕ) (before : Buffers) (c : Circuit) → Accepts file c → T (isGraded (rightly file before .answer))
+    → GradedAs (called rightly file before) c
+right-as file before c accepts is-graded =
+    record { kept = rightly-is-right file before; accepts = accepts; graded = is-graded }
 
 mark-le-one : (c : Circuit) (row : Row) (v : ℕ) → markOf c row v ≤ 1
 unfolding markOf
@@ -45,40 +46,40 @@ mark-le-one c row v = ofBool-le-one (cell c (vectorOf c v) row)
 pub rightly-meets-all : RightlyMeetsAll
 unfolding rightly rightWork
 rightly-meets-all = record {
-  one = λ file matrix classes. one-holds (called rightly file matrix classes) (rightly-is-right file matrix classes);
-  rest = λ file matrix classes c e g. grading-keeps-the-rest (called rightly file matrix classes) c (right-as file matrix classes c e g);
-  cells = λ file matrix classes c e g. cell-is-path (called rightly file matrix classes) c (right-as file matrix classes c e g);
-  classes = λ file matrix classes c e g. classes-count-once (called rightly file matrix classes) c (right-as file matrix classes c e g);
-  three = λ file matrix classes file′ matrix′ classes′ c d e g e′ g′.
-      three-holds (called rightly file matrix classes) (called rightly file′ matrix′ classes′) c d
-      (right-as file matrix classes c e g) (right-as file′ matrix′ classes′ d e′ g′);
+  one = λ file before. one-holds (called rightly file before) (rightly-is-right file before);
+  rest = λ file before c e g. grading-keeps-the-rest (called rightly file before) c (right-as file before c e g);
+  cells = λ file before c e g. cell-is-path (called rightly file before) c (right-as file before c e g);
+  classes = λ file before c e g. classes-count-once (called rightly file before) c (right-as file before c e g);
+  three = λ file before file′ before′ c d e g e′ g′.
+      three-holds (called rightly file before) (called rightly file′ before′) c d
+      (right-as file before c e g) (right-as file′ before′ d e′ g′);
   three-by-paths = marks-above markOf mark-le-one (λ file c d e. mark-stands c d (accepted-is-good file c e));
   fillings = marks-below markOf mark-le-one (λ c row v. omega arith);
 }
 
 -- ---- any work
 
-module _ (work : Circuit → Work) (matrix classes : List ℕ) where
+module _ (work : Circuit → Work) (before : Buffers) where
   -- its verdict is the right grader's
   same-verdict : (g : Grading)
-      → answered (outcomeOf work g matrix classes .answer) ≡ answered (outcomeOf rightWork g matrix classes .answer)
+      → answered (outcomeOf work g before .answer) ≡ answered (outcomeOf rightWork g before .answer)
   unfolding outcomeOf answered
   same-verdict (graded c) = refl
   same-verdict (refused n p) = refl
 
-  refusal-keeps : (g : Grading) (number place : ℕ) → answered (outcomeOf work g matrix classes .answer) ≡ refusedAt number place
-      → (outcomeOf work g matrix classes .matrix ≡ matrix) × (outcomeOf work g matrix classes .classes ≡ classes)
+  refusal-keeps : (g : Grading) (number place : ℕ) → answered (outcomeOf work g before .answer) ≡ refusedAt number place
+      → outcomeOf work g before .after ≡ before
   unfolding outcomeOf answered
   refusal-keeps (graded c) number place e = absurd (never-passes (sym e))
-  refusal-keeps (refused n p) number place e = (refl, refl)
+  refusal-keeps (refused n p) number place e = refl
 
 by-any-work : (work : Circuit → Work) → MeetsOne (gradesBy work)
 unfolding gradesBy rightly
-by-any-work work file matrix classes =
-    let g = gradingOf file (length matrix) (length classes) in
-    one-by-the-table (called (gradesBy work) file matrix classes) (record {
-      verdict = same-verdict work matrix classes g ∙ answer-is (called rightly file matrix classes) (rightly-is-right file matrix classes);
-      keeps = refusal-keeps work matrix classes g;
+by-any-work work file before =
+    let g = gradingOf file (roomOf before) in
+    one-by-the-table (called (gradesBy work) file before) (record {
+      verdict = same-verdict work before g ∙ answer-is (called rightly file before) (rightly-is-right file before);
+      keeps = refusal-keeps work before g;
     })
 
 pub meet-demand-one : MeetDemandOne
@@ -88,7 +89,7 @@ meet-demand-one = record { by-any-work = by-any-work; marks-all = by-any-work _;
 -- ---- the right words
 
 -- the clause on cells speaks of the matrix alone
-cells-carried : (one other : Call) (c : Circuit) → other .matrix-after ≡ one .matrix-after → CellsTell one c → CellsTell other c
+cells-carried : (one other : Call) (c : Circuit) → other .after .matrix ≡ one .after .matrix → CellsTell one c → CellsTell other c
 cells-carried one other c e tells = record {
   marked = λ cell. rw e (tells .marked cell);
   not-marked = λ cell. rw e (tells .not-marked cell);
@@ -98,24 +99,24 @@ cells-carried one other c e tells = record {
 }
 
 module _ (work : Circuit → Work) (same : (c : Circuit) → work c .words ≡ rightWork c .words) where
-  same-matrix : (g : Grading) (matrix classes : List ℕ)
-      → outcomeOf work g matrix classes .matrix ≡ outcomeOf rightWork g matrix classes .matrix
+  same-matrix : (g : Grading) (before : Buffers)
+      → outcomeOf work g before .after .matrix ≡ outcomeOf rightWork g before .after .matrix
   unfolding outcomeOf
-  same-matrix (graded c) matrix classes = ap (λ (words : List ℕ). over words matrix) (same c)
-  same-matrix (refused n p) matrix classes = refl
+  same-matrix (graded c) before = ap (λ (words : List ℕ). over words (before .matrix)) (same c)
+  same-matrix (refused n p) before = refl
 
-  graded-too : (g : Grading) (matrix classes : List ℕ) → T (isGraded (outcomeOf work g matrix classes .answer))
-      → T (isGraded (outcomeOf rightWork g matrix classes .answer))
+  graded-too : (g : Grading) (before : Buffers) → T (isGraded (outcomeOf work g before .answer))
+      → T (isGraded (outcomeOf rightWork g before .answer))
   unfolding outcomeOf isGraded
-  graded-too (graded c) matrix classes t = tt
-  graded-too (refused n p) matrix classes t = t
+  graded-too (graded c) before t = tt
+  graded-too (refused n p) before t = t
 
   by-right-words : MeetsCells (gradesBy work)
   unfolding gradesBy rightly
-  by-right-words file matrix classes c e is-graded =
-      let g = gradingOf file (length matrix) (length classes) in
-      cells-carried (called rightly file matrix classes) (called (gradesBy work) file matrix classes) c (same-matrix g matrix classes)
-      (rightly-meets-all .cells file matrix classes c e (graded-too g matrix classes is-graded))
+  by-right-words file before c e is-graded =
+      let g = gradingOf file (roomOf before) in
+      cells-carried (called rightly file before) (called (gradesBy work) file before) c (same-matrix g before)
+      (rightly-meets-all .cells file before c e (graded-too g before is-graded))
 
 pub meet-cell-clause : MeetCellClause
 unfolding inventsFound countsRows countsTwice countsLabels rightWork workBy

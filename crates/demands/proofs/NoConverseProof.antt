@@ -11,13 +11,14 @@ use Rattle.switch.specs.Modules.{ModuleType}
 use Rattle.circuit.specs.Circuit.{Circuit, Instance, primary, outputOf, exhaustive, no-faults}
 use Rattle.circuit.specs.Reading.{accepted, readingOf}
 use Rattle.grading.specs.Rows.{rowsOf, CellMarked, cell}
-use Rattle.demands.specs.Calls.{Call, GradedAs, isGraded, cellAt}
+use Rattle.grading.specs.Promise.{isGraded}
+use Rattle.demands.specs.Calls.{Call, GradedAs, cellAt}
 use Rattle.demands.specs.Two.{MatrixCell, rowAt, markIn}
 use Rattle.demands.specs.Files.{inverterThenNand}
 use Rattle.demands.specs.Graders.{called, rightly}
 use Rattle.demands.specs.NoConverse.{Filling, NoConverse}
 use Rattle.demands.proofs.Cells.{cell-decides}
-use Rattle.demands.proofs.Computing.{grader-computing, room, entries}
+use Rattle.demands.proofs.Computing.{grader-computing, blank}
 use Rattle.demands.proofs.RightProof.{rightly-is-right}
 
 -- ---- the circuit
@@ -41,7 +42,7 @@ abbrev underX : Circuit
 underX = record { inputs = 1; types = twoTypes; bridges = []; instances = twoInstances; vectors = (atX ∷ []) ∷ [] }
 
 abbrev withX : Call
-withX = called rightly (inverterThenNand ("X" ∷ [])) room entries
+withX = called rightly (inverterThenNand ("X" ∷ [])) blank
 
 -- ---- what is computed: row 1 is 0-2
 
@@ -49,7 +50,7 @@ record Computed : Type 0 where
   accepts : readingOf (inverterThenNand ("X" ∷ [])) ≡ accepted underX
   graded : T (isGraded (withX .answer))
   rows : length (rowsOf underX) ≡ 14
-  not-marked : cellAt (withX .matrix-after) 1 0 ≡ 0
+  not-marked : cellAt (withX .after .matrix) 1 0 ≡ 0
   marked-by-0 : T (cell underX (at0 ∷ []) (rowAt underX 1))
   marked-by-1 : T (cell underX (at1 ∷ []) (rowAt underX 1))
 
@@ -72,7 +73,7 @@ zeroTwo = record { row = 1; vector = 0; is-row = omega (arith, computed .rows); 
 pub no-converse : NoConverse
 unfolding zeroTwo
 no-converse converse =
-    let whole : GradedAs withX underX = record { kept = rightly-is-right _ _ _; accepts = computed .accepts; graded = computed .graded } in
+    let whole : GradedAs withX underX = record { kept = rightly-is-right _ _; accepts = computed .accepts; graded = computed .graded } in
     let marked : markIn withX zeroTwo ≡ 1 = converse withX underX whole zeroTwo every-filling in
     let zero-is-one : _≡_ {A = ℕ} 0 1 = sym (computed .not-marked) ∙ marked in
     omega arith

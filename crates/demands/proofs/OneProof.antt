@@ -1,6 +1,6 @@
 -- Demand 1 holds of every call that answers by the table, so of every call that keeps the promise of `grade`; and after a grading everything past the answer is as it was.
 use Prim.Native.Nat.{ℕ, _*_, _≤_}
-use mathlib.Core.Path.{_≡_, refl, sym, _∙_}
+use mathlib.Core.Path.{_≡_, refl, sym, ap, ap₂, _∙_}
 use mathlib.Core.Bool.{Bool, true, false, cond}
 use mathlib.Core.Logic.{_⊎_, inl, inr, _↔_}
 use mathlib.Core.List.{List}
@@ -15,17 +15,18 @@ use Rattle.circuit.specs.Table.{passes, refusedAt, firstOf}
 use Rattle.circuit.specs.Reading.{Reading, accepted, refusal, readingOf}
 use Rattle.circuit.specs.Refusals.{refusalNumber, refusalPlace}
 use Rattle.circuit.proofs.Tested.{never-passes}
+use Rattle.grading.specs.Buffers.{Buffers, Room, roomFor, roomOf}
 use Rattle.grading.specs.Rows.{rowsOf, matrixOf}
 use Rattle.grading.specs.Classes.{sameClass, classesOf}
-use Rattle.grading.specs.Grading.{Grading, graded, noCounts, gradingOf, gradingOfCircuit, afterReading, over, matrixAfter, classesAfterGrading}
+use Rattle.grading.specs.Grading.{Grading, graded, noCounts, gradingOf, gradingOfCircuit, afterReading, over, buffersAfter}
 use Rattle.grading.specs.Grading.{refused}
-use Rattle.grading.specs.Promise.{countsOf}
+use Rattle.grading.specs.Promise.{isGraded, countsOf}
 use Rattle.grading.specs.declared.Answer.{Answer}
 use Rattle.grading.specs.declared.Answer.the-variants.{Graded, Refused, ShortMatrix, ShortClasses}
 use Rattle.grading.proofs.ClassLists.{length-classes}
 use Rattle.grading.proofs.MatrixLaws.{length-matrix}
-use Rattle.demands.specs.Calls.{Call, Kept, Accepts, isGraded, Refuses}
-use Rattle.demands.specs.One.{passed, FirstApplying, tableFor, One, OneHolds, GradingKeepsTheRest}
+use Rattle.demands.specs.Calls.{Call, Kept, Accepts, Refuses}
+use Rattle.demands.specs.One.{passed, FirstApplying, tableFor, AnswerFits, One, OneHolds, GradingKeepsTheRest}
 use Rattle.demands.proofs.Gave.{gave}
 use Rattle.demands.proofs.Verdicts.{none-applies, first-applying}
 use Rattle.demands.proofs.GradingVerdicts.{verdictIn, table-tells, answered, graded-is, refuses-is, answer-is}
@@ -40,12 +41,12 @@ graded-or-refused (ShortClasses faults) = inr (22, faults, (refl, refl))
 -- ---- a call that answers by the table, whatever it writes when it grades
 
 abbrev meant : Call → Grading
-meant call = gradingOf (call .file) (length (call .matrix)) (length (call .classes))
+meant call = gradingOf (call .file) (roomOf (call .before))
 
--- its verdict is the grading's, and a refusal leaves both buffers as they were
+-- its verdict is the grading's, and a refusal leaves the buffers as they were
 pub record ByTheTable (call : Call) : Type 0 where
   pub verdict : answered (call .answer) ≡ verdictIn (meant call)
-  pub keeps : (number place : ℕ) → answered (call .answer) ≡ refusedAt number place → (call .matrix-after ≡ call .matrix) × (call .classes-after ≡ call .classes)
+  pub keeps : (number place : ℕ) → answered (call .answer) ≡ refusedAt number place → call .after ≡ call .before
 
 counts-nothing : (answer : Answer) (number place : ℕ) → Refuses answer number place → countsOf answer ≡ noCounts
 unfolding Refuses countsOf
@@ -55,22 +56,22 @@ counts-nothing (ShortMatrix words) number place r = refl
 counts-nothing (ShortClasses faults) number place r = refl
 
 -- buffers that pass 15 and 22 are long enough
-fits : (c : Circuit) (words entries : ℕ) → verdictIn (gradingOfCircuit c words entries) ≡ passes → (4 * length (rowsOf c) ≤ words) × (length (rowsOf c) ≤ entries)
+fits : (c : Circuit) (room : Room) → verdictIn (gradingOfCircuit c room) ≡ passes → AnswerFits c room
 unfolding gradingOfCircuit verdictIn
-fits c words entries e = go (ltb words (4 * faults)) (ltb entries faults) refl refl e
+fits c room e = go (ltb (room .words) (4 * faults)) (ltb (room .entries) faults) refl refl e
   where
     faults : ℕ
     faults = length (rowsOf c)
 
-    go : (a b : Bool) → ltb words (4 * faults) ≡ a → ltb entries faults ≡ b
-        → verdictIn (cond a (refused 15 (4 * faults)) (cond b (refused 22 faults) (graded c))) ≡ passes → (4 * faults ≤ words) × (faults ≤ entries)
+    go : (a b : Bool) → ltb (room .words) (4 * faults) ≡ a → ltb (room .entries) faults ≡ b
+        → verdictIn (cond a (refused 15 (4 * faults)) (cond b (refused 22 faults) (graded c))) ≡ passes → AnswerFits c room
     go true b p q r = absurd (never-passes r)
     go false true p q r = absurd (never-passes r)
-    go false false p q r = (ltb-false words (4 * faults) p, ltb-false entries faults q)
+    go false false p q r = record { words = ltb-false (room .words) (4 * faults) p; entries = ltb-false (room .entries) faults q }
 
 module _ (call : Call) (by : ByTheTable call) where
   same-verdict : answered (call .answer) ≡ firstOf (tableFor call)
-  same-verdict = by .verdict ∙ sym (table-tells (call .file) (length (call .matrix)) (length (call .classes)))
+  same-verdict = by .verdict ∙ sym (table-tells (call .file) (roomOf (call .before)))
 
   by-the-table : (number place : ℕ) → Refuses (call .answer) number place ↔ FirstApplying (tableFor call) number place
   by-the-table number place =
@@ -95,23 +96,22 @@ module _ (call : Call) (by : ByTheTable call) where
       go (inr (number, place, r)) = inr (number, place, r, by-the-table number place .0 r)
 
   abbrev Taken : Type 0
-  Taken = (c : Circuit) × Accepts (call .file) c × (4 * length (rowsOf c) ≤ length (call .matrix)) × (length (rowsOf c) ≤ length (call .classes))
+  Taken = (c : Circuit) × Accepts (call .file) c × AnswerFits c (roomOf (call .before))
 
   its-circuit : T (isGraded (call .answer)) → Taken
   unfolding gradingOf afterReading verdictIn
   its-circuit g = go (readingOf (call .file)) refl (sym (by .verdict) ∙ graded-is (call .answer) .0 g)
     where
-      go : (read : Reading) → readingOf (call .file) ≡ read → verdictIn (afterReading read (length (call .matrix)) (length (call .classes))) ≡ passes
-          → Taken
+      go : (read : Reading) → readingOf (call .file) ≡ read → verdictIn (afterReading read (roomOf (call .before))) ≡ passes → Taken
       go (refusal number place) e q = absurd (never-passes q)
-      go (accepted c) e q = let room = fits c (length (call .matrix)) (length (call .classes)) q in (c, e, room .0, room .1)
+      go (accepted c) e q = (c, e, fits c (roomOf (call .before)) q)
 
-  with-room : (c : Circuit) → Accepts (call .file) c → 4 * length (rowsOf c) ≤ length (call .matrix) → length (rowsOf c) ≤ length (call .classes)
-      → T (isGraded (call .answer))
+  with-room : (c : Circuit) → Accepts (call .file) c → AnswerFits c (roomOf (call .before)) → T (isGraded (call .answer))
   unfolding gradingOf afterReading gradingOfCircuit verdictIn
-  with-room c e words entries =
+  with-room c e room =
+      let faults = length (rowsOf c) in
       graded-is (call .answer) .1
-      (by .verdict ∙ rw (e, le-ltb (length (call .matrix)) (4 * length (rowsOf c)) words, le-ltb (length (call .classes)) (length (rowsOf c)) entries))
+      (by .verdict ∙ rw (e, le-ltb (length (call .before .matrix)) (4 * faults) (room .words), le-ltb (length (call .before .classes)) faults (room .entries)))
 
   pub one-by-the-table : One call
   one-by-the-table = record {
@@ -122,24 +122,20 @@ module _ (call : Call) (by : ByTheTable call) where
     graded-is-accepted = its-circuit;
     accepted-is-graded = with-room;
     refusal-counts-nothing = counts-nothing (call .answer);
-    refusal-keeps-the-matrix = λ number place r. by .keeps number place (refuses-is (call .answer) number place .0 r) .0;
-    refusal-keeps-the-classes = λ number place r. by .keeps number place (refuses-is (call .answer) number place .0 r) .1;
+    refusal-keeps-the-buffers = λ number place r. by .keeps number place (refuses-is (call .answer) number place .0 r);
   }
 
 -- ---- the demand
 
-untouched : (g : Grading) (number place : ℕ) → verdictIn g ≡ refusedAt number place → (matrix classes : List ℕ)
-    → (matrixAfter g matrix ≡ matrix) × (classesAfterGrading g classes ≡ classes)
-unfolding verdictIn matrixAfter classesAfterGrading
-untouched (graded c) number place e matrix classes = absurd (never-passes (sym e))
-untouched (refused n p) number place e matrix classes = (refl, refl)
+untouched : (g : Grading) (number place : ℕ) → verdictIn g ≡ refusedAt number place → (before : Buffers) → buffersAfter g before ≡ before
+unfolding verdictIn buffersAfter
+untouched (graded c) number place e before = absurd (never-passes (sym e))
+untouched (refused n p) number place e before = refl
 
 kept-by-the-table : (call : Call) → Kept call → ByTheTable call
 kept-by-the-table call kept = record {
   verdict = answer-is call kept;
-  keeps = λ number place e.
-      let as-found = untouched (meant call) number place (sym (answer-is call kept) ∙ e) (call .matrix) (call .classes) in
-      (kept .matrix-at-exit ∙ as-found .0, kept .classes-at-exit ∙ as-found .1);
+  keeps = λ number place e. kept .buffers-at-exit ∙ untouched (meant call) number place (sym (answer-is call kept) ∙ e) (call .before);
 }
 
 pub one-holds : OneHolds
@@ -164,11 +160,10 @@ pub grading-keeps-the-rest : GradingKeepsTheRest
 unfolding matrixOf
 grading-keeps-the-rest call c given =
     let here = gave call c given in
-    let words = put-over (matrixOf c) (call .matrix) (4 * length (rowsOf c)) (length-matrix c (rowsOf c)) (here .words) in
-    let entries = put-over (classesOf (rowsOf c)) (call .classes) (length (rowsOf c)) (length-classes sameClass (rowsOf c)) (here .entries) in
+    let words = put-over (matrixOf c) (call .before .matrix) (4 * length (rowsOf c)) (length-matrix c (rowsOf c)) (here .room .words) in
+    let entries = put-over (classesOf (rowsOf c)) (call .before .classes) (length (rowsOf c)) (length-classes sameClass (rowsOf c)) (here .room .entries) in
     record {
       words = rw (here .matrix-is) (words .rest);
       entries = rw (here .classes-are) (entries .rest);
-      as-many-words = rw (here .matrix-is) (words .as-long);
-      as-many-entries = rw (here .classes-are) (entries .as-long);
+      as-long = ap₂ roomFor (ap length (here .matrix-is) ∙ words .as-long) (ap length (here .classes-are) ∙ entries .as-long);
     }

@@ -1,8 +1,8 @@
 -- Demand 1: one outcome only keeps the promise, since number, place and counts tell an answer.
 use Prim.Native.Nat.{ℕ, _≤_}
-use mathlib.Core.Path.{_≡_, sym, ap, ap₂, _∙_}
+use mathlib.Core.Path.{_≡_, sym, ap, ap₂, subst, _∙_}
+use mathlib.Core.List.{List}
 use native.Mathlib.Omega.{arith}
-use lib.ListN.{length}
 use Rattle.circuit.specs.Table.{refusedAt}
 use Rattle.circuit.specs.Refusals.{numberedVerdict, refusalNumber, verdictOf}
 use Rattle.circuit.specs.declared.refusal.Refusal.{Refusal}
@@ -11,13 +11,14 @@ use Rattle.circuit.specs.declared.refusal.Refusal.the-variants.{TooMany, OutOfR
 use Rattle.circuit.specs.declared.refusal.Refusal.the-variants.{BridgeUnsuited, EmptyList, TooManyFaults, Unfinished}
 use Rattle.circuit.proofs.AnswerLaws.{verdict-tells}
 use Rattle.circuit.proofs.Tested.{never-passes}
-use Rattle.grading.specs.Grading.{Grading, gradingOf, countsIn, matrixAfter, classesAfterGrading}
-use Rattle.grading.specs.Promise.{countsOf, countsMeant}
+use Rattle.grading.specs.Buffers.{Buffers, roomOf}
+use Rattle.grading.specs.Grading.{Grading, gradingOf}
+use Rattle.grading.specs.Promise.{countsOf, countsMeant, AnswersAs}
 use Rattle.grading.specs.declared.Counts.{Counts as CountsRecord}
 use Rattle.grading.specs.declared.Answer.{Answer}
 use Rattle.grading.specs.declared.Answer.the-variants.{Graded, Refused, ShortMatrix, ShortClasses}
 use Rattle.demands.specs.One.{OneOutcomeOnly}
-use Rattle.demands.proofs.GradingVerdicts.{verdictIn, answered, answer-is}
+use Rattle.demands.proofs.GradingVerdicts.{answered, answer-tells}
 
 most : (r : Refusal) → refusalNumber r ≤ 14
 unfolding refusalNumber
@@ -65,14 +66,18 @@ same-answer (ShortClasses faults) (Refused s) v e = absurd (omega (arith, same-n
 same-answer (ShortClasses faults) (ShortMatrix words) v e = absurd (omega (arith, same-number v))
 same-answer (ShortClasses faults) (ShortClasses faults′) v e = ap ShortClasses (same-place v)
 
+-- one answer to a grading, and one way to leave the buffers
+pub answered-once : {g : Grading} {a b : Answer} {before after after′ : Buffers} → AnswersAs g a before after → AnswersAs g b before after′
+    → (a ≡ b) × (after ≡ after′)
+answered-once {g} {a} {b} {before} {after} {after′} p q = (
+  same-answer a b (answer-tells g a before after p ∙ sym (answer-tells g b before after′ q)) (p .counts ∙ sym (q .counts)),
+  p .buffers-at-exit ∙ sym (q .buffers-at-exit),
+)
+
 pub one-outcome-only : OneOutcomeOnly
-one-outcome-only one other kept kept′ file matrix classes =
-    let g : Grading = gradingOf (one .file) (length (one .matrix)) (length (one .classes)) in
-    let g′ : Grading = gradingOf (other .file) (length (other .matrix)) (length (other .classes)) in
-    let same : g ≡ g′ = rw (file, matrix, classes) in
-    record {
-      answer = same-answer (one .answer) (other .answer) (answer-is one kept ∙ ap verdictIn same ∙ sym (answer-is other kept′))
-          (kept .counts ∙ ap countsIn same ∙ sym (kept′ .counts));
-      matrix = kept .matrix-at-exit ∙ ap₂ matrixAfter same matrix ∙ sym (kept′ .matrix-at-exit);
-      classes = kept .classes-at-exit ∙ ap₂ classesAfterGrading same classes ∙ sym (kept′ .classes-at-exit);
-    }
+one-outcome-only one other kept kept′ file before =
+    let turned : AnswersAs (gradingOf (one .file) (roomOf (one .before))) (other .answer) (one .before) (other .after)
+    = subst (λ (bytes : List ℕ). AnswersAs (gradingOf bytes (roomOf (one .before))) (other .answer) (one .before) (other .after)) (sym file)
+    (subst (λ (buffers : Buffers). AnswersAs (gradingOf (other .file) (roomOf buffers)) (other .answer) buffers (other .after)) (sym before) kept′) in
+    let same = answered-once kept turned in
+    record { answer = same .0; buffers = same .1 }

@@ -4,6 +4,7 @@ use Prim.Native.Nat.{ℕ}
 use mathlib.Core.Path.{_≡_, refl, subst}
 use mathlib.Core.Bool.{Bool, true, false, cond}
 use mathlib.Core.List.{List, [], _∷_, _++_}
+use lib.Dec.{eqb}
 use lib.ListN.{length}
 use Rattle.circuit.specs.Fields.{Field, Cut, clean, broken, field, cutFrom}
 use Rattle.circuit.specs.Circuit.{Circuit}
@@ -12,12 +13,14 @@ use Rattle.circuit.specs.Known.{Tag, inputs-tag, type-tag, edge-tag, bridge-tag
 use Rattle.circuit.specs.Table.{Test, Verdict, passes, refusedAt, firstOf, bodyTests, fieldTests, endTests}
 use Rattle.circuit.specs.Table.{inputsTests, typeTests, edgeTests, edgeTestsOf, bridgeTests, instanceTests, vectorTests}
 use Rattle.circuit.specs.Refusals.{refusalNumber, refusalPlace}
+use Rattle.grading.specs.Buffers.{Buffers, Room, roomOf}
 use Rattle.grading.specs.Rows.{rowWords, matrixOf}
 use Rattle.grading.specs.Classes.{foundCount}
-use Rattle.grading.specs.Grading.{noCounts, Grading, graded, gradingOf, countsIn, numberIn, placeIn, matrixAfter, classesAfterGrading}
+use Rattle.grading.specs.Grading.{noCounts, Grading, graded, gradingOf, isGradedIn, countsIn, numberIn, placeIn, buffersAfter}
 use Rattle.grading.specs.Grading.{refused}
 use Rattle.grading.specs.Grading as grading
-use Rattle.grading.specs.Promise.{numberOf, placeOf, countsOf, Meets}
+use Rattle.grading.specs.Promise.{isGraded, numberOf, placeOf, countsOf, AnswersAs}
+use Rattle.grading.specs.declared.Answer.the-variants.{Refused, ShortMatrix, ShortClasses}
 use Rattle.demands.specs.One.{bufferTests, testsFrom, tableOf, PromiseCanBeMet}
 use Rattle.demands.specs.Graders.{Outcome, called, refusalOf, refusing, outcomeOf, gradesBy}
 use Rattle.demands.specs.Graders.{workBy, rightWork, rightly, RightlyIsRight}
@@ -74,48 +77,51 @@ told-end : (known : Known) (size : ℕ) → AllTold (endTests known size)
 unfolding AllTold refusing refusalOf numberOf placeOf countsOf refusalNumber refusalPlace endTests
 told-end known size = ((refl, refl, refl), ((refl, refl, refl), ((refl, refl, refl), ((refl, refl, refl), tt))))
 
-module _ (size words entries : ℕ) where
-  told-buffers : (c : Circuit) → AllTold (bufferTests c words entries)
+module _ (size : ℕ) (room : Room) where
+  told-buffers : (c : Circuit) → AllTold (bufferTests c room)
   unfolding AllTold refusing refusalOf numberOf placeOf countsOf refusalNumber refusalPlace bufferTests
   told-buffers c = ((refl, refl, refl), ((refl, refl, refl), tt))
 
-  told-rest : (known : Known) (cut : Cut) → AllTold (testsFrom size words entries known cut)
+  told-rest : (known : Known) (cut : Cut) → AllTold (testsFrom size room known cut)
   unfolding AllTold refusing refusalOf numberOf placeOf countsOf refusalNumber refusalPlace testsFrom
   told-rest known clean =
-      told-append (endTests known size) (bufferTests (known .circuit) words entries) (told-end known size) (told-buffers (known .circuit))
+      told-append (endTests known size) (bufferTests (known .circuit) room) (told-end known size) (told-buffers (known .circuit))
   told-rest known (broken at) = ((refl, refl, refl), tt)
   told-rest known (field f rest) =
-      told-append (fieldTests known f) (testsFrom size words entries (knownAfter known f) rest) (told-field known f)
+      told-append (fieldTests known f) (testsFrom size room (knownAfter known f) rest) (told-field known f)
       (told-rest (knownAfter known f) rest)
 
-told-table : (file : List ℕ) (words entries : ℕ) → AllTold (tableOf file words entries)
+told-table : (file : List ℕ) (room : Room) → AllTold (tableOf file room)
 unfolding AllTold refusing refusalOf numberOf placeOf countsOf refusalNumber refusalPlace tableOf
-told-table file words entries = ((refl, refl, refl), told-rest (length file) words entries start (cutFrom file 0))
+told-table file room = ((refl, refl, refl), told-rest (length file) room start (cutFrom file 0))
 
-told-grading : (file : List ℕ) (words entries : ℕ) → VerdictTold (verdictIn (gradingOf file words entries))
-told-grading file words entries =
-    subst VerdictTold (table-tells file words entries) (told-first (tableOf file words entries) (told-table file words entries))
+told-grading : (file : List ℕ) (room : Room) → VerdictTold (verdictIn (gradingOf file room))
+told-grading file room =
+    subst VerdictTold (table-tells file room) (told-first (tableOf file room) (told-table file room))
 
 -- ---- so every file's outcome meets the promise
 
-outcome-meets : (g : Grading) → VerdictTold (verdictIn g) → (matrix classes : List ℕ)
-    → let out : Outcome = outcomeOf rightWork g matrix classes in Meets g (out .answer) matrix classes (out .matrix) (out .classes)
+not-graded : (number place : ℕ) → isGraded (refusing number place) ≡ false
+unfolding refusing isGraded
+not-graded number place = go (eqb number 15) (eqb number 22)
+  where
+    go : (a b : Bool) → isGraded (cond a (ShortMatrix place) (cond b (ShortClasses place) (Refused (refusalOf number place)))) ≡ false
+    go true b = refl
+    go false true = refl
+    go false false = refl
+
+outcome-answers : (g : Grading) → VerdictTold (verdictIn g) → (before : Buffers)
+    → let out : Outcome = outcomeOf rightWork g before in AnswersAs g (out .answer) before (out .after)
 unfolding outcomeOf rightWork workBy rowWords matrixOf foundCount VerdictTold verdictIn
-    numberOf placeOf countsOf numberIn placeIn countsIn matrixAfter classesAfterGrading grading.countsOfCircuit
-outcome-meets (graded c) told matrix classes = record { number = refl; place = refl; counts = refl; matrix-at-exit = refl; classes-at-exit = refl }
-outcome-meets (refused number place) told matrix classes =
-    record { number = told .0; place = told .1; counts = told .2; matrix-at-exit = refl; classes-at-exit = refl }
+    isGraded isGradedIn numberOf placeOf countsOf numberIn placeIn countsIn buffersAfter grading.countsOfCircuit
+outcome-answers (graded c) told before = record { is-graded = refl; number = refl; place = refl; counts = refl; buffers-at-exit = refl }
+outcome-answers (refused number place) told before =
+    record { is-graded = not-graded number place; number = told .0; place = told .1; counts = told .2; buffers-at-exit = refl }
 
 pub rightly-is-right : RightlyIsRight
 unfolding rightly gradesBy
-rightly-is-right file matrix classes =
-    outcome-meets (gradingOf file (length matrix) (length classes)) (told-grading file (length matrix) (length classes)) matrix classes
+rightly-is-right file before = outcome-answers (gradingOf file (roomOf before)) (told-grading file (roomOf before)) before
 
 pub promise-can-be-met : PromiseCanBeMet
-promise-can-be-met file matrix classes = record {
-  call = called rightly file matrix classes;
-  of-file = refl;
-  of-matrix = refl;
-  of-classes = refl;
-  kept = rightly-is-right file matrix classes;
-}
+promise-can-be-met file before =
+    record { call = called rightly file before; of-file = refl; of-buffers = refl; kept = rightly-is-right file before }

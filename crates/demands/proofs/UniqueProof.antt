@@ -11,9 +11,8 @@ use Rattle.switch.specs.Records.{typeWith, EdgesGiven}
 use Rattle.circuit.specs.Reading.{readingOf}
 use Rattle.circuit.specs.Records.{unusedInstance, unusedVector}
 use Rattle.circuit.proofs.AnswerLaws.{verdict-tells, answers-unique}
+use Rattle.grading.specs.Buffers.{Buffers}
 use Rattle.grading.specs.Grading.{Grading}
-use Rattle.grading.specs.Promise.{Promise}
-use Rattle.grading.specs.declared.Answer.{Answer}
 use Rattle.print_lines.specs.Given.{LineGiven}
 use Rattle.print_lines.proofs.PieceLaws.{one-piece}
 use Rattle.togyamiru.specs.Entry.{EntryMeets}
@@ -25,7 +24,7 @@ use Rattle.read_instances.proofs.InstancesOnce.{instances-once}
 use Rattle.read_vectors.proofs.VectorsOnce.{vectors-once}
 use Rattle.read_file.proofs.StagesOnce.{stages-once}
 use Rattle.grading.specs.declared.Answer.the-variants.{ShortMatrix}
-use Rattle.demands.proofs.Outcomes.{same-counts, one-outcome-only}
+use Rattle.demands.proofs.Outcomes.{same-counts, answered-once}
 use Rattle.demands.proofs.StepsOnce.{step-once, next-once}
 use Rattle.demands.proofs.CanBeMet.{lent, emptyField, bareType, edges-given, type-given, noBridges, bridges-listed, codes-fit, codes-of-none}
 use Rattle.demands.proofs.CanBeMet.{rows-held, noTypes, noLists, held-to-none, firstInput, instance-given, readingOfNone, none-read, circuit-given}
@@ -37,21 +36,10 @@ both p q i = (p i, q i)
 given-once : {line out x y : List ℕ} {r s : ℕ} → LineGiven line out r x → LineGiven line out s y → (r ≡ s) × (x ≡ y)
 given-once g h = (g .count-is ∙ sym (h .count-is), g .after-is ∙ sym (h .after-is))
 
--- outcomes of the entry for C: six numbers, and both buffers at exit
-entry-once : {g : Grading} {matrix classes r s x y u v : List ℕ}
-    → EntryMeets g matrix classes r x u → EntryMeets g matrix classes s y v → (r ≡ s) × (x ≡ y) × (u ≡ v)
-entry-once g h =
-    (g .answer-at-exit ∙ sym (h .answer-at-exit), g .matrix-at-exit ∙ sym (h .matrix-at-exit), g .classes-at-exit ∙ sym (h .classes-at-exit))
-
--- outcomes of a grading: an answer, and both buffers at exit
-grade-once : (file matrix classes : List ℕ) (r s : Answer) (x y u v : List ℕ)
-    → Promise file matrix classes r x u → Promise file matrix classes s y v → (r ≡ s) × (x ≡ y) × (u ≡ v)
-grade-once file matrix classes r s x y u v kept kept′ =
-    let same =
-    one-outcome-only (record { file = file; matrix = matrix; classes = classes; answer = r; matrix-after = x; classes-after = u })
-    (record { file = file; matrix = matrix; classes = classes; answer = s; matrix-after = y; classes-after = v }) kept kept′ refl refl refl
-    in
-    (same .answer, same .matrix, same .classes)
+-- outcomes of the entry for C: six numbers, and the buffers at exit
+entry-once : {g : Grading} {before after after′ : Buffers} {r s : List ℕ}
+    → EntryMeets g before r after → EntryMeets g before s after′ → (r ≡ s) × (after ≡ after′)
+entry-once g h = (g .answer-at-exit ∙ sym (h .answer-at-exit), g .buffers-at-exit ∙ sym (h .buffers-at-exit))
 
 pub unique : Unique
 unique = record {
@@ -156,22 +144,22 @@ unique = record {
         both (λ i. record { count = (p .count-is ∙ sym (q .count-is)) i; found = found i })
         (λ i. ((p .keys-are ∙ sym (q .keys-are)) i, (tt, (tt, (tt, (tt, (classes i, (tt, tt))))))));
   };
+  grade-file-grade-circuit = record {
+    can-be-met = λ κs. ((circuit-given .0, (lent [], (lent [], tt))), circuit-given .1);
+    one-outcome = λ κs a given one other p q.
+        let same = answered-once (p (given .circuit) (given .is) (given .good)) (q (given .circuit) (given .is) (given .good)) in
+        both (same .0) (λ i. (tt, (same .1 i .matrix, (same .1 i .classes, tt))));
+  };
   grade-file-grade-read = record {
     can-be-met = λ κs. ((readingOfNone, (lent [], (lent [], tt))), none-read);
     one-outcome = λ κs a read one other p q.
-        let same =
-        grade-once (read .file) (now (a .1 .0)) (now (a .1 .1 .0)) (one .0) (other .0) (one .1 .1 .0) (other .1 .1 .0) (one .1 .1 .1 .0) (other .1 .1 .1 .0)
-        (p (read .file) (read .tells)) (q (read .file) (read .tells))
-        in
-        both (same .0) (λ i. (tt, (same .1 i, (same .2 i, tt))));
+        let same = answered-once (p (read .file) (read .tells)) (q (read .file) (read .tells)) in
+        both (same .0) (λ i. (tt, (same .1 i .matrix, (same .1 i .classes, tt))));
   };
   grade-file-grade = record {
     asks-nothing = λ κs a. tt;
     one-outcome = λ κs a asked one other p q.
-        let same =
-        grade-once (now (a .0)) (now (a .1 .0)) (now (a .1 .1 .0)) (one .0) (other .0) (one .1 .1 .0) (other .1 .1 .0) (one .1 .1 .1 .0) (other .1 .1 .1 .0) p q
-        in
-        both (same .0) (λ i. (tt, (same .1 i, (same .2 i, tt))));
+        let same = answered-once p q in both (same .0) (λ i. (tt, (same .1 i .matrix, (same .1 i .classes, tt))));
   };
   print-report-first-line = record {
     asks-nothing = λ κs a. tt;
@@ -203,7 +191,7 @@ unique = record {
   };
   togyamiru-grade = record {
     asks-nothing = λ κs a. tt;
-    one-outcome = λ κs a asked one other p q. let same = entry-once p q in both refl (λ i. (tt, (same .1 i, (same .2 i, (same .0 i, tt)))));
+    one-outcome = λ κs a asked one other p q. let same = entry-once p q in both refl (λ i. (tt, (same .1 i .matrix, (same .1 i .classes, (same .0 i, tt)))));
   };
   togyamiru-rows = record {
     asks-nothing = λ κs a. tt;

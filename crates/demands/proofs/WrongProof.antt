@@ -4,11 +4,12 @@ use mathlib.Core.Path.{_≡_, refl, ap, subst}
 use mathlib.Core.Bool.{false}
 use mathlib.Core.List.{List, [], _∷_, _++_}
 use lib.Dec.{T, eqb, eqb-refl}
-use lib.ListN.{length, getD, replicate}
+use lib.ListN.{getD, replicate}
 use Rattle.switch.specs.Bridges.{nodes}
-use Rattle.grading.specs.Grading.{Counts, Grading, gradingOf, countsIn, numberIn, matrixAfter, classesAfterGrading}
+use Rattle.grading.specs.Buffers.{Buffers, buffersOf, roomOf}
+use Rattle.grading.specs.Grading.{Counts, Grading, gradingOf, countsIn, numberIn, buffersAfter}
 use Rattle.grading.specs.Promise as promise
-use Rattle.demands.specs.Calls.{isGraded}
+use Rattle.grading.specs.Promise.{isGraded}
 use Rattle.demands.specs.Files.{inverter, inverterUnder, inverterListed, nandListed, nandOfOne, oneListed, nand3Fields, splitRails}
 use Rattle.demands.specs.Graders.{Grader, MeetsPromise}
 use Rattle.demands.specs.Wrong.{refusesEvery, without, readWithout, skips, marksAll, marksNever, leavesMatrix, firstWordOnly, inventsFound}
@@ -19,7 +20,7 @@ use Rattle.demands.specs.Wrong.{sameAsWritten, countsTwice, sameLabelToo
 use Rattle.demands.specs.Wrong.{RefusesEveryIsWrong, SkipsNineIsWrong, SkipsFourteenIsWrong, MarksAllIsWrong, MarksNeverIsWrong, LeavesMatrixIsWrong, FirstWordOnlyIsWrong, InventsFoundIsWrong}
 use Rattle.demands.specs.Wrong.{SweepsOnceIsWrong, OnePlaneIsWrong, MarksFloatingIsWrong, CountsRowsIsWrong, SpillsIsWrong, WrapsIsWrong, GoesOnIsWrong}
 use Rattle.demands.specs.Wrong.{WatchesOutputsIsWrong, HoldsLevelsIsWrong, CountsTwiceIsWrong, CountsLabelsIsWrong, ReadsXAsZeroIsWrong, WritesPastIsWrong, ClearsFirstIsWrong}
-use Rattle.demands.proofs.Computing.{grader-computing, room, entries}
+use Rattle.demands.proofs.Computing.{grader-computing, blank}
 
 -- what the wrong graders compute with
 unfoldable pub wrong-computing : Unit {0}
@@ -34,7 +35,7 @@ wrong-computing = tt
 -- ---- where an outcome differs from the promise, the promise is not met
 
 abbrev meant : List ℕ → Grading
-meant file = gradingOf file 64 16
+meant file = gradingOf file (roomOf blank)
 
 abbrev pub Differ : ℕ → ℕ → Type 0
 Differ a b = eqb a b ≡ false
@@ -43,38 +44,38 @@ pub apart : (a b : ℕ) → Differ a b → a ≡ b → ⊥
 apart a b differ e = subst T differ (subst (λ (n : ℕ). T (eqb a n)) e (eqb-refl a))
 
 abbrev NumberDiffers : Grader → List ℕ → Type 0
-NumberDiffers grader file = Differ (promise.numberOf (grader file room entries .answer)) (numberIn (meant file))
+NumberDiffers grader file = Differ (promise.numberOf (grader file blank .answer)) (numberIn (meant file))
 
--- in a matrix that held these words
-abbrev WordDiffersIn : List ℕ → Grader → List ℕ → ℕ → Type 0
-WordDiffersIn matrix grader file i =
-    Differ (getD (grader file matrix entries .matrix) i 0) (getD (matrixAfter (gradingOf file (length matrix) 16) matrix) i 0)
+-- in buffers that held these numbers
+abbrev WordDiffersIn : Buffers → Grader → List ℕ → ℕ → Type 0
+WordDiffersIn before grader file i =
+    Differ (getD (grader file before .after .matrix) i 0) (getD (buffersAfter (gradingOf file (roomOf before)) before .matrix) i 0)
 
 abbrev WordDiffers : Grader → List ℕ → ℕ → Type 0
-WordDiffers = WordDiffersIn room
+WordDiffers = WordDiffersIn blank
 
 abbrev ClassDiffers : Grader → List ℕ → ℕ → Type 0
-ClassDiffers grader file i = Differ (getD (grader file room entries .classes) i 0) (getD (classesAfterGrading (meant file) entries) i 0)
+ClassDiffers grader file i = Differ (getD (grader file blank .after .classes) i 0) (getD (buffersAfter (meant file) blank .classes) i 0)
 
 abbrev FoundDiffers : Grader → List ℕ → Type 0
-FoundDiffers grader file = Differ (promise.countsOf (grader file room entries .answer) .found) (countsIn (meant file) .found)
+FoundDiffers grader file = Differ (promise.countsOf (grader file blank .answer) .found) (countsIn (meant file) .found)
 
 by-number : (grader : Grader) (file : List ℕ) → NumberDiffers grader file → MeetsPromise grader → ⊥
-by-number grader file differ meets = apart _ _ differ (meets file room entries .number)
+by-number grader file differ meets = apart _ _ differ (meets file blank .number)
 
-by-word : (matrix : List ℕ) (grader : Grader) (file : List ℕ) (i : ℕ) → WordDiffersIn matrix grader file i → MeetsPromise grader → ⊥
-by-word matrix grader file i differ meets = apart _ _ differ (ap (λ (words : List ℕ). getD words i 0) (meets file matrix entries .matrix-at-exit))
+by-word : (before : Buffers) (grader : Grader) (file : List ℕ) (i : ℕ) → WordDiffersIn before grader file i → MeetsPromise grader → ⊥
+by-word before grader file i differ meets = apart _ _ differ (ap (λ (buffers : Buffers). getD (buffers .matrix) i 0) (meets file before .buffers-at-exit))
 
 by-class : (grader : Grader) (file : List ℕ) (i : ℕ) → ClassDiffers grader file i → MeetsPromise grader → ⊥
-by-class grader file i differ meets = apart _ _ differ (ap (λ (classes : List ℕ). getD classes i 0) (meets file room entries .classes-at-exit))
+by-class grader file i differ meets = apart _ _ differ (ap (λ (buffers : Buffers). getD (buffers .classes) i 0) (meets file blank .buffers-at-exit))
 
 by-found : (grader : Grader) (file : List ℕ) → FoundDiffers grader file → MeetsPromise grader → ⊥
-by-found grader file differ meets = apart _ _ differ (ap (λ (counts : Counts). counts .found) (meets file room entries .counts))
+by-found grader file differ meets = apart _ _ differ (ap (λ (counts : Counts). counts .found) (meets file blank .counts))
 
 -- ---- the files, and a matrix that is not zeros
 
-abbrev pub ones : List ℕ
-ones = replicate 64 1
+abbrev pub ones : Buffers
+ones = buffersOf (replicate 64 1) (replicate 16 0)
 
 -- 65 vectors, one row that is always marked
 abbrev pub many : List ℕ
@@ -161,46 +162,46 @@ pub skips-fourteen-is-wrong : SkipsFourteenIsWrong
 skips-fourteen-is-wrong = by-number _ _ (computed .skips-14)
 
 pub marks-all-is-wrong : MarksAllIsWrong
-marks-all-is-wrong = by-word room _ _ _ (computed .marks-all)
+marks-all-is-wrong = by-word blank _ _ _ (computed .marks-all)
 
 pub marks-never-is-wrong : MarksNeverIsWrong
-marks-never-is-wrong = by-word room _ _ _ (computed .marks-never)
+marks-never-is-wrong = by-word blank _ _ _ (computed .marks-never)
 
 pub leaves-matrix-is-wrong : LeavesMatrixIsWrong
-leaves-matrix-is-wrong = by-word room _ _ _ (computed .leaves-matrix)
+leaves-matrix-is-wrong = by-word blank _ _ _ (computed .leaves-matrix)
 
 pub first-word-only-is-wrong : FirstWordOnlyIsWrong
-first-word-only-is-wrong = by-word room _ _ _ (computed .first-word-only)
+first-word-only-is-wrong = by-word blank _ _ _ (computed .first-word-only)
 
 pub invents-found-is-wrong : InventsFoundIsWrong
 invents-found-is-wrong = by-found _ _ (computed .invents-found)
 
 pub sweeps-once-is-wrong : SweepsOnceIsWrong
-sweeps-once-is-wrong = by-word room _ _ _ (computed .sweeps-once)
+sweeps-once-is-wrong = by-word blank _ _ _ (computed .sweeps-once)
 
 pub one-plane-is-wrong : OnePlaneIsWrong
-one-plane-is-wrong = by-word room _ _ _ (computed .one-plane)
+one-plane-is-wrong = by-word blank _ _ _ (computed .one-plane)
 
 pub marks-floating-is-wrong : MarksFloatingIsWrong
-marks-floating-is-wrong = by-word room _ _ _ (computed .marks-floating)
+marks-floating-is-wrong = by-word blank _ _ _ (computed .marks-floating)
 
 pub counts-rows-is-wrong : CountsRowsIsWrong
 counts-rows-is-wrong = by-found _ _ (computed .counts-rows)
 
 pub spills-is-wrong : SpillsIsWrong
-spills-is-wrong = by-word room _ _ _ (computed .spills-63)
+spills-is-wrong = by-word blank _ _ _ (computed .spills-63)
 
 pub wraps-is-wrong : WrapsIsWrong
-wraps-is-wrong = by-word room _ _ _ (computed .wraps-65)
+wraps-is-wrong = by-word blank _ _ _ (computed .wraps-65)
 
 pub goes-on-is-wrong : GoesOnIsWrong
-goes-on-is-wrong = by-word room _ _ _ (computed .goes-on)
+goes-on-is-wrong = by-word blank _ _ _ (computed .goes-on)
 
 pub watches-outputs-is-wrong : WatchesOutputsIsWrong
-watches-outputs-is-wrong = by-word room _ _ _ (computed .watches-outputs)
+watches-outputs-is-wrong = by-word blank _ _ _ (computed .watches-outputs)
 
 pub holds-levels-is-wrong : HoldsLevelsIsWrong
-holds-levels-is-wrong = by-word room _ _ _ (computed .holds-levels)
+holds-levels-is-wrong = by-word blank _ _ _ (computed .holds-levels)
 
 pub counts-twice-is-wrong : CountsTwiceIsWrong
 counts-twice-is-wrong = by-class _ _ _ (computed .counts-twice)
@@ -209,7 +210,7 @@ pub counts-labels-is-wrong : CountsLabelsIsWrong
 counts-labels-is-wrong = by-class _ _ _ (computed .counts-labels)
 
 pub reads-x-as-zero-is-wrong : ReadsXAsZeroIsWrong
-reads-x-as-zero-is-wrong = by-word room _ _ _ (computed .reads-x-as-zero)
+reads-x-as-zero-is-wrong = by-word blank _ _ _ (computed .reads-x-as-zero)
 
 pub writes-past-is-wrong : WritesPastIsWrong
 writes-past-is-wrong = by-word ones _ _ _ (computed .writes-past)

@@ -13,8 +13,9 @@ use Rattle.circuit.specs.Limits.{mostBytes, mostVectors}
 use Rattle.circuit.specs.Circuit.{Circuit, joinLists}
 use Rattle.circuit.specs.Known.{vectorIn}
 use Rattle.circuit.specs.Table.{isLetter}
-use Rattle.grading.specs.Promise.{countsOf}
-use Rattle.demands.specs.Calls.{Call, Kept, Accepts, isGraded, cellAt, classAt}
+use Rattle.grading.specs.Buffers.{Room, roomOf}
+use Rattle.grading.specs.Promise.{isGraded, countsOf}
+use Rattle.demands.specs.Calls.{Call, Kept, Accepts, cellAt, classAt}
 use Rattle.demands.specs.Two.{AlikeButVectors}
 use Rattle.demands.specs.Three.{Refined}
 use Rattle.demands.specs.Files.{fieldBytes, nandUnder}
@@ -111,7 +112,7 @@ pub record GradedAlike (one other : Call) (bodies otherBodies : List (List ℕ))
 pub record SameRows (one other : Call) : Type 0 where
   pub faults : countsOf (one .answer) .faults ≡ countsOf (other .answer) .faults
   pub classes : countsOf (one .answer) .classes ≡ countsOf (other .answer) .classes
-  pub class : (r : ℕ) → r < countsOf (one .answer) .faults → classAt (one .classes-after) r ≡ classAt (other .classes-after) r
+  pub class : (r : ℕ) → r < countsOf (one .answer) .faults → classAt (one .after .classes) r ≡ classAt (other .after .classes) r
 
 abbrev pub RowsAreOfTheHead : Type 0
 RowsAreOfTheHead =
@@ -122,12 +123,12 @@ abbrev pub ColumnIsOfItsField : Type 0
 ColumnIsOfItsField =
     (one other : Call) (bodies otherBodies : List (List ℕ)) → GradedAlike one other bodies otherBodies
     → (v w : ℕ) → v < length bodies → w < length otherBodies → getD bodies v [] ≡ getD otherBodies w []
-    → (r : ℕ) → r < countsOf (one .answer) .faults → cellAt (one .matrix-after) r v ≡ cellAt (other .matrix-after) r w
+    → (r : ℕ) → r < countsOf (one .answer) .faults → cellAt (one .after .matrix) r v ≡ cellAt (other .after .matrix) r w
 
 -- demand 3: each mark stands in the same row and column, and the found count is no smaller
 pub record ThreeOfFiles (one finer : Call) (bodies : List (List ℕ)) : Type 0 where
   pub marks : (r v : ℕ) → r < countsOf (one .answer) .faults → v < length bodies
-      → cellAt (one .matrix-after) r v ≡ 1 → cellAt (finer .matrix-after) r v ≡ 1
+      → cellAt (one .after .matrix) r v ≡ 1 → cellAt (finer .after .matrix) r v ≡ 1
   pub found : countsOf (one .answer) .found ≤ countsOf (finer .answer) .found
 
 abbrev pub ThreeHoldsOfFiles : Type 0
@@ -140,7 +141,7 @@ abbrev pub MarksHoldInEveryFilledFile : Type 0
 MarksHoldInEveryFilledFile =
     (one other : Call) (bodies otherBodies : List (List ℕ)) → GradedAlike one other bodies otherBodies
     → (v w : ℕ) → v < length bodies → w < length otherBodies → KeepsLetters (getD bodies v []) (getD otherBodies w [])
-    → (r : ℕ) → r < countsOf (one .answer) .faults → cellAt (one .matrix-after) r v ≡ 1 → cellAt (other .matrix-after) r w ≡ 1
+    → (r : ℕ) → r < countsOf (one .answer) .faults → cellAt (one .after .matrix) r v ≡ 1 → cellAt (other .after .matrix) r w ≡ 1
 
 -- ---- the same where nothing is known of the second call but its file: in buffers that are no smaller it has graded that too
 
@@ -148,13 +149,17 @@ pub record GradedToo (one other : Call) (bodies : List (List ℕ)) : Type 0 wher
   pub graded : T (isGraded (other .answer))
   pub three : ThreeOfFiles one other bodies
 
+-- at least as much room
+pub record NoLessRoom (room more : Room) : Type 0 where
+  pub words : room .words ≤ more .words
+  pub entries : room .entries ≤ more .entries
+
 -- two calls with such files, the first of which graded its own
 pub record CalledAlike (one other : Call) (bodies otherBodies : List (List ℕ)) : Type 0 where
   pub first : GradedItsFile one
   pub second : Kept other
   pub files : AlikeFiles (one .file) (other .file) bodies otherBodies
-  pub words : length (one .matrix) ≤ length (other .matrix)
-  pub entries : length (one .classes) ≤ length (other .classes)
+  pub room : NoLessRoom (roomOf (one .before)) (roomOf (other .before))
 
 -- fill X's, in whichever way
 abbrev pub FillingsAreGraded : Type 0
@@ -178,4 +183,4 @@ pub record NandRefined : Type 0 where
   pub finer-file : finer .file ≡ nandUnder ("01" ∷ "11" ∷ [])
   pub graded : GradedAlike one finer (bytesOf "0X" ∷ []) (bytesOf "01" ∷ bytesOf "11" ∷ [])
   pub more : FinerBodies (bytesOf "0X" ∷ []) (bytesOf "01" ∷ bytesOf "11" ∷ [])
-  pub mark : cellAt (one .matrix-after) 1 0 ≡ 1
+  pub mark : cellAt (one .after .matrix) 1 0 ≡ 1

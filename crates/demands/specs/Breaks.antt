@@ -10,10 +10,11 @@ use lib.Dec.{T}
 use lib.ListN.{length}
 use Rattle.switch.specs.Conduction.{Value}
 use Rattle.circuit.specs.Circuit.{Circuit}
+use Rattle.grading.specs.Buffers.{Buffers}
 use Rattle.grading.specs.Rows.{Row, CellMarked}
 use Rattle.grading.specs.Classes.{foundCount}
-use Rattle.grading.specs.Promise.{countsOf}
-use Rattle.demands.specs.Calls.{Call, Accepts, isGraded}
+use Rattle.grading.specs.Promise.{isGraded, countsOf}
+use Rattle.demands.specs.Calls.{Call, Accepts}
 use Rattle.demands.specs.One.{One, RestKept}
 use Rattle.demands.specs.Two.{MatrixCell, rowOfCell, vectorOfCell, markIn, CellsTell, ClassesTell, AlikeButVectors}
 use Rattle.demands.specs.Three.{Refined, Three}
@@ -25,33 +26,33 @@ use Rattle.demands.specs.Wrong.{watchesOutputs, holdsLevels, countsTwice
 
 -- demand 1 holds of every call
 abbrev pub MeetsOne : Grader → Type 0
-MeetsOne grader = (file matrix classes : List ℕ) → One (called grader file matrix classes)
+MeetsOne grader = (file : List ℕ) (before : Buffers) → One (called grader file before)
 
--- and `GradingKeepsTheRest`, which stands beside it: past the answer both buffers are as they were
+-- and `GradingKeepsTheRest`, which stands beside it: past the answer the buffers are as they were
 abbrev pub MeetsRest : Grader → Type 0
 MeetsRest grader =
-    (file matrix classes : List ℕ) (c : Circuit) → Accepts file c → T (isGraded (grader file matrix classes .answer))
-    → RestKept (called grader file matrix classes) c
+    (file : List ℕ) (before : Buffers) (c : Circuit) → Accepts file c → T (isGraded (grader file before .answer))
+    → RestKept (called grader file before) c
 
 -- demand 2, its cells and its classes, holds of every call that graded
 abbrev pub MeetsCells : Grader → Type 0
 MeetsCells grader =
-    (file matrix classes : List ℕ) (c : Circuit) → Accepts file c → T (isGraded (grader file matrix classes .answer))
-    → CellsTell (called grader file matrix classes) c
+    (file : List ℕ) (before : Buffers) (c : Circuit) → Accepts file c → T (isGraded (grader file before .answer))
+    → CellsTell (called grader file before) c
 
 abbrev pub MeetsClasses : Grader → Type 0
 MeetsClasses grader =
-    (file matrix classes : List ℕ) (c : Circuit) → Accepts file c → T (isGraded (grader file matrix classes .answer))
-    → ClassesTell (called grader file matrix classes) c
+    (file : List ℕ) (before : Buffers) (c : Circuit) → Accepts file c → T (isGraded (grader file before .answer))
+    → ClassesTell (called grader file before) c
 
 -- demand 3, over what the grader itself marks: of two files that it grades, alike but for their vectors, and these refined in the second
 abbrev pub MeetsThree : Grader → Type 0
 MeetsThree grader =
-    (file matrix classes file′ matrix′ classes′ : List ℕ) (c d : Circuit)
-    → Accepts file c → T (isGraded (grader file matrix classes .answer))
-    → Accepts file′ d → T (isGraded (grader file′ matrix′ classes′ .answer))
+    (file : List ℕ) (before : Buffers) (file′ : List ℕ) (before′ : Buffers) (c d : Circuit)
+    → Accepts file c → T (isGraded (grader file before .answer))
+    → Accepts file′ d → T (isGraded (grader file′ before′ .answer))
     → AlikeButVectors c d → Refined (c .vectors) (d .vectors)
-    → Three (called grader file matrix classes) (called grader file′ matrix′ classes′) c
+    → Three (called grader file before) (called grader file′ before′) c
 
 -- demand 3 read over the definition of demand 2: where a path marks a cell of the first file, the grader marks that of the refined one, and
 -- it finds no fewer classes than the definition does in the first
@@ -61,16 +62,16 @@ pub record ThreeByPaths (finer : Call) (c : Circuit) : Type 0 where
 
 abbrev pub MeetsThreeByPaths : Grader → Type 0
 MeetsThreeByPaths grader =
-    (first file matrix classes : List ℕ) (c d : Circuit)
-    → Accepts first c → Accepts file d → T (isGraded (grader file matrix classes .answer))
+    (first file : List ℕ) (before : Buffers) (c d : Circuit)
+    → Accepts first c → Accepts file d → T (isGraded (grader file before .answer))
     → AlikeButVectors c d → Refined (c .vectors) (d .vectors)
-    → ThreeByPaths (called grader file matrix classes) c
+    → ThreeByPaths (called grader file before) c
 
 -- and what follows from both demands: a mark that was made with X holds under every filling of its vector
 abbrev pub MeetsFillings : Grader → Type 0
 MeetsFillings grader =
-    (file matrix classes : List ℕ) (c : Circuit) → Accepts file c → T (isGraded (grader file matrix classes .answer))
-    → (cell : MatrixCell c) → markIn (called grader file matrix classes) cell ≡ 1
+    (file : List ℕ) (before : Buffers) (c : Circuit) → Accepts file c → T (isGraded (grader file before .answer))
+    → (cell : MatrixCell c) → markIn (called grader file before) cell ≡ 1
     → (filling : List Value) → Filling (c .inputs) (vectorOfCell cell) filling → CellMarked c filling (rowOfCell cell)
 
 -- the right grader meets all of them

@@ -2,7 +2,6 @@
 -- then.
 use Prim.Native.Nat.{ℕ, _+_, _*_, _/_, _%_}
 use mathlib.Core.Path.{_≡_}
-use mathlib.Core.Bool.{Bool, true, false}
 use mathlib.Core.List.{List}
 use lib.Dec.{T}
 use lib.ListN.{getD}
@@ -10,7 +9,8 @@ use Rattle.words.specs.Bits.{bit}
 use Rattle.circuit.specs.Circuit.{Circuit}
 use Rattle.circuit.specs.Reading.{accepted, readingOf}
 use Rattle.circuit.specs.Refusals.{refusalNumber, refusalPlace}
-use Rattle.grading.specs.Promise.{Promise}
+use Rattle.grading.specs.Buffers.{Buffers}
+use Rattle.grading.specs.Promise.{isGraded, Promise}
 use Rattle.grading.specs.declared.Answer.{Answer}
 use Rattle.grading.specs.declared.Answer.the-variants.{Graded, Refused, ShortMatrix, ShortClasses}
 
@@ -18,24 +18,16 @@ use Rattle.grading.specs.declared.Answer.the-variants.{Graded, Refused, ShortMa
 abbrev pub Accepts : List ℕ → Circuit → Type 0
 Accepts file c = readingOf file ≡ accepted c
 
--- a call of `grade`: the file and both buffers that it was given; the answer and both buffers that it gave
+-- a call of `grade`: the file and the buffers that it was given; the answer, and the buffers as they are then
 pub record Call : Type 0 where
   pub file : List ℕ
-  pub matrix : List ℕ
-  pub classes : List ℕ
+  pub before : Buffers
   pub answer : Answer
-  pub matrix-after : List ℕ
-  pub classes-after : List ℕ
+  pub after : Buffers
 
 -- the promise of `grade` holds of it
 abbrev pub Kept : Call → Type 0
-Kept call = Promise (call .file) (call .matrix) (call .classes) (call .answer) (call .matrix-after) (call .classes-after)
-
-unfoldable pub isGraded : Answer → Bool
-isGraded (Graded counts) = true
-isGraded (Refused refusal) = false
-isGraded (ShortMatrix words) = false
-isGraded (ShortClasses faults) = false
+Kept call = Promise (call .file) (call .before) (call .answer) (call .after)
 
 -- a call that graded its file, which is read as this circuit
 pub record GradedAs (call : Call) (c : Circuit) : Type 0 where

@@ -16,8 +16,8 @@ use Rattle.switch.specs.Deciding.{joins}
 use Rattle.circuit.specs.Circuit.{Circuit, Instance, numbered, typeOfInstance, joinLists}
 use Rattle.grading.specs.Values.{labelValues, outputsOf}
 use Rattle.grading.specs.Rows.{Row, noInstance, rowsOf}
-use Rattle.grading.specs.Grading.{Counts, Grading, graded, refused, gradingOf, countsIn, numberIn, placeIn, matrixAfter}
-use Rattle.grading.specs.Grading.{classesAfterGrading}
+use Rattle.grading.specs.Buffers.{Buffers, buffersOf, noBuffers, Room, roomOf, roomForAll}
+use Rattle.grading.specs.Grading.{Counts, Grading, graded, refused, gradingOf, countsIn, numberIn, placeIn, buffersAfter}
 use Rattle.grading.specs.Codes.{codeOf}
 use Rattle.demands.specs.Calls.{cellAt}
 use Rattle.print_report.specs.Report.{reportOf}
@@ -38,7 +38,7 @@ wordOf text = wordOfDigits (marksOfText text)
 
 -- the grading of a file with buffers that are long enough for any
 abbrev pub gradingInFull : List ℕ → Grading
-gradingInFull file = gradingOf file 8192 2048
+gradingInFull file = gradingOf file roomForAll
 
 -- the marks of the row of a bridge, ends as written, in an instance: a digit for each vector. There are none where there is no such row
 unfoldable pub marksFrom : Circuit → List ℕ → ℕ → List Row → ℕ → Bridge → List ℕ
@@ -48,7 +48,7 @@ marksFrom c matrix r (row ∷ rows) n bridge =
     cond (eqb (codeOf (row .number) (row .bridge)) (codeOf n bridge)) (table (length (c .vectors)) (cellAt matrix r)) later
 
 unfoldable pub marksIn : Grading → ℕ → Bridge → List ℕ
-marksIn (graded c) n bridge = marksFrom c (matrixAfter (graded c) []) 0 (rowsOf c) n bridge
+marksIn (graded c) n bridge = marksFrom c (buffersAfter (graded c) noBuffers .matrix) 0 (rowsOf c) n bridge
 marksIn (refused number place) n bridge = []
 
 -- a node of a type that is joined to neither rail
@@ -75,29 +75,22 @@ sizesIn grading = (numberIn grading, countsIn grading .faults, countsIn grading 
 
 -- a refusal's number, and what is written into the matrix
 abbrev pub wordsIn : Grading → ℕ × List ℕ
-wordsIn grading = (numberIn grading, matrixAfter grading [])
+wordsIn grading = (numberIn grading, buffersAfter grading noBuffers .matrix)
 
 -- a whole grading: the file's size, a refusal's number, the counts, and what is written into the buffers
 pub record Whole : Type 0 where
   pub size : ℕ
   pub number : ℕ
   pub counts : Counts
-  pub words : List ℕ
-  pub classes : List ℕ
+  pub written : Buffers
 
 abbrev pub wholeGrading : List ℕ → Grading → Whole
 wholeGrading file grading = record {
   size = length file;
   number = numberIn grading;
   counts = countsIn grading;
-  words = matrixAfter grading [];
-  classes = classesAfterGrading grading [];
+  written = buffersAfter grading noBuffers;
 }
-
--- both buffers after the grading of a file
-abbrev pub buffersAfter : List ℕ → List ℕ → List ℕ → List ℕ × List ℕ
-buffersAfter file matrix classes =
-    let grading = gradingOf file (length matrix) (length classes) in (matrixAfter grading matrix, classesAfterGrading grading classes)
 
 -- lines as bytes: each ends with byte 10
 abbrev pub bytesOfLines : List String → List ℕ
@@ -116,16 +109,16 @@ pub data Claim : Type 0 where
   floats : List ℕ → ℕ → ℕ → ℕ → Claim
   -- a file is refused with this number at this place
   refuses : List ℕ → ℕ → ℕ → Claim
-  -- the same with so many words for the matrix and entries for the classes; 0 at 0 where it is not refused
-  short : List ℕ → ℕ → ℕ → ℕ → ℕ → Claim
+  -- the same with so much room; 0 at 0 where it is not refused
+  short : List ℕ → Room → ℕ → ℕ → Claim
   -- a file is graded, not refused: rows, classes
   sizes : List ℕ → ℕ → ℕ → Claim
   -- a file is graded, not refused, and its rows' words are these
   leaves : List ℕ → List ℕ → Claim
   -- a file of so many bytes is graded, not refused: the four counts, the marks of each row, the class of each row
   grades : List ℕ → ℕ → Counts → List String → List ℕ → Claim
-  -- a file's grading turns these buffers, a matrix and one for classes, into those
-  turns : List ℕ → List ℕ → List ℕ → List ℕ → List ℕ → Claim
+  -- a file's grading turns these buffers into those
+  turns : List ℕ → Buffers → Buffers → Claim
   -- a file's whole report, line by line
   reports : List ℕ → List String → Claim
 
@@ -133,7 +126,7 @@ unfoldable pub Holds : Claim → Type 0
 Holds (reads file n bridge marks) = marksIn (gradingInFull file) n bridge ≡ marksOfText marks
 Holds (floats file n m v) = floatsIn (gradingInFull file) n m v ≡ true
 Holds (refuses file number place) = gradingInFull file ≡ refused number place
-Holds (short file words entries number place) = refusalIn (gradingOf file words entries) ≡ (number, place)
+Holds (short file room number place) = refusalIn (gradingOf file room) ≡ (number, place)
 Holds (sizes file rows classes) = sizesIn (gradingInFull file) ≡ (0, rows, classes)
 Holds (leaves file words) = wordsIn (gradingInFull file) ≡ (0, words)
 Holds (grades file size counts marks classes) =
@@ -142,10 +135,9 @@ Holds (grades file size counts marks classes) =
       size = size;
       number = 0;
       counts = counts;
-      words = joinLists (map (λ (text : String). four (wordOf text)) marks);
-      classes = classes;
+      written = buffersOf (joinLists (map (λ (text : String). four (wordOf text)) marks)) classes;
     }
-Holds (turns file matrix classes matrix′ classes′) = buffersAfter file matrix classes ≡ (matrix′, classes′)
+Holds (turns file before after) = buffersAfter (gradingOf file (roomOf before)) before ≡ after
 Holds (reports file lines) = reportOf (gradingInFull file) ≡ bytesOfLines lines
 
 infixr 40 _and_

@@ -21,11 +21,12 @@ use denote.Ref.{now}
 use denote.Triple.Entry.{Args, Res}
 use denote.Triple.Clauses.{Ended, Lasts, AtExit, closing}
 use denote.Triple.Spec.{Meets}
-use Rattle.grading.specs.Promise.{numberOf, placeOf, countsOf}
+use Rattle.grading.specs.Buffers.{Buffers, buffersOf}
+use Rattle.grading.specs.Promise.{isGraded, numberOf, placeOf, countsOf}
 use Rattle.grading.specs.declared.Answer.{Answer}
 use Rattle.grade_file.proofs.grade.grade as grade
 use Rattle.togyamiru.proofs.togyamiru_grade as togyamiru-grade
-use Rattle.demands.specs.Calls.{Call, Kept, Refuses, isGraded}
+use Rattle.demands.specs.Calls.{Call, Kept, Refuses}
 use Rattle.demands.specs.Determined.{MeetsDemands}
 
 -- ---- any contract
@@ -57,11 +58,9 @@ RoutineTells M routine F Told =
 abbrev pub callOf : (κs : Lfts 3) → Args grade.signature κs → Answer → AtExit grade.ended κs → Call
 callOf κs a r e = record {
   file = now (a .0);
-  matrix = now (a .1 .0);
-  classes = now (a .1 .1 .0);
+  before = buffersOf (now (a .1 .0)) (now (a .1 .1 .0));
   answer = r;
-  matrix-after = now (e .1 .0);
-  classes-after = now (e .1 .1 .0);
+  after = buffersOf (now (e .1 .0)) (now (e .1 .1 .0));
 }
 
 pub record GradeIsKept : Type 2 where
@@ -84,26 +83,28 @@ sixOf answer =
     ∷ countsOf answer .found
     ∷ []
 
--- of what the entry was given, the six numbers, and both buffers as they are then: they are those of a call of `grade` that keeps its
+-- of what the entry was given, the six numbers, and the buffers as they are then: they are those of a call of `grade` that keeps its
 -- promise; a refusal counts nothing, and a grading has no number and no place
-pub record EntryIsCall (file matrix classes six matrix-after classes-after : List ℕ) : Type 0 where
+pub record EntryIsCall (file : List ℕ) (before : Buffers) (six : List ℕ) (after : Buffers) : Type 0 where
   pub call : Call
   pub of-file : call .file ≡ file
-  pub of-matrix : call .matrix ≡ matrix
-  pub of-classes : call .classes ≡ classes
+  pub of-buffers : call .before ≡ before
   pub kept : Kept call
-  pub to-matrix : call .matrix-after ≡ matrix-after
-  pub to-classes : call .classes-after ≡ classes-after
+  pub to-buffers : call .after ≡ after
   pub six-numbers : six ≡ sixOf (call .answer)
   pub refusal-counts-nothing : (number place : ℕ) → Refuses (call .answer) number place → six ≡ number ∷ place ∷ 0 ∷ 0 ∷ 0 ∷ 0 ∷ []
   pub grading-refuses-nothing : T (isGraded (call .answer)) → let counts = countsOf (call .answer) in
       six ≡ 0 ∷ 0 ∷ counts .vectors ∷ counts .faults ∷ counts .classes ∷ counts .found ∷ []
 
+-- the file and the buffers that the entry was given, its six numbers, and the buffers at exit
+abbrev pub ofEntry : (κs : Lfts 4) → Args togyamiru-grade.signature κs → AtExit togyamiru-grade.ended κs
+    → (List ℕ → Buffers → List ℕ → Buffers → Type 0) → Type 0
+ofEntry κs a e Told =
+    Told (now (a .0)) (buffersOf (now (a .1 .0)) (now (a .1 .1 .0))) (now (e .1 .1 .1 .0)) (buffersOf (now (e .1 .0)) (now (e .1 .1 .0)))
+
 pub record EntryIsKept : Type 2 where
   pub asks-nothing : AsksNothing togyamiru-grade.ended togyamiru-grade.Reads.Asked
   pub is-call : (κs : Lfts 4) (a : Args togyamiru-grade.signature κs) (r : Unit {0}) (e : AtExit togyamiru-grade.ended κs)
-      → togyamiru-grade.Reads.Learnt κs a r e
-      → EntryIsCall (now (a .0)) (now (a .1 .0)) (now (a .1 .1 .0)) (now (e .1 .1 .1 .0)) (now (e .1 .0)) (now (e .1 .1 .0))
+      → togyamiru-grade.Reads.Learnt κs a r e → ofEntry κs a e EntryIsCall
   pub routine-is-call : (M : Type 1)
-      → RoutineTells M togyamiru-grade.Symbol.routine togyamiru-grade.ended
-      (λ κs a r e. EntryIsCall (now (a .0)) (now (a .1 .0)) (now (a .1 .1 .0)) (now (e .1 .1 .1 .0)) (now (e .1 .0)) (now (e .1 .1 .0)))
+      → RoutineTells M togyamiru-grade.Symbol.routine togyamiru-grade.ended (λ κs a r e. ofEntry κs a e EntryIsCall)

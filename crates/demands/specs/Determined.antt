@@ -7,7 +7,8 @@ use mathlib.Core.List.{List}
 use lib.Dec.{T}
 use lib.ListN.{getD}
 use Rattle.circuit.specs.Circuit.{Circuit}
-use Rattle.demands.specs.Calls.{Call, Kept, Accepts, isGraded}
+use Rattle.grading.specs.Promise.{isGraded}
+use Rattle.demands.specs.Calls.{Call, Kept, Accepts}
 use Rattle.demands.specs.One.{One, SameOutcome, RestKept}
 use Rattle.demands.specs.Two.{CellsTell, ClassesTell}
 
@@ -25,8 +26,8 @@ AreWords numbers = (i : ℕ) → getD numbers i 0 < 2 ^ 64
 -- two calls on the same file and buffers that meet the demands have the same answer and leave the same in the buffers
 abbrev pub DemandsLeaveOneOutcome : Type 0
 DemandsLeaveOneOutcome =
-    (one other : Call) → AreWords (one .matrix-after) → AreWords (other .matrix-after) → MeetsDemands one → MeetsDemands other
-    → one .file ≡ other .file → one .matrix ≡ other .matrix → one .classes ≡ other .classes → SameOutcome one other
+    (one other : Call) → AreWords (one .after .matrix) → AreWords (other .after .matrix) → MeetsDemands one → MeetsDemands other
+    → one .file ≡ other .file → one .before ≡ other .before → SameOutcome one other
 
 abbrev pub DemandsAreThePromise : Type 0
-DemandsAreThePromise = (call : Call) → AreWords (call .matrix-after) → MeetsDemands call ↔ Kept call
+DemandsAreThePromise = (call : Call) → AreWords (call .after .matrix) → MeetsDemands call ↔ Kept call

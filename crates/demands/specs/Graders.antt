@@ -10,11 +10,12 @@ use Rattle.words.specs.Rows.{rowOf}
 use Rattle.switch.specs.Conduction.{Value}
 use Rattle.switch.specs.Modules.{ModuleType}
 use Rattle.switch.specs.Bridges.{Bridge}
-use Rattle.circuit.specs.Circuit.{Circuit, typeOfInstance, joinLists}
+use Rattle.circuit.specs.Circuit.{Circuit, joinLists}
 use Rattle.circuit.specs.declared.refusal.Refusal.{Refusal}
 use Rattle.circuit.specs.declared.refusal.Refusal.the-variants.{TooLong, Broken, UnknownTag, Misplaced, WrongLength, TooMany, OutOfRange}
 use Rattle.circuit.specs.declared.refusal.Refusal.the-variants.{BadEnds, NotComplementary, BadReference, BridgeUnsuited, EmptyList}
 use Rattle.circuit.specs.declared.refusal.Refusal.the-variants.{TooManyFaults, Unfinished}
+use Rattle.grading.specs.Buffers.{Buffers, roomOf}
 use Rattle.grading.specs.Rows.{Row, rowsOf, rowValues, markOf}
 use Rattle.grading.specs.Classes.{sameClass, largest, classesBy, foundBy}
 use Rattle.grading.specs.Grading.{Grading, graded, refused, gradingOf, over}
@@ -24,30 +25,22 @@ use Rattle.demands.specs.Calls.{Call, Kept}
 
 -- ---- graders
 
--- what a grader answers, and what both buffers hold then
+-- what a grader answers, and what the buffers hold then
 pub record Outcome : Type 0 where
   pub answer : Answer
-  pub matrix : List ℕ
-  pub classes : List ℕ
+  pub after : Buffers
 
--- of a file, a matrix and a class buffer
+-- of a file and lent buffers
 abbrev pub Grader : Type 0
-Grader = List ℕ → List ℕ → List ℕ → Outcome
+Grader = List ℕ → Buffers → Outcome
 
-abbrev pub called : Grader → List ℕ → List ℕ → List ℕ → Call
-called grader file matrix classes =
-    let outcome = grader file matrix classes in record {
-      file = file;
-      matrix = matrix;
-      classes = classes;
-      answer = outcome .answer;
-      matrix-after = outcome .matrix;
-      classes-after = outcome .classes;
-    }
+abbrev pub called : Grader → List ℕ → Buffers → Call
+called grader file before =
+    let outcome = grader file before in record { file = file; before = before; answer = outcome .answer; after = outcome .after }
 
 -- the promise holds of every call
 abbrev pub MeetsPromise : Grader → Type 0
-MeetsPromise grader = (file matrix classes : List ℕ) → Kept (called grader file matrix classes)
+MeetsPromise grader = (file : List ℕ) (before : Buffers) → Kept (called grader file before)
 
 -- ---- the code's answers
 
@@ -70,17 +63,16 @@ pub record Work : Type 0 where
   pub class-count : ℕ
   pub found : ℕ
 
-unfoldable pub outcomeOf : (Circuit → Work) → Grading → List ℕ → List ℕ → Outcome
-outcomeOf work (refused n p) matrix classes = record { answer = refusing n p; matrix = matrix; classes = classes }
-outcomeOf work (graded c) matrix classes =
+unfoldable pub outcomeOf : (Circuit → Work) → Grading → Buffers → Outcome
+outcomeOf work (refused n p) before = record { answer = refusing n p; after = before }
+outcomeOf work (graded c) before =
     let w = work c in record {
       answer = Graded (record { vectors = length (c .vectors); faults = length (rowsOf c); classes = w .class-count; found = w .found });
-      matrix = over (w .words) matrix;
-      classes = over (w .classes) classes;
+      after = record { matrix = over (w .words) (before .matrix); classes = over (w .classes) (before .classes) };
     }
 
 unfoldable pub gradesBy : (Circuit → Work) → Grader
-gradesBy work file matrix classes = outcomeOf work (gradingOf file (length matrix) (length classes)) matrix classes
+gradesBy work file before = outcomeOf work (gradingOf file (roomOf before)) before
 
 -- ---- work by the marks of rows, their packing into words, and the test for one class
 
@@ -108,7 +100,7 @@ unfoldable pub rightWork : Circuit → Work
 rightWork c = workBy rowOf markOf sameClass c
 
 unfoldable pub rightly : Grader
-rightly file matrix classes = gradesBy rightWork file matrix classes
+rightly file before = gradesBy rightWork file before
 
 -- the promise can be met, and a grader that differs from this one in one place is right in all others
 abbrev pub RightlyIsRight : Type 0

@@ -6,6 +6,7 @@ use mathlib.Core.List.{List, [], _∷_, _++_}
 use lib.ListN.{replicate}
 use Rattle.switch.specs.Bridges.{nodes, input}
 use Rattle.circuit.specs.Circuit.{primary, outputOf, exhaustive, no-faults, list, joinLists}
+use Rattle.grading.specs.Buffers.{buffersOf, roomFor}
 use Rattle.demands.specs.Files.{fieldBytes, inputsField, typeField, edgeField, instanceField, inverterFields, inverter, inverterUnder}
 use Rattle.demands.specs.Files.{inverterListed, inverterChoosing, nandUnder, norUnder, branches, inverterThenNand}
 use Rattle.demands.specs.Files.{nandOfOne, oneType, splitRails, invertersOf, fourInstances, manyFaults}
@@ -67,9 +68,9 @@ knownResults =
     ∷ leaves (inverterListed (nodes 0 1 ∷ []) (replicate 64 "0")) ((2 ^ 64 - 1) ∷ 0 ∷ 0 ∷ 0 ∷ [])
     ∷ leaves (inverterListed (nodes 0 1 ∷ []) (replicate 65 "0")) ((2 ^ 64 - 1) ∷ 1 ∷ 0 ∷ 0 ∷ [])
     -- 2,048 faults pass, 2,049 are 13; 8,191 words for 2,048 faults is 15 with 8,192
-    ∷ short (manyFaults 0) 8192 2048 0 0
+    ∷ short (manyFaults 0) (roomFor 8192 2048) 0 0
     ∷ refuses (manyFaults 1) 13 1038
-    ∷ short (manyFaults 0) 8191 2048 15 8192
+    ∷ short (manyFaults 0) (roomFor 8191 2048) 15 8192
     -- "The report": one inverter, vectors 0, 1, X. The file is 42 bytes; 3 vectors, 6 faults, 6 classes, 6 found; classes 1 to 6;
     -- rows 111, 100, 010, 010, 100, 110
     ∷ grades inverter 42 (record { vectors = 3; faults = 6; classes = 6; found = 6 })
@@ -134,15 +135,16 @@ knownResults =
     ∷ reports (inverterChoosing no-faults) ("vectors 1 faults 0 classes 0 found 0" ∷ [])
     ∷ reports [] ("refused 14 at 0" ∷ [])
     -- 15 comes before 22, each with what is needed
-    ∷ short inverter 23 6 15 24
-    ∷ short inverter 23 5 15 24
-    ∷ short inverter 0 0 15 24
-    ∷ short inverter 24 5 22 6
-    ∷ short inverter 24 6 0 0
+    ∷ short inverter (roomFor 23 6) 15 24
+    ∷ short inverter (roomFor 23 5) 15 24
+    ∷ short inverter (roomFor 0 0) 15 24
+    ∷ short inverter (roomFor 24 5) 22 6
+    ∷ short inverter (roomFor 24 6) 0 0
     -- two words more than it needs, one entry more: they keep their contents
-    ∷ turns inverter (replicate 26 9) (replicate 7 9)
+    ∷ turns inverter (buffersOf (replicate 26 9) (replicate 7 9))
+    (buffersOf
     (7 ∷ 0 ∷ 0 ∷ 0 ∷ 1 ∷ 0 ∷ 0 ∷ 0 ∷ 2 ∷ 0 ∷ 0 ∷ 0 ∷ 2 ∷ 0 ∷ 0 ∷ 0 ∷ 1 ∷ 0 ∷ 0 ∷ 0 ∷ 3 ∷ 0 ∷ 0 ∷ 0 ∷ 9 ∷ 9 ∷ [])
-    (1 ∷ 2 ∷ 3 ∷ 4 ∷ 5 ∷ 6 ∷ 9 ∷ [])
+    (1 ∷ 2 ∷ 3 ∷ 4 ∷ 5 ∷ 6 ∷ 9 ∷ []))
     -- four instances, rows of three of them, in the order of their lists
     ∷ grades (fourInstances ("00" ∷ "01" ∷ "10" ∷ "11" ∷ "X0" ∷ "0X" ∷ [])) 152
     (record { vectors = 6; faults = 10; classes = 10; found = 9 })

@@ -5,7 +5,9 @@
 --   NoConverse              demand 3 has no converse
 --   Determined              the demands leave one outcome only, which is the promise's
 --   Contracts               contracts as terms; those of `grade` and of the entry for C
+--   CircuitCalls            grading a circuit in place of its file
 --   Unique                  contracts of public functions that leave one outcome only
+--   Met                     who meets what these functions ask for
 --   Graders, Wrong, Breaks  a right grader and wrong ones; none of these meets the promise, and which demand each of them breaks
 --   Proved                  all of these statements in one record
 pub mod Calls
@@ -23,5 +25,7 @@ pub mod Graders
 pub mod Wrong
 pub mod Breaks
 pub mod Contracts
+pub mod CircuitCalls
 pub mod Unique
+pub mod Met
 pub mod Proved

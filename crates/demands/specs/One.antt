@@ -13,27 +13,29 @@ use Rattle.circuit.specs.Fields.{Cut, clean, broken, field, cutFrom}
 use Rattle.circuit.specs.Circuit.{Circuit}
 use Rattle.circuit.specs.Known.{Known, start, knownAfter}
 use Rattle.circuit.specs.Table.{Test, test, fieldTests, endTests}
+use Rattle.grading.specs.Buffers.{Buffers, Room, roomOf}
 use Rattle.grading.specs.Rows.{rowsOf}
 use Rattle.grading.specs.Grading.{noCounts}
-use Rattle.grading.specs.Promise.{countsOf}
-use Rattle.demands.specs.Calls.{Call, Kept, Accepts, GradedAs, isGraded, Refuses}
+use Rattle.grading.specs.Promise.{isGraded, countsOf}
+use Rattle.demands.specs.Calls.{Call, Kept, Accepts, GradedAs, Refuses}
 
--- ---- the table as one list: every test that a file and two buffer lengths are put to, in the order in which 01 looks at them
+-- ---- the table as one list: every test that a file and the room in the buffers are put to, in the order in which 01 looks at them
 
 -- last 15, matrix shorter than 4 times the faults, and 22, class buffer shorter than the faults
-unfoldable pub bufferTests : Circuit → ℕ → ℕ → List Test
-bufferTests c words entries =
-    test 15 (ltb words (4 * length (rowsOf c))) (4 * length (rowsOf c)) ∷ test 22 (ltb entries (length (rowsOf c))) (length (rowsOf c)) ∷ []
+unfoldable pub bufferTests : Circuit → Room → List Test
+bufferTests c room =
+    let faults = length (rowsOf c) in
+    test 15 (ltb (room .words) (4 * faults)) (4 * faults) ∷ test 22 (ltb (room .entries) faults) faults ∷ []
 
 -- fields in file order, each with its tests; where no whole field stands, number 2, and nothing is looked at after it
-unfoldable pub testsFrom : ℕ → ℕ → ℕ → Known → Cut → List Test
-testsFrom size words entries known clean = endTests known size ++ bufferTests (known .circuit) words entries
-testsFrom size words entries known (broken at) = test 2 true at ∷ []
-testsFrom size words entries known (field f rest) = fieldTests known f ++ testsFrom size words entries (knownAfter known f) rest
+unfoldable pub testsFrom : ℕ → Room → Known → Cut → List Test
+testsFrom size room known clean = endTests known size ++ bufferTests (known .circuit) room
+testsFrom size room known (broken at) = test 2 true at ∷ []
+testsFrom size room known (field f rest) = fieldTests known f ++ testsFrom size room (knownAfter known f) rest
 
 -- number 1 is looked at first
-unfoldable pub tableOf : List ℕ → ℕ → ℕ → List Test
-tableOf file words entries = test 1 (ltb mostBytes (length file)) 0 ∷ testsFrom (length file) words entries start (cutFrom file 0)
+unfoldable pub tableOf : List ℕ → Room → List Test
+tableOf file room = test 1 (ltb mostBytes (length file)) 0 ∷ testsFrom (length file) room start (cutFrom file 0)
 
 unfoldable pub passed : Test → Bool
 passed t = not (t .refuses)
@@ -50,7 +52,12 @@ pub record FirstApplying (tests : List Test) (number place : ℕ) : Type 0 where
   pub place-is : applying .place ≡ place
 
 abbrev pub tableFor : Call → List Test
-tableFor call = tableOf (call .file) (length (call .matrix)) (length (call .classes))
+tableFor call = tableOf (call .file) (roomOf (call .before))
+
+-- room for a circuit's answer
+pub record AnswerFits (c : Circuit) (room : Room) : Type 0 where
+  pub words : 4 * length (rowsOf c) ≤ room .words
+  pub entries : length (rowsOf c) ≤ room .entries
 
 -- ---- the demand
 
@@ -62,46 +69,38 @@ pub record One (call : Call) : Type 0 where
   pub never-both : T (isGraded (call .answer)) → (number place : ℕ) → Refuses (call .answer) number place → ⊥
   pub refused-by-the-table : (number place : ℕ) → Refuses (call .answer) number place ↔ FirstApplying (tableFor call) number place
   pub graded-when-none-applies : T (isGraded (call .answer)) ↔ T (allOf passed (tableFor call))
-  pub graded-is-accepted : T (isGraded (call .answer))
-      → (c : Circuit) × Accepts (call .file) c × (4 * length (rowsOf c) ≤ length (call .matrix))
-      × (length (rowsOf c) ≤ length (call .classes))
-  pub accepted-is-graded : (c : Circuit) → Accepts (call .file) c → 4 * length (rowsOf c) ≤ length (call .matrix)
-      → length (rowsOf c) ≤ length (call .classes) → T (isGraded (call .answer))
+  pub graded-is-accepted : T (isGraded (call .answer)) → (c : Circuit) × Accepts (call .file) c × AnswerFits c (roomOf (call .before))
+  pub accepted-is-graded : (c : Circuit) → Accepts (call .file) c → AnswerFits c (roomOf (call .before)) → T (isGraded (call .answer))
   pub refusal-counts-nothing : (number place : ℕ) → Refuses (call .answer) number place → countsOf (call .answer) ≡ noCounts
-  pub refusal-keeps-the-matrix : (number place : ℕ) → Refuses (call .answer) number place → call .matrix-after ≡ call .matrix
-  pub refusal-keeps-the-classes : (number place : ℕ) → Refuses (call .answer) number place → call .classes-after ≡ call .classes
+  pub refusal-keeps-the-buffers : (number place : ℕ) → Refuses (call .answer) number place → call .after ≡ call .before
 
 abbrev pub OneHolds : Type 0
 OneHolds = (call : Call) → Kept call → One call
 
--- for every file and every pair of buffers there is an outcome that keeps the promise, and only one. That the code of `grade` always
+-- for every file and any buffers there is an outcome that keeps the promise, and only one. That the code of `grade` always
 -- gives one is `GradeIsKept` (Contracts)
-pub record CanBeMet (file matrix classes : List ℕ) : Type 0 where
+pub record CanBeMet (file : List ℕ) (before : Buffers) : Type 0 where
   pub call : Call
   pub of-file : call .file ≡ file
-  pub of-matrix : call .matrix ≡ matrix
-  pub of-classes : call .classes ≡ classes
+  pub of-buffers : call .before ≡ before
   pub kept : Kept call
 
 abbrev pub PromiseCanBeMet : Type 0
-PromiseCanBeMet = (file matrix classes : List ℕ) → CanBeMet file matrix classes
+PromiseCanBeMet = (file : List ℕ) (before : Buffers) → CanBeMet file before
 
 pub record SameOutcome (one other : Call) : Type 0 where
   pub answer : one .answer ≡ other .answer
-  pub matrix : one .matrix-after ≡ other .matrix-after
-  pub classes : one .classes-after ≡ other .classes-after
+  pub buffers : one .after ≡ other .after
 
 abbrev pub OneOutcomeOnly : Type 0
 OneOutcomeOnly =
-    (one other : Call) → Kept one → Kept other
-    → one .file ≡ other .file → one .matrix ≡ other .matrix → one .classes ≡ other .classes → SameOutcome one other
+    (one other : Call) → Kept one → Kept other → one .file ≡ other .file → one .before ≡ other .before → SameOutcome one other
 
 -- after a grading everything past the answer is as it was
 pub record RestKept (call : Call) (c : Circuit) : Type 0 where
-  pub words : drop (4 * length (rowsOf c)) (call .matrix-after) ≡ drop (4 * length (rowsOf c)) (call .matrix)
-  pub entries : drop (length (rowsOf c)) (call .classes-after) ≡ drop (length (rowsOf c)) (call .classes)
-  pub as-many-words : length (call .matrix-after) ≡ length (call .matrix)
-  pub as-many-entries : length (call .classes-after) ≡ length (call .classes)
+  pub words : drop (4 * length (rowsOf c)) (call .after .matrix) ≡ drop (4 * length (rowsOf c)) (call .before .matrix)
+  pub entries : drop (length (rowsOf c)) (call .after .classes) ≡ drop (length (rowsOf c)) (call .before .classes)
+  pub as-long : roomOf (call .after) ≡ roomOf (call .before)
 
 abbrev pub GradingKeepsTheRest : Type 0
 GradingKeepsTheRest = (call : Call) (c : Circuit) → GradedAs call c → RestKept call c

@@ -16,7 +16,9 @@ use Rattle.demands.specs.AlikeFiles.{NandRefined}
 use Rattle.demands.specs.SplitFiles.{AcceptedIsSplit, SplitOnce, OtherVectorsAreAccepted, FillingsAreAccepted, NotAnyHead}
 use Rattle.demands.specs.Determined.{DemandsLeaveOneOutcome, DemandsAreThePromise}
 use Rattle.demands.specs.Contracts.{GradeIsKept, EntryIsKept}
+use Rattle.demands.specs.CircuitCalls.{CircuitIsGradedAsFile, CircuitAnswersAsFile, GradeCircuitIsKept}
 use Rattle.demands.specs.Unique.{Unique}
+use Rattle.demands.specs.Met.{MetByEveryFile}
 use Rattle.demands.specs.KnownResults.{AllKnown}
 use Rattle.demands.specs.Graders.{RightlyIsRight}
 use Rattle.demands.specs.Wrong.{RefusesEveryIsWrong, SkipsNineIsWrong, SkipsFourteenIsWrong, MarksAllIsWrong, MarksNeverIsWrong}
@@ -66,7 +68,11 @@ pub record AllProved : Type 2 where
   -- the code
   pub grade-is-kept : GradeIsKept
   pub entry-is-kept : EntryIsKept
+  pub grade-circuit-is-kept : GradeCircuitIsKept
+  pub circuit-is-graded-as-file : CircuitIsGradedAsFile
+  pub circuit-answers-as-file : CircuitAnswersAsFile
   pub unique : Unique
+  pub met-by-every-file : MetByEveryFile
   -- what the programs print, and what was read before a refusal
   pub one-piece : OnePiece
   pub pieces-join : PiecesJoin

@@ -39,7 +39,7 @@ vectorOfCell {c} cell = vectorOf c (cell .vector)
 
 -- what a call left in a cell: 1 is a mark, 0 is none
 abbrev pub markIn : {c : Circuit} → Call → MatrixCell c → ℕ
-markIn call cell = cellAt (call .matrix-after) (cell .row) (cell .vector)
+markIn call cell = cellAt (call .after .matrix) (cell .row) (cell .vector)
 
 -- the values of the labels of a cell's instance under its vector, and the links of the edges that are on then
 abbrev pub valuesIn : {c : Circuit} → MatrixCell c → ℕ → Value
@@ -74,7 +74,7 @@ pub record CellsTell (call : Call) (c : Circuit) : Type 0 where
   pub by-ends : (cell : MatrixCell c)
       → (markIn call cell ≡ 1) ↔ MarkedByEnds (rowOfCell cell .type) (valuesIn cell) (rowOfCell cell .bridge)
   pub not-without-the-bridge : (cell : MatrixCell c) → Joined (linksIn cell) supply ground → ⊥
-  pub past-the-last-vector : (r v : ℕ) → r < length (rowsOf c) → length (c .vectors) ≤ v → v < 256 → cellAt (call .matrix-after) r v ≡ 0
+  pub past-the-last-vector : (r v : ℕ) → r < length (rowsOf c) → length (c .vectors) ≤ v → v < 256 → cellAt (call .after .matrix) r v ≡ 0
 
 abbrev pub CellIsPath : Type 0
 CellIsPath = (call : Call) (c : Circuit) → GradedAs call c → CellsTell call c
@@ -128,7 +128,7 @@ OneClass r s = (r .number ≡ s .number) × EqualBridges (r .instance) (r .bridg
 -- some row of class n has a mark under some vector
 pub record Found (call : Call) (c : Circuit) (n : ℕ) : Type 0 where
   pub cell : MatrixCell c
-  pub of-class : classAt (call .classes-after) (cell .row) ≡ n
+  pub of-class : classAt (call .after .classes) (cell .row) ≡ n
   pub mark : markIn call cell ≡ 1
 
 -- two rows have one class number exactly when 01 calls them one class. The numbers are 1 to the count of classes; each is a row's, and
@@ -136,13 +136,13 @@ pub record Found (call : Call) (c : Circuit) (n : ℕ) : Type 0 where
 -- class counts once
 pub record ClassesTell (call : Call) (c : Circuit) : Type 0 where
   pub same : (r s : ℕ) → r < length (rowsOf c) → s < length (rowsOf c)
-      → (classAt (call .classes-after) r ≡ classAt (call .classes-after) s) ↔ OneClass (rowAt c r) (rowAt c s)
-  pub low : (r : ℕ) → r < length (rowsOf c) → 1 ≤ classAt (call .classes-after) r
-  pub high : (r : ℕ) → r < length (rowsOf c) → classAt (call .classes-after) r ≤ countsOf (call .answer) .classes
+      → (classAt (call .after .classes) r ≡ classAt (call .after .classes) s) ↔ OneClass (rowAt c r) (rowAt c s)
+  pub low : (r : ℕ) → r < length (rowsOf c) → 1 ≤ classAt (call .after .classes) r
+  pub high : (r : ℕ) → r < length (rowsOf c) → classAt (call .after .classes) r ≤ countsOf (call .answer) .classes
   pub each : (n : ℕ) → 1 ≤ n → n ≤ countsOf (call .answer) .classes
-      → (r : ℕ) × (r < length (rowsOf c)) × (classAt (call .classes-after) r ≡ n)
-  pub at-its-first-row : (r n : ℕ) → r < length (rowsOf c) → 1 ≤ n → n < classAt (call .classes-after) r
-      → (s : ℕ) × (s < r) × (classAt (call .classes-after) s ≡ n)
+      → (r : ℕ) × (r < length (rowsOf c)) × (classAt (call .after .classes) r ≡ n)
+  pub at-its-first-row : (r n : ℕ) → r < length (rowsOf c) → 1 ≤ n → n < classAt (call .after .classes) r
+      → (s : ℕ) × (s < r) × (classAt (call .after .classes) s ≡ n)
   pub found : (f : ℕ → ℕ) × ((n : ℕ) → f n ≤ 1) × ((n : ℕ) → (f n ≡ 1) ↔ Found call c (suc n))
       × (countsOf (call .answer) .found ≡ sumTo (countsOf (call .answer) .classes) f)
   pub vectors : countsOf (call .answer) .vectors ≡ length (c .vectors)

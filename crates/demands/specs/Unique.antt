@@ -55,6 +55,7 @@ use Rattle.grade_rows.proofs.rows_of as grade-rows-rows-of
 use Rattle.grade_inputs.proofs.put_signals as grade-inputs-put-signals
 use Rattle.grade_marks.proofs.instance.mark_instance as grade-marks-mark-instance
 use Rattle.grade_classes.proofs.class_instance as grade-classes-class-instance
+use Rattle.grade_file.proofs.grade.grade_circuit as grade-file-grade-circuit
 use Rattle.grade_file.proofs.grade.grade_read as grade-file-grade-read
 use Rattle.grade_file.proofs.grade.grade as grade-file-grade
 use Rattle.print_report.proofs.first_line as print-report-first-line
@@ -76,7 +77,8 @@ pub record Sole (F : Ended) (Asked : AskedBy F) (Told : ToldBy F) : Type 0 where
   pub asks-nothing : AsksNothing F Asked
   pub one-outcome : OneOutcome F Asked Told
 
--- a function with a `requires`: some arguments meet it, so that its one outcome says something
+-- a function with a `requires`: some arguments meet it, so that its one outcome says something. Met says more of those that ask for what
+-- was read or graded
 pub record SoleWhereMet (F : Ended) (Asked : AskedBy F) (Told : ToldBy F) : Type 0 where
   pub can-be-met : (κs : Lfts (F .signature .lifetimes)) → (a : Args (F .signature) κs) × Asked κs a
   pub one-outcome : OneOutcome F Asked Told
@@ -150,6 +152,8 @@ pub record Unique : Type 2 where
       SoleWhereMet grade-marks-mark-instance.ended grade-marks-mark-instance.Reads.Asked grade-marks-mark-instance.Reads.Learnt
   pub grade-classes-class-instance :
       SoleWhereMet grade-classes-class-instance.ended grade-classes-class-instance.Reads.Asked grade-classes-class-instance.Reads.Learnt
+  pub grade-file-grade-circuit :
+      SoleWhereMet grade-file-grade-circuit.ended grade-file-grade-circuit.Reads.Asked grade-file-grade-circuit.Reads.Learnt
   pub grade-file-grade-read : SoleWhereMet grade-file-grade-read.ended grade-file-grade-read.Reads.Asked grade-file-grade-read.Reads.Learnt
   pub grade-file-grade : Sole grade-file-grade.ended grade-file-grade.Reads.Asked grade-file-grade.Reads.Learnt
   pub print-report-first-line : Sole print-report-first-line.ended print-report-first-line.Reads.Asked print-report-first-line.Reads.Learnt

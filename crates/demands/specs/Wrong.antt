@@ -17,15 +17,16 @@ use Rattle.switch.specs.Deciding as deciding
 use Rattle.switch.specs.Deciding.{joins, isMarked}
 use Rattle.circuit.specs.Limits.{mostBytes}
 use Rattle.circuit.specs.Fields.{Cut, clean, broken, field, cutFrom}
-use Rattle.circuit.specs.Circuit.{Circuit, typeOfInstance}
+use Rattle.circuit.specs.Circuit.{Circuit}
 use Rattle.circuit.specs.Known.{Known, start, knownAfter}
 use Rattle.circuit.specs.Table.{Test, firstOf, fieldTests, endTests}
 use Rattle.circuit.specs.Reading.{Reading, accepted, refusal, unless}
+use Rattle.grading.specs.Buffers.{roomOf}
 use Rattle.grading.specs.Rows.{Row, rowsOf, rowValues, markOf}
 use Rattle.grading.specs.Classes.{sameClass, hasMarkBy}
 use Rattle.grading.specs.Grading.{Grading, graded, refused, gradingOf, afterReading}
 use Rattle.grading.specs.declared.Answer.{Answer}
-use Rattle.demands.specs.Calls.{isGraded}
+use Rattle.grading.specs.Promise.{isGraded}
 use Rattle.demands.specs.Graders.{Grader, MeetsPromise, refusing, Work, outcomeOf, gradesBy, Packing, workBy, marksBy, rightWork}
 use Rattle.demands.specs.Graders.{rightly}
 
@@ -37,8 +38,7 @@ marking marks = gradesBy (workBy rowOf marks sameClass)
 
 -- refuses every file: 14 at the end where the table has no refusal
 unfoldable pub refusesEvery : Grader
-refusesEvery file matrix classes =
-    record { answer = answer (gradingOf file (length matrix) (length classes)); matrix = matrix; classes = classes }
+refusesEvery file before = record { answer = answer (gradingOf file (roomOf before)); after = before }
   where
     answer : Grading → Answer
     answer (graded c) = refusing 14 (length file)
@@ -59,10 +59,9 @@ readWithout n size known (field f rest) =
     let later = readWithout n size (knownAfter known f) rest in unless (firstOf (without n (fieldTests known f))) later
 
 unfoldable pub skips : ℕ → Grader
-skips n file matrix classes =
+skips n file before =
     let whole = readWithout n (length file) start (cutFrom file 0) in
-    outcomeOf rightWork
-    (afterReading (cond (ltb mostBytes (length file)) (refusal 1 0) whole) (length matrix) (length classes)) matrix classes
+    outcomeOf rightWork (afterReading (cond (ltb mostBytes (length file)) (refusal 1 0) whole) (roomOf before)) before
 
 -- it takes types that are not complementary
 abbrev pub SkipsNineIsWrong : Type 0
@@ -339,21 +338,24 @@ clearingNext c =
     let w = rightWork c in record { words = w .words ++ (0 ∷ []); classes = w .classes; class-count = w .class-count; found = w .found }
 
 unfoldable pub writesPast : Grader
-writesPast file matrix classes =
-    let out = gradesBy clearingNext file matrix classes in
-    record { answer = out .answer; matrix = take (length matrix) (out .matrix); classes = out .classes }
+writesPast file before =
+    let out = gradesBy clearingNext file before in record {
+      answer = out .answer;
+      after = record { matrix = take (length (before .matrix)) (out .after .matrix); classes = out .after .classes };
+    }
 
 abbrev pub WritesPastIsWrong : Type 0
 WritesPastIsWrong = MeetsPromise writesPast → ⊥
 
 -- writes zeros into the matrix, then refuses
 unfoldable pub clearsFirst : Grader
-clearsFirst file matrix classes =
-    let out = rightly file matrix classes in
-    record {
+clearsFirst file before =
+    let out = rightly file before in record {
       answer = out .answer;
-      matrix = cond (isGraded (out .answer)) (out .matrix) (replicate (length matrix) 0);
-      classes = out .classes;
+      after = record {
+        matrix = cond (isGraded (out .answer)) (out .after .matrix) (replicate (length (before .matrix)) 0);
+        classes = out .after .classes;
+      };
     }
 
 abbrev pub ClearsFirstIsWrong : Type 0

@@ -1,6 +1,7 @@
--- The answer to a file: a refusal of reading, of the matrix or of the class buffer, or the graded circuit; each keeps the promise. Assumes nothing.
+-- The answer to a file, a refusal of reading or what its circuit answers; and that to a circuit, a refusal of the matrix or of the class buffer, or its grading.
+-- Each keeps the promise. Assumes nothing.
 use Prim.Native.Nat.{ℕ, zero, suc, _*_, _<_, _≤_}
-use mathlib.Core.Path.{_≡_, refl, sym, ap, _∙_}
+use mathlib.Core.Path.{_≡_, refl, sym, ap, subst, _∙_}
 use mathlib.Core.Bool.{true, false}
 use mathlib.Core.List.{List}
 use native.Mathlib.Omega.{arith}
@@ -19,11 +20,14 @@ use Rattle.circuit.specs.declared.Circuit.{Circuit as CircuitRecord}
 use Rattle.circuit.proofs.Verdicts.{passes-is}
 use Rattle.circuit.proofs.CircuitLaws.{accepted-is-good}
 use Rattle.grading.specs.Rows.{rowsOf}
-use Rattle.grading.specs.Grading.{gradingOf, gradingOfCircuit, afterReading, countsIn, numberIn, placeIn, matrixAfter, classesAfterGrading}
-use Rattle.grading.specs.Promise.{numberOf, placeOf, countsOf, Meets, Promise}
+use Rattle.grading.specs.Buffers.{Buffers, Room, roomOf}
+use Rattle.grading.specs.Grading.{gradingOfCircuit, afterReading, isGradedIn, countsIn, numberIn, placeIn, buffersAfter}
+use Rattle.grading.specs.Promise.{isGraded, numberOf, placeOf, countsOf, AnswersAs, Promise, PromiseOfCircuit}
 use Rattle.grading.specs.Given.{CircuitGiven}
 use Rattle.grading.specs.declared.Counts.{Counts}
+use Rattle.grading.specs.declared.Answer.{Answer}
 use Rattle.grading.specs.declared.Answer.the-variants.{Graded, Refused, ShortMatrix, ShortClasses}
+use Rattle.grading.proofs.PromiseLaws.{circuit-promise-is-files, same-buffers}
 use Rattle.grade_file.specs.Model as model
 use Rattle.grade_file.proofs.Assembly.{faults-are}
 
@@ -43,16 +47,16 @@ unfolding numberedVerdict numberTold placeTold
 told zero p n q e = let z : _≡_ {A = ℕ} 0 1 = cc in absurd (omega arith)
 told (suc k) p n q e = (ap numberTold e, ap placeTold e)
 
-pub refused-meets : (read : Reading) (r : ReadingRecord) → Tells read r → isRefused (verdictOf (r .refusal)) ≡ true
-    → (words entries : ℕ) (matrix classes : List ℕ) → Meets (afterReading read words entries) (Refused (r .refusal)) matrix classes matrix classes
-unfolding Tells isRefused verdictOf afterReading numberOf placeOf countsOf countsIn numberIn placeIn matrixAfter classesAfterGrading
-refused-meets (accepted c) r tells e words entries matrix classes = absurd (never (sym (ap isRefused (tells .0)) ∙ e))
+pub refused-answers : (read : Reading) (r : ReadingRecord) → Tells read r → isRefused (verdictOf (r .refusal)) ≡ true
+    → (room : Room) (buffers : Buffers) → AnswersAs (afterReading read room) (Refused (r .refusal)) buffers buffers
+unfolding Tells isRefused verdictOf afterReading isGraded isGradedIn numberOf placeOf countsOf countsIn numberIn placeIn buffersAfter
+refused-answers (accepted c) r tells e room buffers = absurd (never (sym (ap isRefused (tells .0)) ∙ e))
   where
     never : false ≡ true → ⊥
     never z = let y : _≡_ {A = ℕ} 0 1 = cc in absurd (omega arith)
-refused-meets (refusal n p) r tells e words entries matrix classes =
+refused-answers (refusal n p) r tells e room buffers =
     let parts = told (refusalNumber (r .refusal)) (refusalPlace (r .refusal)) n p tells in
-    record { number = parts .0; place = parts .1; counts = refl; matrix-at-exit = refl; classes-at-exit = refl }
+    record { is-graded = refl; number = parts .0; place = parts .1; counts = refl; buffers-at-exit = refl }
 
 -- the record tells the circuit of a file that is accepted
 pub record Accepted (file : List ℕ) (m : CircuitRecord) : Type 0 where
@@ -81,37 +85,43 @@ module _ (file : List ℕ) (m : CircuitRecord) (here : Accepted file m) where
   pub given : CircuitGiven m
   given = record { circuit = here .circuit; is = here .is; good = good-here }
 
-  module _ (matrix classes : List ℕ) where
-    graded-so : gradingOf file (length matrix) (length classes) ≡ gradingOfCircuit (here .circuit) (length matrix) (length classes)
-    unfolding gradingOf afterReading
-    graded-so = ap (λ (read : Reading). afterReading read (length matrix) (length classes)) (here .reads)
+  pub file-answers : (before after : Buffers) (answer : Answer) → PromiseOfCircuit m before answer after → Promise file before answer after
+  file-answers before after answer promise =
+      circuit-promise-is-files file (here .circuit) (here .reads) before after answer
+      (subst (λ (r : CircuitRecord). PromiseOfCircuit r before answer after) (here .is) promise)
 
-    pub short-matrix : length matrix < 4 * m .faults → Promise file matrix classes (ShortMatrix (4 * m .faults)) matrix classes
-    unfolding numberOf placeOf countsOf countsIn numberIn placeIn matrixAfter classesAfterGrading gradingOfCircuit
-    short-matrix short =
-        let same = faults-are (here .circuit) m (here .is) in
-        let test = lt-ltb (length matrix) (4 * length (rowsOf (here .circuit))) (rw same at short) in
-        rw (graded-so, same, test) record { number = refl; place = refl; counts = refl; matrix-at-exit = refl; classes-at-exit = refl }
+-- ---- a circuit, by its record
 
-    pub short-classes : 4 * m .faults ≤ length matrix → length classes < m .faults → Promise file matrix classes (ShortClasses (m .faults)) matrix classes
-    unfolding numberOf placeOf countsOf countsIn numberIn placeIn matrixAfter classesAfterGrading gradingOfCircuit
-    short-classes fits short =
-        let same = faults-are (here .circuit) m (here .is) in
-        let test = le-ltb (length matrix) (4 * length (rowsOf (here .circuit))) (rw same at fits) in
-        let test-2 = lt-ltb (length classes) (length (rowsOf (here .circuit))) (rw same at short) in
-        rw (graded-so, same, test, test-2) record { number = refl; place = refl; counts = refl; matrix-at-exit = refl; classes-at-exit = refl }
+module _ (c : Circuit) (m : CircuitRecord) (is : m ≡ circuitRecord c) (before : Buffers) where
+  same : m .faults ≡ length (rowsOf c)
+  same = faults-are c m is
 
-    pub graded-meets : 4 * m .faults ≤ length matrix → m .faults ≤ length classes → (counts : Counts) (matrix′ classes′ : List ℕ)
-        → model.Graded (here .circuit) counts matrix classes matrix′ classes′ → Promise file matrix classes (Graded counts) matrix′ classes′
-    unfolding numberOf placeOf countsOf countsIn numberIn placeIn matrixAfter classesAfterGrading gradingOfCircuit
-    graded-meets fits fits-2 counts matrix′ classes′ graded =
-        let same = faults-are (here .circuit) m (here .is) in
-        let test = le-ltb (length matrix) (4 * length (rowsOf (here .circuit))) (rw same at fits) in
-        let test-2 = le-ltb (length classes) (length (rowsOf (here .circuit))) (rw same at fits-2) in
-        rw (graded-so, test, test-2) record {
-          number = refl;
-          place = refl;
-          counts = graded .counts-are;
-          matrix-at-exit = graded .matrix-is;
-          classes-at-exit = graded .classes-are;
-        }
+  pub short-matrix : length (before .matrix) < 4 * m .faults
+      → AnswersAs (gradingOfCircuit c (roomOf before)) (ShortMatrix (4 * m .faults)) before before
+  unfolding isGraded isGradedIn numberOf placeOf countsOf countsIn numberIn placeIn buffersAfter gradingOfCircuit
+  short-matrix short =
+      let test = lt-ltb (length (before .matrix)) (4 * length (rowsOf c)) (rw same at short) in
+      rw (same, test) record { is-graded = refl; number = refl; place = refl; counts = refl; buffers-at-exit = refl }
+
+  pub short-classes : 4 * m .faults ≤ length (before .matrix) → length (before .classes) < m .faults
+      → AnswersAs (gradingOfCircuit c (roomOf before)) (ShortClasses (m .faults)) before before
+  unfolding isGraded isGradedIn numberOf placeOf countsOf countsIn numberIn placeIn buffersAfter gradingOfCircuit
+  short-classes fits short =
+      let test = le-ltb (length (before .matrix)) (4 * length (rowsOf c)) (rw same at fits) in
+      let test-2 = lt-ltb (length (before .classes)) (length (rowsOf c)) (rw same at short) in
+      rw (same, test, test-2) record { is-graded = refl; number = refl; place = refl; counts = refl; buffers-at-exit = refl }
+
+  pub graded-answers : 4 * m .faults ≤ length (before .matrix) → m .faults ≤ length (before .classes) → (counts : Counts) (after : Buffers)
+      → model.Graded c counts (before .matrix) (before .classes) (after .matrix) (after .classes)
+      → AnswersAs (gradingOfCircuit c (roomOf before)) (Graded counts) before after
+  unfolding isGraded isGradedIn numberOf placeOf countsOf countsIn numberIn placeIn buffersAfter gradingOfCircuit
+  graded-answers fits fits-2 counts after graded =
+      let test = le-ltb (length (before .matrix)) (4 * length (rowsOf c)) (rw same at fits) in
+      let test-2 = le-ltb (length (before .classes)) (length (rowsOf c)) (rw same at fits-2) in
+      rw (test, test-2) record {
+        is-graded = refl;
+        number = refl;
+        place = refl;
+        counts = graded .counts-are;
+        buffers-at-exit = same-buffers after _ (graded .matrix-is) (graded .classes-are);
+      }

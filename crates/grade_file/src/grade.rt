@@ -1,4 +1,4 @@
-// Grading a file: reading, the refusals of the buffers, and then the rows, instance by instance.
+// Grading a file or a circuit: reading, the refusals of the buffers, and then the rows, instance by instance.
 use circuit::Circuit;
 use circuit::Reading;
 use circuit::limits::MOST_FAULTS;
@@ -16,8 +16,9 @@ ghost use lib.ListN.{length};
 ghost use Rattle.circuit.specs.Circuit.{Circuit as CircuitMeant};
 ghost use Rattle.circuit.specs.Records.{circuitRecord};
 ghost use Rattle.circuit.specs.Laws.{CircuitGood};
+ghost use Rattle.grading.specs.Buffers.{buffersOf};
 ghost use Rattle.grading.specs.Given.{CircuitGiven, Read};
-ghost use Rattle.grading.specs.Promise.{Promise, PromiseOfRead};
+ghost use Rattle.grading.specs.Promise.{Promise, PromiseOfRead, PromiseOfCircuit};
 ghost use Rattle.grade_file.specs.Model.{Graded};
 
 fn counted(vectors: usize, faults: usize, classes: u16, found: usize) -> Counts
@@ -71,16 +72,11 @@ fn fill_buffers(c: Circuit, matrix: &mut [u64], classes: &mut [u16]) -> Counts
     counted(vectors, c.faults, count, found)
 }
 
-// A file as it was read, for a caller that keeps its circuit: the counts, with the matrix and the classes written, or a refusal, with both as they were.
-pub fn grade_read(reading: Reading, matrix: &mut [u64], classes: &mut [u16]) -> Answer
-    requires { ⌜ Read reading ⌝ }
-    ensures { λ r. ⌜ PromiseOfRead reading (now (matrix .entry)) (now (classes .entry)) r (now (matrix .exit)) (now (classes .exit)) ⌝ }
+// A circuit that reading gives: the counts, with the matrix and the classes written, or the buffer that is too short, with both as they were.
+pub fn grade_circuit(c: Circuit, matrix: &mut [u64], classes: &mut [u16]) -> Answer
+    requires { ⌜ CircuitGiven c ⌝ }
+    ensures { λ r. ⌜ PromiseOfCircuit c (buffersOf (now (matrix .entry)) (now (classes .entry))) r (buffersOf (now (matrix .exit)) (now (classes .exit))) ⌝ }
 {
-    let refusal = reading.refusal;
-    if refuses(refusal) {
-        return Answer::Refused(refusal);
-    }
-    let c = reading.circuit;
     let faults = c.faults;
     let words = 4 * faults;
     if matrix.len() < words {
@@ -92,9 +88,22 @@ pub fn grade_read(reading: Reading, matrix: &mut [u64], classes: &mut [u16]) -> 
     Answer::Graded(fill_buffers(c, matrix, classes))
 }
 
+// A file as it was read, for a caller that keeps its circuit: what its circuit answers, or the refusal, with both buffers as they were.
+pub fn grade_read(reading: Reading, matrix: &mut [u64], classes: &mut [u16]) -> Answer
+    requires { ⌜ Read reading ⌝ }
+    ensures { λ r. ⌜ PromiseOfRead reading (buffersOf (now (matrix .entry)) (now (classes .entry))) r (buffersOf (now (matrix .exit)) (now (classes .exit))) ⌝ }
+{
+    let refusal = reading.refusal;
+    if refuses(refusal) {
+        return Answer::Refused(refusal);
+    }
+    let c = reading.circuit;
+    grade_circuit(c, matrix, classes)
+}
+
 // Any bytes and any buffers.
 pub fn grade(file: &[u8], matrix: &mut [u64], classes: &mut [u16]) -> Answer
-    ensures { λ r. ⌜ Promise (now (file .entry)) (now (matrix .entry)) (now (classes .entry)) r (now (matrix .exit)) (now (classes .exit)) ⌝ }
+    ensures { λ r. ⌜ Promise (now (file .entry)) (buffersOf (now (matrix .entry)) (now (classes .entry))) r (buffersOf (now (matrix .exit)) (now (classes .exit))) ⌝ }
 {
     grade_read(read_stages(file), matrix, classes)
 }

@@ -1,13 +1,14 @@
--- The answer for given bytes and given buffer lengths. 01, "Refusal numbers": the table's refusals, then 15, then 22; a refusal leaves the
+-- The answer for given bytes and given room. 01, "Refusal numbers": the table's refusals, then 15, then 22; a refusal leaves the
 -- matrix and the class buffer unwritten and the four counts at 0. Words past the last row, and class entries past the last, keep their
 -- contents.
 use Prim.Native.Nat.{ℕ, _*_}
-use mathlib.Core.Bool.{cond}
+use mathlib.Core.Bool.{Bool, true, false, cond}
 use mathlib.Core.List.{List, _++_}
 use lib.Dec.{ltb}
 use lib.ListN.{length, drop}
 use Rattle.circuit.specs.Circuit.{Circuit}
 use Rattle.circuit.specs.Reading.{Reading, accepted, refusal, readingOf}
+use Rattle.grading.specs.Buffers.{Buffers, Room}
 use Rattle.grading.specs.Rows.{rowsOf, matrixOf}
 use Rattle.grading.specs.Classes.{classesOf, classCount, foundCount}
 
@@ -33,19 +34,23 @@ pub data Grading : Type 0 where
   refused : ℕ → ℕ → Grading
 
 -- matrix shorter than 4 times the faults: 15, words needed; class buffer shorter than the faults: 22, faults
-unfoldable pub gradingOfCircuit : Circuit → ℕ → ℕ → Grading
-gradingOfCircuit c words entries =
+unfoldable pub gradingOfCircuit : Circuit → Room → Grading
+gradingOfCircuit c room =
     let faults = length (rowsOf c) in
-    cond (ltb words (4 * faults)) (refused 15 (4 * faults)) (cond (ltb entries faults) (refused 22 faults) (graded c))
+    cond (ltb (room .words) (4 * faults)) (refused 15 (4 * faults)) (cond (ltb (room .entries) faults) (refused 22 faults) (graded c))
 
-unfoldable pub afterReading : Reading → ℕ → ℕ → Grading
-afterReading (refusal number place) words entries = refused number place
-afterReading (accepted c) words entries = gradingOfCircuit c words entries
+unfoldable pub afterReading : Reading → Room → Grading
+afterReading (refusal number place) room = refused number place
+afterReading (accepted c) room = gradingOfCircuit c room
 
-unfoldable pub gradingOf : List ℕ → ℕ → ℕ → Grading
-gradingOf file words entries = afterReading (readingOf file) words entries
+unfoldable pub gradingOf : List ℕ → Room → Grading
+gradingOf file room = afterReading (readingOf file) room
 
 -- ---- what the answer and the buffers are
+
+unfoldable pub isGradedIn : Grading → Bool
+isGradedIn (graded c) = true
+isGradedIn (refused number place) = false
 
 unfoldable pub countsIn : Grading → Counts
 countsIn (graded c) = countsOfCircuit c
@@ -64,10 +69,7 @@ placeIn (refused number place) = place
 unfoldable pub over : List ℕ → List ℕ → List ℕ
 over answer buffer = answer ++ drop (length answer) buffer
 
-unfoldable pub matrixAfter : Grading → List ℕ → List ℕ
-matrixAfter (graded c) matrix = over (matrixOf c) matrix
-matrixAfter (refused number place) matrix = matrix
-
-unfoldable pub classesAfterGrading : Grading → List ℕ → List ℕ
-classesAfterGrading (graded c) classes = over (classesOf (rowsOf c)) classes
-classesAfterGrading (refused number place) classes = classes
+unfoldable pub buffersAfter : Grading → Buffers → Buffers
+buffersAfter (graded c) before =
+    record { matrix = over (matrixOf c) (before .matrix); classes = over (classesOf (rowsOf c)) (before .classes) }
+buffersAfter (refused number place) before = before

@@ -2,13 +2,15 @@
 --   Values    label values by reference, outputs in file order
 --   Rows      the faults of all instances, and when a row is marked under a vector
 --   Classes   which rows are one class, class numbers, found classes
---   Grading   the answer for given bytes and given buffer lengths, and what it leaves in the buffers
+--   Buffers   what a caller lends, and the room in it
+--   Grading   the answer for given bytes and given room, and what it leaves in the buffers
 --   Promise   the same of the code's answer
---   Statements   the theorems on classes
+--   Statements   the theorems on classes and on the promise
 -- And what the crates that grade share: a row as a number, and what they ask of a circuit.
 pub mod Values
 pub mod Rows
 pub mod Classes
+pub mod Buffers
 pub mod Grading
 pub mod Promise
 pub mod Statements

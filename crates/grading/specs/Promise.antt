@@ -1,17 +1,29 @@
--- The promise of `grade`: its whole answer and both buffers at exit, on refusal too, for any bytes and any buffers. And that of
--- `grade_read`.
+-- The promise of `grade`: its whole answer and the buffers at exit, on refusal too, for any bytes and any buffers. And those of
+-- `grade_read` and `grade_circuit`.
 use Prim.Native.Nat.{ℕ}
 use mathlib.Core.Path.{_≡_}
+use mathlib.Core.Bool.{Bool, true, false}
 use mathlib.Core.List.{List}
-use lib.ListN.{length}
+use Rattle.circuit.specs.Circuit.{Circuit}
+use Rattle.circuit.specs.Records.{circuitRecord}
 use Rattle.circuit.specs.Reading.{readingOf}
 use Rattle.circuit.specs.Refusals.{refusalNumber, refusalPlace}
 use Rattle.circuit.specs.Answers.{Tells}
+use Rattle.circuit.specs.Laws.{CircuitGood}
+use Rattle.circuit.specs.declared.Circuit.{Circuit as CircuitRecord}
 use Rattle.circuit.specs.declared.Reading.{Reading as ReadingRecord}
-use Rattle.grading.specs.Grading.{Counts, noCounts, Grading, gradingOf, countsIn, numberIn, placeIn, matrixAfter, classesAfterGrading}
+use Rattle.grading.specs.Buffers.{Buffers, roomOf}
+use Rattle.grading.specs.Grading.{Counts, noCounts, Grading, gradingOf, gradingOfCircuit}
+use Rattle.grading.specs.Grading.{isGradedIn, countsIn, numberIn, placeIn, buffersAfter}
 use Rattle.grading.specs.declared.Counts.{Counts as CountsRecord}
 use Rattle.grading.specs.declared.Answer.{Answer}
 use Rattle.grading.specs.declared.Answer.the-variants.{Graded, Refused, ShortMatrix, ShortClasses}
+
+unfoldable pub isGraded : Answer → Bool
+isGraded (Graded counts) = true
+isGraded (Refused refusal) = false
+isGraded (ShortMatrix words) = false
+isGraded (ShortClasses faults) = false
 
 -- for each case of an answer the paper's number, place and counts; 0 where it has none
 unfoldable pub numberOf : Answer → ℕ
@@ -35,19 +47,22 @@ countsOf (Refused refusal) = noCounts
 countsOf (ShortMatrix words) = noCounts
 countsOf (ShortClasses faults) = noCounts
 
-pub record Meets (grading : Grading) (answer : Answer) (matrix classes matrix′ classes′ : List ℕ) : Type 0 where
+-- the answer to a grading, and the buffers as they were and as they are then
+pub record AnswersAs (grading : Grading) (answer : Answer) (before after : Buffers) : Type 0 where
+  pub is-graded : isGraded answer ≡ isGradedIn grading
   pub number : numberOf answer ≡ numberIn grading
   pub place : placeOf answer ≡ placeIn grading
   pub counts : countsOf answer ≡ countsIn grading
-  pub matrix-at-exit : matrix′ ≡ matrixAfter grading matrix
-  pub classes-at-exit : classes′ ≡ classesAfterGrading grading classes
+  pub buffers-at-exit : after ≡ buffersAfter grading before
 
--- of `file`, a matrix and a class buffer as they were, the answer, and the two as they are then
-abbrev pub Promise : List ℕ → List ℕ → List ℕ → Answer → List ℕ → List ℕ → Type 0
-Promise file matrix classes answer matrix′ classes′ =
-    Meets (gradingOf file (length matrix) (length classes)) answer matrix classes matrix′ classes′
+abbrev pub Promise : List ℕ → Buffers → Answer → Buffers → Type 0
+Promise file before answer after = AnswersAs (gradingOf file (roomOf before)) answer before after
 
 -- of a reading in place of the file: the promise of every file of which it tells
-abbrev pub PromiseOfRead : ReadingRecord → List ℕ → List ℕ → Answer → List ℕ → List ℕ → Type 0
-PromiseOfRead reading matrix classes answer matrix′ classes′ =
-    (file : List ℕ) → Tells (readingOf file) reading → Promise file matrix classes answer matrix′ classes′
+abbrev pub PromiseOfRead : ReadingRecord → Buffers → Answer → Buffers → Type 0
+PromiseOfRead reading before answer after = (file : List ℕ) → Tells (readingOf file) reading → Promise file before answer after
+
+-- of a circuit in place of the file: for every good circuit that the record tells
+abbrev pub PromiseOfCircuit : CircuitRecord → Buffers → Answer → Buffers → Type 0
+PromiseOfCircuit c before answer after =
+    (meant : Circuit) → c ≡ circuitRecord meant → CircuitGood meant → AnswersAs (gradingOfCircuit meant (roomOf before)) answer before after

@@ -1,4 +1,5 @@
--- The theorems on classes that later crates rest on. Their proofs are in proofs/: SameClass and ClassNumbering.
+-- The theorems on classes and on the promise that later crates rest on. Their proofs are in proofs/: SameClass, ClassNumbering and
+-- PromiseLaws.
 use Prim.Native.Nat.{ℕ, _≤_, _<_}
 use mathlib.Core.Path.{_≡_}
 use mathlib.Core.Bool.{Bool}
@@ -8,8 +9,13 @@ use lib.Dec.{T}
 use lib.ListN.{length, getD}
 use Rattle.switch.specs.Conduction.{Value}
 use Rattle.circuit.specs.Circuit.{Circuit}
+use Rattle.circuit.specs.Reading.{accepted, readingOf}
+use Rattle.circuit.specs.Records.{circuitRecord}
+use Rattle.grading.specs.Buffers.{Buffers}
 use Rattle.grading.specs.Rows.{Row, rowsOf, cell}
 use Rattle.grading.specs.Classes.{sameClass, largest, classesBy, classesOf}
+use Rattle.grading.specs.Promise.{Promise, PromiseOfCircuit}
+use Rattle.grading.specs.declared.Answer.{Answer}
 
 -- ---- any test for one class
 
@@ -62,3 +68,9 @@ classNumber c r = getD (classesOf (rowsOf c)) r 0
 -- the class numbers of a circuit tell its classes
 abbrev pub ClassNumbers : Circuit → Type 0
 ClassNumbers c = NumbersTell sameClass (rowsOf c) (classesOf (rowsOf c))
+
+-- a circuit's promise is that of every file that is read as it
+abbrev pub CircuitPromiseIsFiles : Type 0
+CircuitPromiseIsFiles =
+    (file : List ℕ) (c : Circuit) → readingOf file ≡ accepted c → (before after : Buffers) (answer : Answer)
+    → PromiseOfCircuit (circuitRecord c) before answer after → Promise file before answer after

@@ -16,13 +16,15 @@ use Rattle.circuit.specs.Reading.{accepted, readingOf}
 use Rattle.circuit.specs.Laws.{CircuitGood}
 use Rattle.circuit.proofs.CircuitLaws.{accepted-is-good}
 use Rattle.circuit.proofs.Padding.{getD-padded}
+use Rattle.grading.specs.Buffers.{Buffers, roomOf}
 use Rattle.grading.specs.Rows.{Row, noRow, rowWith, rowsOfInstance, rowsFrom, rowsOf, rowWords, matrixOf}
 use Rattle.grading.specs.Classes.{classesOf}
 use Rattle.grading.specs.Codes.{codeOf}
 use Rattle.grading.specs.Grading.{Grading, graded, refused, Counts, countsOfCircuit as countsOfCircuit, gradingOf}
-use Rattle.grading.specs.Grading.{countsIn, numberIn, placeIn, over, matrixAfter, classesAfterGrading}
+use Rattle.grading.specs.Grading.{countsIn, numberIn, placeIn, over, buffersAfter}
 use Rattle.grading.specs.Promise.{placeOf, countsOf}
 use Rattle.grading.specs.declared.Answer.{Answer}
+use Rattle.grading.proofs.PromiseLaws.{matrix-at-exit, classes-at-exit}
 use Rattle.grading.proofs.Everywhere.{Every, every-nil, every-append, every-map, every-at}
 use Rattle.grading.proofs.FaultRanges.{BridgeFits, faults-fit}
 use Rattle.grading.proofs.Lists.{getD-map}
@@ -32,7 +34,7 @@ use Rattle.grading.proofs.ClassNumbering.{class-numbers}
 use Rattle.grade_rows.specs.Model.{codesOf}
 use Rattle.print_report.specs.Lines.{rowLine}
 use Rattle.print_report.specs.Report.{kindOf, firstEnd, secondEnd, lineOf, rowLines, countsLine, reportLines, reportLine, lineCount}
-use Rattle.print_report.specs.Held.{headOf, headLine, wordsAt, heldRow, gradedLines, toldLines, heldLines, heldLine, heldCount}
+use Rattle.print_report.specs.Held.{headOf, headLine, wordsAt, heldRow, gradedLines, toldLines, heldLines, heldLine, heldCount, RowsHeld}
 use Rattle.print_report.specs.Promise.{OutcomeOf, ReportPiece, RowsAreHeld}
 use Rattle.print_report.specs.declared.RowHead.{RowHead}
 use Rattle.print_report.proofs.HeldLaws.{held-count-is}
@@ -136,11 +138,11 @@ module _
 -- ---- the whole
 
 module _
-    (file matrix-before classes-before codes matrix classes : List ℕ)
+    (file : List ℕ) (before : Buffers) (codes matrix classes : List ℕ)
     (listed : (c : Circuit) → readingOf file ≡ accepted c → codes ≡ padded 2048 0 (codesOf (rowsOf c))) where
-  told-are : (g : Grading) → GradingSound file g → matrix ≡ matrixAfter g matrix-before → classes ≡ classesAfterGrading g classes-before
+  told-are : (g : Grading) → GradingSound file g → matrix ≡ buffersAfter g before .matrix → classes ≡ buffersAfter g before .classes
       → toldLines (numberIn g) (placeIn g) (countsIn g) codes matrix classes ≡ reportLines g
-  unfolding GradingSound matrixAfter classesAfterGrading countsIn numberIn placeIn toldLines gradedLines heldRow reportLines countsOfCircuit
+  unfolding GradingSound buffersAfter countsIn numberIn placeIn toldLines gradedLines heldRow reportLines countsOfCircuit
   told-are (graded c) reads matrix-is classes-are =
       let each = class-numbers c .one-each in
       ap (λ (rows : List (List ℕ)). countsLine (countsOfCircuit c) ∷ rows)
@@ -149,49 +151,56 @@ module _
       (length-lines c (rowsOf c) (classesOf (rowsOf c)) each)
       (λ (r : ℕ) (h : r < length (rowsOf c)).
       line-at c (rowsOf c) (classesOf (rowsOf c)) r each h
-      ∙ sym (row-is c (accepted-is-good file c reads) codes matrix classes matrix-before classes-before (listed c reads) matrix-is classes-are r h))))
+      ∙ sym (row-is c (accepted-is-good file c reads) codes matrix classes (before .matrix) (before .classes) (listed c reads) matrix-is classes-are r h))))
   told-are (refused zero place) low matrix-is classes-are = absurd (omega (arith, low))
   told-are (refused (suc number) place) low matrix-is classes-are = refl
 
-  rows-in : (g : Grading) → GradingSound file g → matrix ≡ matrixAfter g matrix-before → classes ≡ classesAfterGrading g classes-before
+  rows-in : (g : Grading) → GradingSound file g → matrix ≡ buffersAfter g before .matrix → classes ≡ buffersAfter g before .classes
       → (countsIn g .faults ≤ length codes) × (4 * countsIn g .faults ≤ length matrix) × (countsIn g .faults ≤ length classes)
-  unfolding GradingSound matrixAfter classesAfterGrading countsIn countsOfCircuit over matrixOf padded
+  unfolding GradingSound buffersAfter countsIn countsOfCircuit over matrixOf padded
   rows-in (graded c) reads matrix-is classes-are = (
     omega (arith, few-rows c (accepted-is-good file c reads), ap length (listed c reads), length-table 2048 (λ (i : ℕ). getD (codesOf (rowsOf c)) i 0)),
     omega (
       arith,
       ap length matrix-is,
-      length-append (matrixOf c) (drop (length (matrixOf c)) matrix-before),
+      length-append (matrixOf c) (drop (length (matrixOf c)) (before .matrix)),
       length-matrix c (rowsOf c),
     ),
     omega (
       arith,
       ap length classes-are,
-      length-append (classesOf (rowsOf c)) (drop (length (classesOf (rowsOf c))) classes-before),
+      length-append (classesOf (rowsOf c)) (drop (length (classesOf (rowsOf c))) (before .classes)),
       class-numbers c .one-each,
     ),
   )
   rows-in (refused number place) low matrix-is classes-are = (omega arith, omega arith, omega arith)
 
-pub rows-are-held : RowsAreHeld
-rows-are-held file matrix-before classes-before answer codes matrix classes outcome =
-    let g : Grading = gradingOf file (length matrix-before) (length classes-before) in
-    let told = rows-in file matrix-before classes-before codes matrix classes (outcome .listed) g
-    (grading-sound file (length matrix-before) (length classes-before)) (outcome .promised .matrix-at-exit) (outcome .promised .classes-at-exit) in
-    let counts = ap (λ (m : Counts). m .faults) (outcome .promised .counts) in
-    record { codes-held = omega (arith, counts, told .0); words-held = omega (arith, counts, told .1); classes-held = omega (arith, counts, told .2) }
+module _ (file : List ℕ) (before : Buffers) (answer : Answer) (codes matrix classes : List ℕ) (outcome : OutcomeOf file before answer codes matrix classes) where
+  abbrev g : Grading
+  g = gradingOf file (roomOf before)
 
-pub held-is-report : (file matrix-before classes-before : List ℕ) (answer : Answer) (codes matrix classes : List ℕ)
-    → OutcomeOf file matrix-before classes-before answer codes matrix classes
-    → heldLines answer codes matrix classes ≡ reportLines (gradingOf file (length matrix-before) (length classes-before))
-unfolding heldLines
-held-is-report file matrix-before classes-before answer codes matrix classes outcome =
-    let g : Grading = gradingOf file (length matrix-before) (length classes-before) in
-    ap (λ (k : ℕ). toldLines k (placeOf answer) (countsOf answer) codes matrix classes) (outcome .promised .number)
-    ∙ ap (λ (k : ℕ). toldLines (numberIn g) k (countsOf answer) codes matrix classes) (outcome .promised .place)
-    ∙ ap (λ (m : Counts). toldLines (numberIn g) (placeIn g) m codes matrix classes) (outcome .promised .counts)
-    ∙ told-are file matrix-before classes-before codes matrix classes (outcome .listed) g
-    (grading-sound file (length matrix-before) (length classes-before)) (outcome .promised .matrix-at-exit) (outcome .promised .classes-at-exit)
+  matrix-after : matrix ≡ buffersAfter g before .matrix
+  matrix-after = outcome .matrix-is ∙ matrix-at-exit _ _ _ _ (outcome .promised)
+
+  classes-after : classes ≡ buffersAfter g before .classes
+  classes-after = outcome .classes-are ∙ classes-at-exit _ _ _ _ (outcome .promised)
+
+  held : RowsHeld answer codes matrix classes
+  held =
+      let told = rows-in file before codes matrix classes (outcome .listed) g (grading-sound file (roomOf before)) matrix-after classes-after in
+      let counts = ap (λ (m : Counts). m .faults) (outcome .promised .counts) in
+      record { codes-held = omega (arith, counts, told .0); words-held = omega (arith, counts, told .1); classes-held = omega (arith, counts, told .2) }
+
+  held-is-report : heldLines answer codes matrix classes ≡ reportLines g
+  unfolding heldLines
+  held-is-report =
+      ap (λ (k : ℕ). toldLines k (placeOf answer) (countsOf answer) codes matrix classes) (outcome .promised .number)
+      ∙ ap (λ (k : ℕ). toldLines (numberIn g) k (countsOf answer) codes matrix classes) (outcome .promised .place)
+      ∙ ap (λ (m : Counts). toldLines (numberIn g) (placeIn g) m codes matrix classes) (outcome .promised .counts)
+      ∙ told-are file before codes matrix classes (outcome .listed) g (grading-sound file (roomOf before)) matrix-after classes-after
+
+pub rows-are-held : RowsAreHeld
+rows-are-held = held
 
 pub report-piece : (answer : Answer) (codes matrix classes : List ℕ) (from : ℕ) (buffer : List ℕ) (piece : Piece) (after : List ℕ)
     → PieceGiven (heldLine answer codes matrix classes) (heldCount answer) from buffer piece after
@@ -199,8 +208,8 @@ pub report-piece : (answer : Answer) (codes matrix classes : List ℕ) (from : �
 unfolding heldLine reportLine lineCount
 report-piece answer codes matrix classes from buffer piece after given = record {
   of-held = given;
-  of-report = λ file matrix-before classes-before outcome.
+  of-report = λ file before outcome.
       subst (λ (lines : List (List ℕ)). PieceGiven (lineIn lines) (length lines) from buffer piece after)
-      (held-is-report file matrix-before classes-before answer codes matrix classes outcome)
+      (held-is-report file before answer codes matrix classes outcome)
       (subst (λ (n : ℕ). PieceGiven (heldLine answer codes matrix classes) n from buffer piece after) (sym (held-count-is answer codes matrix classes)) given);
 }

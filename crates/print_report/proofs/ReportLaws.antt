@@ -12,6 +12,7 @@ use Rattle.print_lines.proofs.PieceLaws.{text-of-list}
 use Rattle.circuit.specs.Circuit.{Circuit, joinLists}
 use Rattle.circuit.specs.Reading.{Reading, accepted, refusal, readingOf}
 use Rattle.circuit.proofs.CircuitLaws.{accepted-is-good, refusal-is-good}
+use Rattle.grading.specs.Buffers.{Room}
 use Rattle.grading.specs.Rows.{Row, noRow, rowsOf, rowWords}
 use Rattle.grading.specs.Classes.{classesOf}
 use Rattle.grading.specs.Grading.{Grading, graded, refused, countsOfCircuit, gradingOfCircuit, afterReading, gradingOf}
@@ -47,9 +48,9 @@ unfoldable pub GradingSound : List ℕ → Grading → Type 0
 GradingSound file (graded c) = readingOf file ≡ accepted c
 GradingSound file (refused number place) = 1 ≤ number
 
-pub grading-sound : (file : List ℕ) (words entries : ℕ) → GradingSound file (gradingOf file words entries)
+pub grading-sound : (file : List ℕ) (room : Room) → GradingSound file (gradingOf file room)
 unfolding gradingOf afterReading gradingOfCircuit GradingSound
-grading-sound file words entries = go (readingOf file) refl
+grading-sound file room = go (readingOf file) refl
   where
     by : (c : Circuit) → readingOf file ≡ accepted c → (a b : Bool)
         → GradingSound file (cond a (refused 15 (4 * length (rowsOf c))) (cond b (refused 22 (length (rowsOf c))) (graded c)))
@@ -57,8 +58,8 @@ grading-sound file words entries = go (readingOf file) refl
     by c e false true = omega arith
     by c e false false = e
 
-    go : (r : Reading) → readingOf file ≡ r → GradingSound file (afterReading r words entries)
-    go (accepted c) e = by c e (ltb words (4 * length (rowsOf c))) (ltb entries (length (rowsOf c)))
+    go : (r : Reading) → readingOf file ≡ r → GradingSound file (afterReading r room)
+    go (accepted c) e = by c e (ltb (room .words) (4 * length (rowsOf c))) (ltb (room .entries) (length (rowsOf c)))
     go (refusal number place) e = refusal-is-good file number place e .low
 
 rows-sized : (c : Circuit) → length (c .vectors) ≤ 256 → (rows : List Row) (classes : List ℕ) → EachLine Sized (rowLines c rows classes)
@@ -77,5 +78,5 @@ lines-sized file (refused number place) low = (refusal-sized number place, tt)
 
 pub lines-fit : LinesFit
 unfolding reportLine lineCount
-lines-fit file words entries n h =
-    let g : Grading = gradingOf file words entries in each-at Sized (reportLines g) n (lines-sized file g (grading-sound file words entries)) h
+lines-fit file room n h =
+    let g : Grading = gradingOf file room in each-at Sized (reportLines g) n (lines-sized file g (grading-sound file room)) h

@@ -8,6 +8,7 @@ use Rattle.print_lines.specs.declared.Piece.{Piece}
 use Rattle.circuit.specs.Circuit.{Circuit}
 use Rattle.circuit.specs.Records.{padded}
 use Rattle.circuit.specs.Reading.{accepted, readingOf}
+use Rattle.grading.specs.Buffers.{Buffers, Room, roomOf}
 use Rattle.grading.specs.Rows.{rowsOf}
 use Rattle.grading.specs.Grading.{Grading, gradingOf}
 use Rattle.grading.specs.Promise.{Promise}
@@ -16,9 +17,13 @@ use Rattle.grade_rows.specs.Model.{codesOf}
 use Rattle.print_report.specs.Report.{reportLine, lineCount, reportOf}
 use Rattle.print_report.specs.Held.{heldLine, heldCount, RowsHeld}
 
--- the outcome of a file and two buffers: the answer and the buffers as grading promises them, and the circuit's rows as numbers
-pub record OutcomeOf (file matrix-before classes-before : List ℕ) (answer : Answer) (codes matrix classes : List ℕ) : Type 0 where
-  pub promised : Promise file matrix-before classes-before answer matrix classes
+-- the outcome of a file and lent buffers: the answer and the buffers as grading promises them, of these the matrix and the classes, and the
+-- circuit's rows as numbers
+pub record OutcomeOf (file : List ℕ) (before : Buffers) (answer : Answer) (codes matrix classes : List ℕ) : Type 0 where
+  pub after : Buffers
+  pub promised : Promise file before answer after
+  pub matrix-is : matrix ≡ after .matrix
+  pub classes-are : classes ≡ after .classes
   pub listed : (c : Circuit) → readingOf file ≡ accepted c → codes ≡ padded 2048 0 (codesOf (rowsOf c))
 
 -- a piece of the report of a grading
@@ -29,8 +34,8 @@ pub record ReportPiece
     (answer : Answer) (codes matrix classes : List ℕ) (from : ℕ) (out : List ℕ) (piece : Piece) (out′ : List ℕ) : Type 0 where
   -- whatever is held, the piece of its lines
   pub of-held : PieceGiven (heldLine answer codes matrix classes) (heldCount answer) from out piece out′
-  pub of-report : (file matrix-before classes-before : List ℕ) → OutcomeOf file matrix-before classes-before answer codes matrix classes
-      → PieceOfReport (gradingOf file (length matrix-before) (length classes-before)) from out piece out′
+  pub of-report : (file : List ℕ) (before : Buffers) → OutcomeOf file before answer codes matrix classes
+      → PieceOfReport (gradingOf file (roomOf before)) from out piece out′
 
 -- ---- theorems
 
@@ -41,11 +46,11 @@ ReportIsLines = (grading : Grading) → reportOf grading ≡ textFrom (reportLin
 -- no line is empty, and each has room in 512 bytes, so that a piece of them brings progress
 abbrev pub LinesFit : Type 0
 LinesFit =
-    (file : List ℕ) (words entries n : ℕ) → n < lineCount (gradingOf file words entries)
-    → (0 < length (reportLine (gradingOf file words entries) n)) × (length (reportLine (gradingOf file words entries) n) ≤ 512)
+    (file : List ℕ) (room : Room) (n : ℕ) → n < lineCount (gradingOf file room)
+    → (0 < length (reportLine (gradingOf file room) n)) × (length (reportLine (gradingOf file room) n) ≤ 512)
 
 -- an outcome has the rows that `report_piece` asks for
 abbrev pub RowsAreHeld : Type 0
 RowsAreHeld =
-    (file matrix-before classes-before : List ℕ) (answer : Answer) (codes matrix classes : List ℕ)
-    → OutcomeOf file matrix-before classes-before answer codes matrix classes → RowsHeld answer codes matrix classes
+    (file : List ℕ) (before : Buffers) (answer : Answer) (codes matrix classes : List ℕ)
+    → OutcomeOf file before answer codes matrix classes → RowsHeld answer codes matrix classes

@@ -6,6 +6,7 @@ use native.Mathlib.Omega.{arith}
 use lib.ListN.{length}
 use Rattle.print_lines.specs.declared.Piece.{Piece}
 use Rattle.print_lines.proofs.PieceLaws.{piece-some}
+use Rattle.grading.specs.Buffers.{Buffers, Room, roomOf, roomForAll}
 use Rattle.grading.specs.Grading.{gradingOf}
 use Rattle.grading.specs.declared.Answer.{Answer}
 use Rattle.print_report.specs.Report.{reportLine, lineCount}
@@ -13,13 +14,11 @@ use Rattle.print_report.specs.Promise.{OutcomeOf, PieceOfReport, ReportPiece}
 use Rattle.print_report.proofs.ReportLaws.{lines-fit}
 use Rattle.program_grade.specs.Handing.{gradingOfFile}
 
--- what the loop holds of a file: its outcome, from buffers of the lengths that the program has
+-- what the loop holds of a file: its outcome, from buffers with the room that the program gives
 pub record FileHeld (file : List ℕ) (answer : Answer) (codes matrix classes : List ℕ) : Type 0 where
-  pub matrix-before : List ℕ
-  pub classes-before : List ℕ
-  pub words : length matrix-before ≡ 8192
-  pub entries : length classes-before ≡ 2048
-  pub outcome : OutcomeOf file matrix-before classes-before answer codes matrix classes
+  pub before : Buffers
+  pub room : roomOf before ≡ roomForAll
+  pub outcome : OutcomeOf file before answer codes matrix classes
 
 module _ (file : List ℕ) (from : ℕ) (buffer : List ℕ) (piece : Piece) (after : List ℕ) where
   -- a piece of the file's report
@@ -29,12 +28,10 @@ module _ (file : List ℕ) (from : ℕ) (buffer : List ℕ) (piece : Piece) (aft
   pub piece-of-file : (answer : Answer) (codes matrix classes : List ℕ) → FileHeld file answer codes matrix classes
       → ReportPiece answer codes matrix classes from buffer piece after → PieceOfFile
   piece-of-file answer codes matrix classes held given =
-      subst (λ (n : ℕ). PieceOfReport (gradingOf file 8192 n) from buffer piece after) (held .entries)
-      (subst (λ (n : ℕ). PieceOfReport (gradingOf file n (length (held .classes-before))) from buffer piece after) (held .words)
-      (given .of-report file (held .matrix-before) (held .classes-before) (held .outcome)))
+      subst (λ (room : Room). PieceOfReport (gradingOf file room) from buffer piece after) (held .room) (given .of-report file (held .before) (held .outcome))
 
   -- 512 bytes are room for each line, so that a piece is empty only past the last
   pub moves : PieceOfFile → from < lineCount (gradingOfFile file) → 512 ≤ length buffer → 0 < piece .count
   moves given more room =
-      let fits = lines-fit file 8192 2048 from more in
+      let fits = lines-fit file roomForAll from more in
       piece-some (reportLine (gradingOfFile file)) (lineCount (gradingOfFile file)) from buffer piece after given more (fits .0) (omega (arith, fits .1, room))

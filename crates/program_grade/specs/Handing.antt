@@ -10,6 +10,7 @@ use Rattle.circuit.specs.Records.{padded}
 use Rattle.circuit.specs.Reading.{accepted, readingOf}
 use Rattle.circuit.specs.Answers.{Tells}
 use Rattle.circuit.specs.declared.Reading.{Reading as ReadingRecord}
+use Rattle.grading.specs.Buffers.{roomForAll}
 use Rattle.grading.specs.Rows.{rowsOf}
 use Rattle.grading.specs.Grading.{Grading, gradingOf}
 use Rattle.grade_rows.specs.Model.{codesOf}
@@ -17,7 +18,7 @@ use Rattle.print_report.specs.Report.{reportLine, lineCount}
 
 -- a file's grading: the buffers are long enough for every file, so that 15 and 22 never come
 abbrev pub gradingOfFile : List ℕ → Grading
-gradingOfFile file = gradingOf file 8192 2048
+gradingOfFile file = gradingOf file roomForAll
 
 -- the front of a buffer is exactly the lines of a file's report from one on, up to the piece's end
 abbrev pub HandsOn : List ℕ → ℕ → Piece → List ℕ → Type 0

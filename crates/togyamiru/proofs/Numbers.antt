@@ -2,8 +2,9 @@
 use Prim.Native.Nat.{ℕ}
 use mathlib.Core.Path.{_≡_, ap, _∙_}
 use mathlib.Core.List.{List, [], _∷_}
+use Rattle.grading.specs.Buffers.{Buffers}
 use Rattle.grading.specs.Grading.{Counts, Grading, numberIn, placeIn}
-use Rattle.grading.specs.Promise.{numberOf, placeOf, countsMeant, countsOf, Meets}
+use Rattle.grading.specs.Promise.{numberOf, placeOf, countsMeant, countsOf, AnswersAs}
 use Rattle.grading.specs.declared.Counts.{Counts as CountsRecord}
 use Rattle.grading.specs.declared.Answer.{Answer}
 use Rattle.togyamiru.specs.Entry.{sixNumbers, EntryMeets}
@@ -13,14 +14,13 @@ numbers : ℕ → ℕ → Counts → List ℕ
 numbers n p counts = n ∷ p ∷ counts .vectors ∷ counts .faults ∷ counts .classes ∷ counts .found ∷ []
 
 pub six-numbers :
-    (g : Grading) (answer : Answer) (matrix classes matrix′ classes′ : List ℕ) (n p : ℕ) (counts : CountsRecord)
-    → Meets g answer matrix classes matrix′ classes′ → n ≡ numberOf answer → p ≡ placeOf answer → countsMeant counts ≡ countsOf answer
-    → EntryMeets g matrix classes (n ∷ p ∷ counts .vectors ∷ counts .faults ∷ counts .classes ∷ counts .found ∷ []) matrix′ classes′
+    (g : Grading) (answer : Answer) (before after : Buffers) (n p : ℕ) (counts : CountsRecord)
+    → AnswersAs g answer before after → n ≡ numberOf answer → p ≡ placeOf answer → countsMeant counts ≡ countsOf answer
+    → EntryMeets g before (n ∷ p ∷ counts .vectors ∷ counts .faults ∷ counts .classes ∷ counts .found ∷ []) after
 unfolding sixNumbers numbers
-six-numbers g answer matrix classes matrix′ classes′ n p counts meets is-n is-p are = record {
-  answer-at-exit = ap (λ (m : ℕ). numbers m p (countsMeant counts)) (is-n ∙ meets .number)
-      ∙ ap (λ (m : ℕ). numbers (numberIn g) m (countsMeant counts)) (is-p ∙ meets .place)
-      ∙ ap (numbers (numberIn g) (placeIn g)) (are ∙ meets .counts);
-  matrix-at-exit = meets .matrix-at-exit;
-  classes-at-exit = meets .classes-at-exit;
+six-numbers g answer before after n p counts answers is-n is-p are = record {
+  answer-at-exit = ap (λ (m : ℕ). numbers m p (countsMeant counts)) (is-n ∙ answers .number)
+      ∙ ap (λ (m : ℕ). numbers (numberIn g) m (countsMeant counts)) (is-p ∙ answers .place)
+      ∙ ap (numbers (numberIn g) (placeIn g)) (are ∙ answers .counts);
+  buffers-at-exit = answers .buffers-at-exit;
 }

@@ -18,6 +18,7 @@ use Rattle.circuit.specs.declared.Reading.{Reading as ReadingRecord}
 use Rattle.circuit.specs.declared.Circuit.{Circuit as CircuitRecord}
 use Rattle.circuit.proofs.TypeLaws.{take-padded}
 use Rattle.circuit.proofs.CircuitLaws.{accepted-is-good}
+use Rattle.grading.specs.Buffers.{Room, roomFor, noBuffers}
 use Rattle.grading.specs.Rows.{Row, rowsOf}
 use Rattle.grading.specs.Grading.{Counts, Grading, countsOfCircuit, gradingOfCircuit, afterReading, gradingOf, countsIn, numberIn, placeIn, over}
 use Rattle.grading.specs.Promise.{numberOf, placeOf, countsMeant, countsOf}
@@ -26,7 +27,7 @@ use Rattle.grading.specs.declared.Answer.{Answer}
 use Rattle.grading.specs.declared.Answer.the-variants.{Graded, Refused, ShortClasses}
 use Rattle.grading.proofs.RowLaws.{few-rows}
 use Rattle.grade_file.proofs.Assembly.{faults-are}
-use Rattle.grade_file.proofs.GradingLaws.{refused-meets, Accepted, good-here}
+use Rattle.grade_file.proofs.GradingLaws.{refused-answers, Accepted, good-here}
 use Rattle.grade_rows.specs.Model.{codesOf}
 use Rattle.togyamiru.specs.RowsEntry.{rowsAfterReading, threeNumbers, rowsBufferAfter, RowsMeets, RowsPromise}
 use Rattle.togyamiru.specs.RowsModel.{RowsAnswered, RowsAnswer}
@@ -54,7 +55,7 @@ refused-rows (accepted c) r tells e rows = absurd (never (sym (ap isRefused (tel
     never : false ≡ true → ⊥
     never z = let y : _≡_ {A = ℕ} 0 1 = cc in absurd (omega arith)
 refused-rows (refusal number place) r tells e rows =
-    let told = refused-meets (refusal number place) r tells e 0 0 [] [] in
+    let told = refused-answers (refusal number place) r tells e (roomFor 0 0) noBuffers in
     record { number = told .number; place = told .place; faults = ap (λ (counts : Counts). counts .faults) (told .counts); rows-at-exit = refl }
 
 length-codes : (rows : List Row) → length (codesOf rows) ≡ length rows
@@ -116,12 +117,12 @@ rows-once file rows answer answer′ after after′ p q = (p .answer-at-exit ∙
 
 -- ---- what is listed is what is graded: with a matrix for every file, the same refusals, of a row buffer as of a class buffer
 
-pub listed-as-graded : (file : List ℕ) (words entries : ℕ) → 8192 ≤ words → rowsAfterReading (readingOf file) entries ≡ gradingOf file words entries
+pub listed-as-graded : (file : List ℕ) (room : Room) → 8192 ≤ room .words → rowsAfterReading (readingOf file) (room .entries) ≡ gradingOf file room
 unfolding gradingOf afterReading rowsAfterReading gradingOfCircuit
-listed-as-graded file words entries room = go (readingOf file) refl
+listed-as-graded file room enough = go (readingOf file) refl
   where
-    go : (read : Reading) → readingOf file ≡ read → rowsAfterReading read entries ≡ afterReading read words entries
+    go : (read : Reading) → readingOf file ≡ read → rowsAfterReading read (room .entries) ≡ afterReading read room
     go (refusal number place) reads = refl
     go (accepted c) reads =
         let few = few-rows c (accepted-is-good file c reads) in
-        rw (le-ltb words (4 * length (rowsOf c)) (omega (arith, few, room)))
+        rw (le-ltb (room .words) (4 * length (rowsOf c)) (omega (arith, few, enough)))

@@ -11,6 +11,7 @@ ghost use Prim.Native.Nat.{_≤_};
 ghost use mathlib.Core.Bool.{true, false};
 ghost use mathlib.Core.Path.{_≡_};
 ghost use lib.ListN.{length, take};
+ghost use Rattle.grading.specs.Buffers.{buffersOf};
 ghost use Rattle.grading.specs.Grading.{over};
 ghost use Rattle.grading.specs.Given.{Read};
 ghost use Rattle.grading.specs.Promise.{Promise};
@@ -60,7 +61,7 @@ pub fn answer_to(
     matrix: &mut [u64],
     classes: &mut [u16],
 ) -> Answer
-    ensures { λ r. ⌜ (lists ≡ true → RowsAnswer (now (file .entry)) (now (rows .entry)) r (now (rows .exit))) × (lists ≡ false → Promise (now (file .entry)) (now (matrix .entry)) (now (classes .entry)) r (now (matrix .exit)) (now (classes .exit))) ⌝ }
+    ensures { λ r. ⌜ (lists ≡ true → RowsAnswer (now (file .entry)) (now (rows .entry)) r (now (rows .exit))) × (lists ≡ false → Promise (now (file .entry)) (buffersOf (now (matrix .entry)) (now (classes .entry))) r (buffersOf (now (matrix .exit)) (now (classes .exit)))) ⌝ }
 {
     let reading = read_stages(file);
     if lists {

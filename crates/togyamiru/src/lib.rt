@@ -5,6 +5,7 @@ use crate::answering::answer_to;
 use grading::answers::counts_of;
 use grading::answers::number_of;
 use grading::answers::place_of;
+ghost use Rattle.grading.specs.Buffers.{buffersOf};
 ghost use Rattle.togyamiru.specs.Entry.{EntryPromise};
 ghost use Rattle.togyamiru.specs.RowsEntry.{RowsPromise};
 
@@ -16,7 +17,7 @@ pub extern "C" fn togyamiru_grade(
     classes: &mut [u16],
     answer: &mut [u64; 6],
 )
-    ensures { λ _. ⌜ EntryPromise (now (file .entry)) (now (matrix .entry)) (now (classes .entry)) (now (answer .exit)) (now (matrix .exit)) (now (classes .exit)) ⌝ }
+    ensures { λ _. ⌜ EntryPromise (now (file .entry)) (buffersOf (now (matrix .entry)) (now (classes .entry))) (now (answer .exit)) (buffersOf (now (matrix .exit)) (now (classes .exit))) ⌝ }
 {
     let mut rows = [0u32; 1];
     let given = answer_to(file, false, &mut rows, matrix, classes);
@@ -31,7 +32,7 @@ pub extern "C" fn togyamiru_grade(
     ];
 }
 
-// RowsAnswered the rows of a file in a lent buffer, a number each. The answer is three numbers: the refusal's number and its place, 0 and 0 where there is none, and the count of faults.
+// Lists the rows of a file in a lent buffer, a number each. The answer is three numbers: the refusal's number and its place, 0 and 0 where there is none, and the count of faults.
 #[no_mangle]
 pub extern "C" fn togyamiru_rows(file: &[u8], rows: &mut [u32], answer: &mut [u64; 3])
     ensures { λ _. ⌜ RowsPromise (now (file .entry)) (now (rows .entry)) (now (answer .exit)) (now (rows .exit)) ⌝ }

@@ -1,10 +1,11 @@
 -- `grade::grade_file` meets its contract. The loop's invariant: what is held is the file's outcome, and the lines before the next were handed over.
 -- Each turn hands over a line at least. Assumes nothing.
 use Prim.Native.Nat.{_-_, _≤_}
-use mathlib.Core.Path.{_≡_, refl, _∙_}
+use mathlib.Core.Path.{_≡_, refl, ap₂, _∙_}
 use native.Mathlib.Omega.{arith}
 use borrow.Author.Needs.{needs}
 use lib.ListN.{length}
+use Rattle.grading.specs.Buffers.{buffersOf, roomFor}
 use Rattle.print_lines.proofs.HandingLaws.{hands-on, moved, all-handed}
 use Rattle.print_report.specs.Report.{lineCount}
 use Rattle.print_report.proofs.HeldIsReport.{rows-are-held}
@@ -39,11 +40,15 @@ loop-holds c =
     let tells = c .before .before .before .before .before .before .before .before .before .read-stages .ensures .tells in
     let listed = c .before .rows-read .ensures in (
       record {
-        matrix-before = start .args .matrix .now;
-        classes-before = start .args .classes .now;
-        words = start .pre .1 .0;
-        entries = start .pre .1 .1;
-        outcome = record { promised = c .before .before .before .before .before .before .grade-read .ensures _ tells; listed = λ m reads. listed .listed _ m tells reads };
+        before = buffersOf (start .args .matrix .now) (start .args .classes .now);
+        room = ap₂ roomFor (start .pre .1 .0) (start .pre .1 .1);
+        outcome = record {
+          after = _;
+          promised = c .before .before .before .before .before .before .grade-read .ensures _ tells;
+          matrix-is = refl;
+          classes-are = refl;
+          listed = λ m reads. listed .listed _ m tells reads;
+        };
       },
       c .none-handed .ensures,
       omega arith,
@@ -56,7 +61,7 @@ slice-aggregate-report-piece : tie.Need-slice-aggregate-report-piece Inv-loop μ
 slice-aggregate-report-piece c = search needs
 
 report-piece-requires : tie.Need-report-piece-requires Inv-loop μ-loop
-report-piece-requires c κs = let held = c .before .before .before .before .loop .inv .0 in rows-are-held _ _ _ _ _ _ _ (held .outcome)
+report-piece-requires c κs = let held = c .before .before .before .before .loop .inv .0 in rows-are-held _ _ _ _ _ _ (held .outcome)
 
 hand-out-requires : tie.Need-hand-out-requires Inv-loop μ-loop
 hand-out-requires c κs =

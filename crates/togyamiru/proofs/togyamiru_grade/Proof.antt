@@ -1,4 +1,4 @@
--- `togyamiru::togyamiru_grade` meets its contract: the numbers of the answer in their order, and both buffers as grading leaves them. Assumes nothing.
+-- `togyamiru::togyamiru_grade` meets its contract: the numbers of the answer in their order, and the buffers as grading leaves them. Assumes nothing.
 use mathlib.Core.Path.{refl}
 use borrow.Author.Needs.{needs}
 use Rattle.togyamiru.proofs.Numbers.{six-numbers}
@@ -34,7 +34,7 @@ returns c =
     let numbered = c .before .before in
     let counted = numbered .before in
     let answered = counted .before .before .before .before .before .before in
-    six-numbers _ _ _ _ _ _ _ _ (counted .counts-of .result) (answered .answer-to .ensures .1 refl) (numbered .number-of .ensures) (c .before .place-of .ensures) (counted .counts-of .ensures)
+    six-numbers _ _ _ _ _ _ (counted .counts-of .result) (answered .answer-to .ensures .1 refl) (numbered .number-of .ensures) (c .before .place-of .ensures) (counted .counts-of .ensures)
 
 pub togyamiru-grade-spec : {M : Type 1} → statement M
 togyamiru-grade-spec =

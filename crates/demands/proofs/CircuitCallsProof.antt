@@ -1,7 +1,7 @@
 -- Grading a circuit gives what grading a file does that is read as it (specs/CircuitCalls): the circuit's promise is the file's.
 use mathlib.Core.Path.{refl, subst}
 use Rattle.circuit.specs.declared.Circuit.{Circuit as CircuitRecord}
-use Rattle.grading.specs.Promise.{PromiseOfCircuit}
+use Rattle.grading.specs.CircuitPromise.{PromiseOfCircuit}
 use Rattle.grading.proofs.PromiseLaws.{circuit-promise-is-files}
 use Rattle.demands.specs.CircuitCalls.{onFile, CircuitIsGradedAsFile, CircuitAnswersAsFile, GradeCircuitIsKept}
 use Rattle.demands.proofs.Outcomes.{one-outcome-only}

@@ -11,7 +11,7 @@ use Rattle.circuit.specs.Circuit.{Circuit}
 use Rattle.circuit.specs.Records.{circuitRecord}
 use Rattle.circuit.specs.declared.Circuit.{Circuit as CircuitRecord}
 use Rattle.grading.specs.Buffers.{Buffers, buffersOf}
-use Rattle.grading.specs.Promise.{PromiseOfCircuit}
+use Rattle.grading.specs.CircuitPromise.{PromiseOfCircuit}
 use Rattle.grading.specs.declared.Answer.{Answer}
 use Rattle.grade_file.proofs.grade.grade_circuit as grade-circuit
 use Rattle.demands.specs.Calls.{Call, Kept, Accepts}

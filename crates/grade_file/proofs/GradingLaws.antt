@@ -22,7 +22,8 @@ use Rattle.circuit.proofs.CircuitLaws.{accepted-is-good}
 use Rattle.grading.specs.Rows.{rowsOf}
 use Rattle.grading.specs.Buffers.{Buffers, Room, roomOf}
 use Rattle.grading.specs.Grading.{gradingOfCircuit, afterReading, isGradedIn, countsIn, numberIn, placeIn, buffersAfter}
-use Rattle.grading.specs.Promise.{isGraded, numberOf, placeOf, countsOf, AnswersAs, Promise, PromiseOfCircuit}
+use Rattle.grading.specs.Promise.{isGraded, numberOf, placeOf, countsOf, AnswersAs, Promise}
+use Rattle.grading.specs.CircuitPromise.{PromiseOfCircuit}
 use Rattle.grading.specs.Given.{CircuitGiven}
 use Rattle.grading.specs.declared.Counts.{Counts}
 use Rattle.grading.specs.declared.Answer.{Answer}

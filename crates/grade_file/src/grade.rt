@@ -18,7 +18,8 @@ ghost use Rattle.circuit.specs.Records.{circuitRecord};
 ghost use Rattle.circuit.specs.Laws.{CircuitGood};
 ghost use Rattle.grading.specs.Buffers.{buffersOf};
 ghost use Rattle.grading.specs.Given.{CircuitGiven, Read};
-ghost use Rattle.grading.specs.Promise.{Promise, PromiseOfRead, PromiseOfCircuit};
+ghost use Rattle.grading.specs.CircuitPromise.{PromiseOfCircuit};
+ghost use Rattle.grading.specs.Promise.{Promise, PromiseOfRead};
 ghost use Rattle.grade_file.specs.Model.{Graded};
 
 fn counted(vectors: usize, faults: usize, classes: u16, found: usize) -> Counts

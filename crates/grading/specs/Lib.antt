@@ -4,7 +4,7 @@
 --   Classes   which rows are one class, class numbers, found classes
 --   Buffers   what a caller lends, and the room in it
 --   Grading   the answer for given bytes and given room, and what it leaves in the buffers
---   Promise   the same of the code's answer
+--   Promise   the same of the code's answer; CircuitPromise, of a circuit in place of the file
 --   Statements   the theorems on classes and on the promise
 -- And what the crates that grade share: a row as a number, and what they ask of a circuit.
 pub mod Values
@@ -13,6 +13,7 @@ pub mod Classes
 pub mod Buffers
 pub mod Grading
 pub mod Promise
+pub mod CircuitPromise
 pub mod Statements
 pub mod Codes
 pub mod Given

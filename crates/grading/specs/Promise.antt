@@ -1,19 +1,15 @@
--- The promise of `grade`: its whole answer and the buffers at exit, on refusal too, for any bytes and any buffers. And those of
--- `grade_read` and `grade_circuit`.
+-- The promise of `grade`: its whole answer and the buffers at exit, on refusal too, for any bytes and any buffers. And that of
+-- `grade_read`.
 use Prim.Native.Nat.{ℕ}
 use mathlib.Core.Path.{_≡_}
 use mathlib.Core.Bool.{Bool, true, false}
 use mathlib.Core.List.{List}
-use Rattle.circuit.specs.Circuit.{Circuit}
-use Rattle.circuit.specs.Records.{circuitRecord}
 use Rattle.circuit.specs.Reading.{readingOf}
 use Rattle.circuit.specs.Refusals.{refusalNumber, refusalPlace}
 use Rattle.circuit.specs.Answers.{Tells}
-use Rattle.circuit.specs.Laws.{CircuitGood}
-use Rattle.circuit.specs.declared.Circuit.{Circuit as CircuitRecord}
 use Rattle.circuit.specs.declared.Reading.{Reading as ReadingRecord}
 use Rattle.grading.specs.Buffers.{Buffers, roomOf}
-use Rattle.grading.specs.Grading.{Counts, noCounts, Grading, gradingOf, gradingOfCircuit}
+use Rattle.grading.specs.Grading.{Counts, noCounts, Grading, gradingOf}
 use Rattle.grading.specs.Grading.{isGradedIn, countsIn, numberIn, placeIn, buffersAfter}
 use Rattle.grading.specs.declared.Counts.{Counts as CountsRecord}
 use Rattle.grading.specs.declared.Answer.{Answer}
@@ -61,8 +57,3 @@ Promise file before answer after = AnswersAs (gradingOf file (roomOf before)) an
 -- of a reading in place of the file: the promise of every file of which it tells
 abbrev pub PromiseOfRead : ReadingRecord → Buffers → Answer → Buffers → Type 0
 PromiseOfRead reading before answer after = (file : List ℕ) → Tells (readingOf file) reading → Promise file before answer after
-
--- of a circuit in place of the file: for every good circuit that the record tells
-abbrev pub PromiseOfCircuit : CircuitRecord → Buffers → Answer → Buffers → Type 0
-PromiseOfCircuit c before answer after =
-    (meant : Circuit) → c ≡ circuitRecord meant → CircuitGood meant → AnswersAs (gradingOfCircuit meant (roomOf before)) answer before after

@@ -14,7 +14,8 @@ use Rattle.circuit.specs.Records.{circuitRecord}
 use Rattle.grading.specs.Buffers.{Buffers}
 use Rattle.grading.specs.Rows.{Row, rowsOf, cell}
 use Rattle.grading.specs.Classes.{sameClass, largest, classesBy, classesOf}
-use Rattle.grading.specs.Promise.{Promise, PromiseOfCircuit}
+use Rattle.grading.specs.Promise.{Promise}
+use Rattle.grading.specs.CircuitPromise.{PromiseOfCircuit}
 use Rattle.grading.specs.declared.Answer.{Answer}
 
 -- ---- any test for one class

@@ -4,13 +4,14 @@ use mathlib.Core.Path.{_≡_, refl, subst}
 use mathlib.Core.Bool.{Bool, true, false, cond, not, _&&_}
 use mathlib.Core.List.{List, [], _∷_, _++_}
 use native.Mathlib.Omega.{arith}
-use lib.Dec.{eqb, ltb}
+use lib.Dec.{ltb}
 use lib.ListN.{length, length-take}
 use lib.Seq.{getD-take}
 use Rattle.switch.specs.Modules.{ModuleType}
 use Rattle.circuit.specs.Limits.{mostBytes}
 use Rattle.circuit.specs.Fields.{Cut, clean, broken, field, cutFrom, twoBytes}
 use Rattle.circuit.specs.Circuit.{faultCount}
+use Rattle.circuit.specs.Order.{Tag, inputs-tag, type-tag, bridge-tag, instance-tag, vector-tag, tagOf, isKind, isEdge}
 use Rattle.circuit.specs.Known.{typeIn, edgeIn, latest, withEdge, edgeAdded}
 use Rattle.circuit.specs.Table.{Test, Verdict, passes, refusedAt, firstOf, isEmpty, inputsTests, typeTests, edgeTests}
 use Rattle.circuit.specs.Records.{emptyCircuit}
@@ -22,7 +23,7 @@ use Rattle.circuit.proofs.CircuitLaws.{TypesGood, TypesSound, no-types,
 use Rattle.circuit.proofs.GatheredLaws.{gathered-is-before}
 use Rattle.circuit.proofs.Tested.{inputs-pass, type-pass, edge-pass, each-none}
 
--- ---- a stage of one tag
+-- ---- a stage of one kind
 
 verdict-keeps : {A : Type 0} (Holds : A → Type 0) (v : Verdict) (a : A) (cut : Cut) (s : Stage A) → Holds a → (v ≡ passes → Holds (s .gathered))
     → Holds (ifPasses v a cut s .gathered)
@@ -30,16 +31,16 @@ unfolding ifPasses
 verdict-keeps Holds passes a cut s h later = later refl
 verdict-keeps Holds (refusedAt number place) a cut s h later = h
 
-module _ (n : ℕ) {A : Type 0} (tests : A → ℕ → List ℕ → List Test) (add : A → List ℕ → A) (Holds : A → Type 0)
+module _ (kind : Tag) {A : Type 0} (tests : A → ℕ → List ℕ → List Test) (add : A → List ℕ → A) (Holds : A → Type 0)
     (keeps : (a : A) (at : ℕ) (body : List ℕ) → Holds a → firstOf (tests a at body) ≡ passes → Holds (add a body)) where
-  section-keeps : (a : A) (cut : Cut) → Holds a → Holds (section n tests add a cut .gathered)
+  section-keeps : (a : A) (cut : Cut) → Holds a → Holds (section kind tests add a cut .gathered)
   unfolding section
   section-keeps a clean h = h
   section-keeps a (broken at) h = h
-  section-keeps a (field f rest) h = go (eqb (f .tag) n) (λ k. section-keeps (add a (f .body)) rest k)
+  section-keeps a (field f rest) h = go (isKind kind (tagOf (f .tag))) (λ k. section-keeps (add a (f .body)) rest k)
     where
       more : Stage A
-      more = section n tests add (add a (f .body)) rest
+      more = section kind tests add (add a (f .body)) rest
 
       go : (own : Bool) → (Holds (add a (f .body)) → Holds (more .gathered))
           → Holds (cond own (ifPasses (firstOf (tests a (f .at) (f .body))) a (field f rest) more) (stopped a (field f rest)) .gathered)
@@ -70,7 +71,7 @@ types-keep types from (broken at) s =
     verdict-keeps TypesGood (judged types (fieldPlace from) (broken at)) (typesBefore types) from (stopped types (broken at)) (before-good types s)
     (λ e. judged-types types (fieldPlace from) (broken at) s e)
 types-keep types from (field f rest) s =
-    go (eqb (f .tag) 3) (isEmpty types) refl
+    go (isEdge (tagOf (f .tag))) (isEmpty types) refl
     (λ k. types-keep (edgeAdded types (edgeIn (f .body))) from rest k)
     (λ k. types-keep (types ++ (typeIn (f .body) ∷ [])) (field f rest) rest k)
   where
@@ -94,17 +95,17 @@ types-keep types from (field f rest) s =
     as-type false g more = g
 
     other : (TypesSound (types ++ (typeIn (f .body) ∷ [])) → TypesGood (more-types .gathered))
-        → TypesGood (ifPasses (judged types (fieldPlace from) (field f rest)) (typesBefore types) from (cond (eqb (f .tag) 2) type (stopped types (field f rest))) .gathered)
+        → TypesGood (ifPasses (judged types (fieldPlace from) (field f rest)) (typesBefore types) from (cond (isKind type-tag (tagOf (f .tag))) type (stopped types (field f rest))) .gathered)
     other more =
-        verdict-keeps TypesGood (judged types (fieldPlace from) (field f rest)) (typesBefore types) from (cond (eqb (f .tag) 2) type (stopped types (field f rest)))
+        verdict-keeps TypesGood (judged types (fieldPlace from) (field f rest)) (typesBefore types) from (cond (isKind type-tag (tagOf (f .tag))) type (stopped types (field f rest)))
         (before-good types s)
-        (λ e. as-type (eqb (f .tag) 2) (judged-types types (fieldPlace from) (field f rest) s e) more)
+        (λ e. as-type (isKind type-tag (tagOf (f .tag))) (judged-types types (fieldPlace from) (field f rest) s e) more)
 
     go : (three em : Bool) → isEmpty types ≡ em
         → (TypesSound (edgeAdded types (edgeIn (f .body))) → TypesGood (more-edges .gathered))
         → (TypesSound (types ++ (typeIn (f .body) ∷ [])) → TypesGood (more-types .gathered))
         → TypesGood (cond (three && not em) edge
-        (ifPasses (judged types (fieldPlace from) (field f rest)) (typesBefore types) from (cond (eqb (f .tag) 2) type (stopped types (field f rest)))) .gathered)
+        (ifPasses (judged types (fieldPlace from) (field f rest)) (typesBefore types) from (cond (isKind type-tag (tagOf (f .tag))) type (stopped types (field f rest)))) .gathered)
     go true true em edges types′ = other types′
     go true false em edges types′ =
         verdict-keeps TypesGood (firstOf (edgeTests (latest types) (f .at) (f .body))) (typesBefore types) from more-edges (before-good types s)
@@ -137,11 +138,11 @@ gathered-good P cut few =
     let types = typeStage [] clean cut in
     let t = types-keep [] clean cut no-types in
     let bridges = bridgeStage [] (types .rest) in
-    let b = section-keeps 4 _ _ BridgesGood bridge-keeps [] (types .rest) (record { few = omega arith; each = each-none _ }) in
+    let b = section-keeps bridge-tag _ _ BridgesGood bridge-keeps [] (types .rest) (record { few = omega arith; each = each-none _ }) in
     let instances = instanceStage P (types .gathered) (bridges .gathered) [] (bridges .rest) in
-    let i = section-keeps 5 _ _ (InstancesGood P (types .gathered) (bridges .gathered)) (instance-keeps P (types .gathered) (bridges .gathered)) [] (bridges .rest)
+    let i = section-keeps instance-tag _ _ (InstancesGood P (types .gathered) (bridges .gathered)) (instance-keeps P (types .gathered) (bridges .gathered)) [] (bridges .rest)
     (record { few = omega arith; each = each-none _; faults = omega arith }) in
-    let v = section-keeps 6 _ _ (VectorsGood P) (vector-keeps P) [] (instances .rest) (record { few = omega arith; each = each-none _ }) in
+    let v = section-keeps vector-tag _ _ (VectorsGood P) (vector-keeps P) [] (instances .rest) (record { few = omega arith; each = each-none _ }) in
     record {
       inputs = (omega arith, few);
       few-types = t .few;
@@ -169,7 +170,7 @@ unfolding gatheredAtStart
 start-keeps clean = nothing-good
 start-keeps (broken at) = nothing-good
 start-keeps (field f rest) =
-    inputs-keep (eqb (f .tag) 1) (firstOf (inputsTests (f .at) (f .body))) (twoBytes (f .body) 0) rest (inputs-pass (f .at) (f .body))
+    inputs-keep (isKind inputs-tag (tagOf (f .tag))) (firstOf (inputsTests (f .at) (f .body))) (twoBytes (f .body) 0) rest (inputs-pass (f .at) (f .body))
 
 pub before-is-good : BeforeIsGood
 unfolding gatheredOf

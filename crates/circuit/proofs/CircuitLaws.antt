@@ -17,8 +17,9 @@ use Rattle.switch.specs.Deciding.{isComplementary}
 use Rattle.circuit.specs.Limits.{mostBytes, mostTypes, mostBridges, mostInstances, mostVectors, mostFaults}
 use Rattle.circuit.specs.Fields.{Cut, clean, broken, field, cutIn, cutFrom, twoBytes}
 use Rattle.circuit.specs.Circuit.{Instance, Listed, noType, faultCount}
-use Rattle.circuit.specs.Known.{typeIn, edgeIn, listedIn, instanceIn, vectorIn, latest, withEdge, edgeAdded, tagOf}
-use Rattle.circuit.specs.Table.{Test, Verdict, passes, refusedAt, firstOf, notComplementary, isEmpty, isUnknown, inputsTests, typeTests, edgeTests, bridgeTests, instanceTests, vectorTests}
+use Rattle.circuit.specs.Order.{Tag, inputs-tag, type-tag, edge-tag, bridge-tag, instance-tag, vector-tag, tagOf, isKind, isEdge, isUnknown, after-tag}
+use Rattle.circuit.specs.Known.{typeIn, edgeIn, listedIn, instanceIn, vectorIn, latest, withEdge, edgeAdded}
+use Rattle.circuit.specs.Table.{Test, Verdict, passes, refusedAt, firstOf, misplaced, notComplementary, isEmpty, inputsTests, typeTests, edgeTests, bridgeTests, instanceTests, vectorTests}
 use Rattle.circuit.specs.Reading.{Reading, accepted, refusal, unless}
 use Rattle.circuit.specs.Records.{emptyCircuit}
 use Rattle.circuit.specs.Stages.{Stage, stopped, ifPasses, section, failingBefore, failingVerdict, judged, typeStage, readTo, endedVerdict, pastVerdict, endingVerdict, afterStage, afterInputs, fromStart, staged, fieldPlace}
@@ -69,23 +70,23 @@ unfolding ifPasses afterStage unless
 stage-good size passes a cut s next g later = later refl
 stage-good size (refusedAt n p) a cut s next g later = g
 
--- ---- a stage of one tag keeps what each of its fields keeps
+-- ---- a stage of one kind keeps what each of its fields keeps
 
-module _ (size n : ℕ) {A : Type 0} (tests : A → ℕ → List ℕ → List Test) (add : A → List ℕ → A) (Holds : A → Type 0)
+module _ (size : ℕ) (kind : Tag) {A : Type 0} (tests : A → ℕ → List ℕ → List Test) (add : A → List ℕ → A) (Holds : A → Type 0)
     (refuses-well : (a : A) (at : ℕ) (body : List ℕ) → at ≤ size → TestsGood size (tests a at body))
     (keeps : (a : A) (at : ℕ) (body : List ℕ) → Holds a → firstOf (tests a at body) ≡ passes → Holds (add a body))
     (next : A → Cut → Reading) (goes-on : (a : A) (cut : Cut) → Holds a → Placed size cut → ReadingGood size (next a cut)) where
-  section-good : (a : A) (cut : Cut) → Holds a → Placed size cut → ReadingGood size (afterStage (section n tests add a cut) next)
+  section-good : (a : A) (cut : Cut) → Holds a → Placed size cut → ReadingGood size (afterStage (section kind tests add a cut) next)
   unfolding section afterStage unless
   section-good a clean h p = goes-on a clean h p
   section-good a (broken at) h p = goes-on a (broken at) h p
-  section-good a (field f rest) h p = go (eqb (f .tag) n) (λ k. section-good (add a (f .body)) rest k (p .1))
+  section-good a (field f rest) h p = go (isKind kind (tagOf (f .tag))) (λ k. section-good (add a (f .body)) rest k (p .1))
     where
-      go : (b : Bool) → (Holds (add a (f .body)) → ReadingGood size (afterStage (section n tests add (add a (f .body)) rest) next))
+      go : (b : Bool) → (Holds (add a (f .body)) → ReadingGood size (afterStage (section kind tests add (add a (f .body)) rest) next))
           → ReadingGood size
-          (afterStage (cond b (ifPasses (firstOf (tests a (f .at) (f .body))) a (field f rest) (section n tests add (add a (f .body)) rest)) (stopped a (field f rest))) next)
+          (afterStage (cond b (ifPasses (firstOf (tests a (f .at) (f .body))) a (field f rest) (section kind tests add (add a (f .body)) rest)) (stopped a (field f rest))) next)
       go true more =
-          stage-good size (firstOf (tests a (f .at) (f .body))) a (field f rest) (section n tests add (add a (f .body)) rest) next
+          stage-good size (firstOf (tests a (f .at) (f .body))) a (field f rest) (section kind tests add (add a (f .body)) rest) next
           (first-good size (tests a (f .at) (f .body)) (refuses-well a (f .at) (f .body) (p .0)))
           (λ e. more (keeps a (f .at) (f .body) h e))
       go false more = goes-on a (field f rest) h p
@@ -152,7 +153,7 @@ failing-refuses : (typeAt : ℕ) (cut : Cut) → failingVerdict typeAt cut ≡ p
 unfolding failingVerdict failingBefore
 failing-refuses typeAt clean e = never-passes e
 failing-refuses typeAt (broken at) e = never-passes e
-failing-refuses typeAt (field f rest) e = go (isUnknown (tagOf (f .tag))) (eqb (f .tag) 1) e
+failing-refuses typeAt (field f rest) e = go (isUnknown (tagOf (f .tag))) (misplaced (after-tag type-tag) (tagOf (f .tag))) e
   where
     go : (a b : Bool) → cond a (refusedAt 3 (f .at)) (cond b (refusedAt 4 (f .at)) (refusedAt 9 typeAt)) ≡ passes → ⊥
     go true b q = never-passes q
@@ -188,7 +189,7 @@ module _ (size : ℕ) (next : List ModuleType → Cut → Reading)
   unfolding failingVerdict failingBefore
   failing-good typeAt clean h p = omega arith
   failing-good typeAt (broken at) h p = omega arith
-  failing-good typeAt (field f rest) h p = go (isUnknown (tagOf (f .tag))) (eqb (f .tag) 1)
+  failing-good typeAt (field f rest) h p = go (isUnknown (tagOf (f .tag))) (misplaced (after-tag type-tag) (tagOf (f .tag)))
     where
       go : (a b : Bool) → VerdictGood size (cond a (refusedAt 3 (f .at)) (cond b (refusedAt 4 (f .at)) (refusedAt 9 typeAt)))
       go true b = let q = p .0 in omega arith
@@ -214,7 +215,7 @@ module _ (size : ℕ) (next : List ModuleType → Cut → Reading)
       stage-good size (judged types (fieldPlace from) (broken at)) (typesBefore types) from (stopped types (broken at)) next (judged-good types (fieldPlace from) (broken at) h p)
       (λ e. goes-on types (broken at) (judged-types types (fieldPlace from) (broken at) s e) p)
   types-good types from (field f rest) s h p =
-      go (eqb (f .tag) 3) (isEmpty types) refl
+      go (isEdge (tagOf (f .tag))) (isEmpty types) refl
       (λ k. types-good (edgeAdded types (edgeIn (f .body))) from rest k h (p .1))
       (λ k. types-good (types ++ (typeIn (f .body) ∷ [])) (field f rest) rest k (p .0) (p .1))
     where
@@ -239,17 +240,17 @@ module _ (size : ℕ) (next : List ModuleType → Cut → Reading)
       as-type false g more = goes-on types (field f rest) g p
 
       other : (TypesSound (types ++ (typeIn (f .body) ∷ [])) → ReadingGood size (afterStage more-types next))
-          → ReadingGood size (afterStage (ifPasses (judged types (fieldPlace from) (field f rest)) (typesBefore types) from (cond (eqb (f .tag) 2) type (stopped types (field f rest)))) next)
+          → ReadingGood size (afterStage (ifPasses (judged types (fieldPlace from) (field f rest)) (typesBefore types) from (cond (isKind type-tag (tagOf (f .tag))) type (stopped types (field f rest)))) next)
       other more =
-          stage-good size (judged types (fieldPlace from) (field f rest)) (typesBefore types) from (cond (eqb (f .tag) 2) type (stopped types (field f rest))) next
+          stage-good size (judged types (fieldPlace from) (field f rest)) (typesBefore types) from (cond (isKind type-tag (tagOf (f .tag))) type (stopped types (field f rest))) next
           (judged-good types (fieldPlace from) (field f rest) h p)
-          (λ e. as-type (eqb (f .tag) 2) (judged-types types (fieldPlace from) (field f rest) s e) more)
+          (λ e. as-type (isKind type-tag (tagOf (f .tag))) (judged-types types (fieldPlace from) (field f rest) s e) more)
 
       go : (three em : Bool) → isEmpty types ≡ em
           → (TypesSound (edgeAdded types (edgeIn (f .body))) → ReadingGood size (afterStage more-edges next))
           → (TypesSound (types ++ (typeIn (f .body) ∷ [])) → ReadingGood size (afterStage more-types next))
           → ReadingGood size (afterStage (cond (three && not em) edge
-          (ifPasses (judged types (fieldPlace from) (field f rest)) (typesBefore types) from (cond (eqb (f .tag) 2) type (stopped types (field f rest))))) next)
+          (ifPasses (judged types (fieldPlace from) (field f rest)) (typesBefore types) from (cond (isKind type-tag (tagOf (f .tag))) type (stopped types (field f rest))))) next)
       go true true em edges types′ = other types′
       go true false em edges types′ =
           stage-good size (firstOf (edgeTests (latest types) (f .at) (f .body))) (typesBefore types) from more-edges next
@@ -308,17 +309,17 @@ vector-keeps P vs at body g e =
 
 -- ---- the ending, and the whole
 
-past-good : (size tag at : ℕ) → at ≤ size → VerdictGood size (pastVerdict tag at)
+past-good : (size : ℕ) (tag : Tag) (at : ℕ) → at ≤ size → VerdictGood size (pastVerdict tag at)
 unfolding pastVerdict
-past-good size tag at h = go (isUnknown (tagOf tag))
+past-good size tag at h = go (isUnknown tag)
   where
     go : (b : Bool) → VerdictGood size (cond b (refusedAt 3 at) (refusedAt 4 at))
     go true = omega arith
     go false = omega arith
 
-past-refuses : (tag at : ℕ) → pastVerdict tag at ≡ passes → ⊥
+past-refuses : (tag : Tag) (at : ℕ) → pastVerdict tag at ≡ passes → ⊥
 unfolding pastVerdict
-past-refuses tag at = go (isUnknown (tagOf tag))
+past-refuses tag at = go (isUnknown tag)
   where
     go : (b : Bool) → cond b (refusedAt 3 at) (refusedAt 4 at) ≡ passes → ⊥
     go true e = never-passes e
@@ -347,23 +348,23 @@ ending-good : (size instances vectors : ℕ) (cut : Cut) → Placed size cut →
 unfolding endingVerdict
 ending-good size instances vectors clean p = ended-good size instances vectors
 ending-good size instances vectors (broken at) p = omega arith
-ending-good size instances vectors (field f rest) p = past-good size (f .tag) (f .at) (p .0)
+ending-good size instances vectors (field f rest) p = past-good size (tagOf (f .tag)) (f .at) (p .0)
 
 ending-some : (size instances vectors : ℕ) (cut : Cut) → endingVerdict size instances vectors cut ≡ passes → (1 ≤ instances) × (1 ≤ vectors)
 unfolding endingVerdict
 ending-some size instances vectors clean e = ended-some size instances vectors e
 ending-some size instances vectors (broken at) e = absurd (never-passes e)
-ending-some size instances vectors (field f rest) e = absurd (past-refuses (f .tag) (f .at) e)
+ending-some size instances vectors (field f rest) e = absurd (past-refuses (tagOf (f .tag)) (f .at) e)
 
 after-inputs-good : (size P : ℕ) (cut : Cut) → (1 ≤ P) × (P ≤ 64) → Placed size cut → ReadingGood size (afterInputs size P cut)
 unfolding afterInputs faultCount fieldPlace
 after-inputs-good size P cut some p =
     types-good size _ (λ types cut₂ t p₂.
-    section-good size 4 _ _ BridgesGood (λ bs at body h. bridges-refuse size at h body (length bs)) bridge-keeps _ (λ bridges cut₃ b p₃.
-    section-good size 5 _ _ (InstancesGood P types bridges)
+    section-good size bridge-tag _ _ BridgesGood (λ bs at body h. bridges-refuse size at h body (length bs)) bridge-keeps _ (λ bridges cut₃ b p₃.
+    section-good size instance-tag _ _ (InstancesGood P types bridges)
     (λ is at body h. instances-refuse size at h body (readTo P types bridges is)) (instance-keeps P types bridges) _
     (λ instances cut₄ i p₄.
-    section-good size 6 _ _ (VectorsGood P) (λ vs at body h. vectors-refuse size at h body P (length vs)) (vector-keeps P) _ (λ vectors cut₅ v p₅.
+    section-good size vector-tag _ _ (VectorsGood P) (λ vs at body h. vectors-refuse size at h body P (length vs)) (vector-keeps P) _ (λ vectors cut₅ v p₅.
     unless-good size (endingVerdict size (length instances) (length vectors) cut₅) _ (ending-good size (length instances) (length vectors) cut₅ p₅)
     (λ e. let there = ending-some size (length instances) (length vectors) cut₅ e in
     record {
@@ -393,18 +394,18 @@ start-good size clean p =
 start-good size (broken at) p =
     unless-good size (endingVerdict size 0 0 (broken at)) (accepted emptyCircuit) (ending-good size 0 0 (broken at) p)
     (λ e. let there = ending-some size 0 0 (broken at) e in absurd (omega arith))
-start-good size (field f rest) p = go (eqb (f .tag) 1)
+start-good size (field f rest) p = go (isKind inputs-tag (tagOf (f .tag)))
   where
     go : (one : Bool) → ReadingGood size
         (cond one (unless (firstOf (inputsTests (f .at) (f .body))) (afterInputs size (twoBytes (f .body) 0) rest))
-        (unless (pastVerdict (f .tag) (f .at)) (accepted emptyCircuit)))
+        (unless (pastVerdict (tagOf (f .tag)) (f .at)) (accepted emptyCircuit)))
     go true =
         unless-good size (firstOf (inputsTests (f .at) (f .body))) (afterInputs size (twoBytes (f .body) 0) rest)
         (first-good size (inputsTests (f .at) (f .body)) (inputs-refuse size (f .at) (p .0) (f .body)))
         (λ e. after-inputs-good size (twoBytes (f .body) 0) rest (inputs-pass (f .at) (f .body) e) (p .1))
     go false =
-        unless-good size (pastVerdict (f .tag) (f .at)) (accepted emptyCircuit) (past-good size (f .tag) (f .at) (p .0))
-        (λ e. absurd (past-refuses (f .tag) (f .at) e))
+        unless-good size (pastVerdict (tagOf (f .tag)) (f .at)) (accepted emptyCircuit) (past-good size (tagOf (f .tag)) (f .at) (p .0))
+        (λ e. absurd (past-refuses (tagOf (f .tag)) (f .at) e))
 
 staged-good : (file : List ℕ) → ReadingGood (length file) (staged file)
 unfolding staged cutFrom

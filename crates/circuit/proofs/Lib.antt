@@ -11,7 +11,7 @@ pub mod GatheredLaws
 pub mod Padding
 pub mod RangeLaws
 pub mod StageLaws
-pub mod TagLaws
+pub mod OrderLaws
 pub mod Tested
 pub mod TypeLaws
 pub mod Verdicts

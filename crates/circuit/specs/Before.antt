@@ -9,8 +9,9 @@ use Rattle.switch.specs.Modules.{ModuleType}
 use Rattle.circuit.specs.Limits.{mostBytes}
 use Rattle.circuit.specs.Fields.{Cut, clean, broken, field, cutFrom}
 use Rattle.circuit.specs.Circuit.{Circuit}
-use Rattle.circuit.specs.Known.{Known, start, tagOf, knownAfter}
-use Rattle.circuit.specs.Table.{firstOf, isEdge, unjudged, notComplementary, fieldTests}
+use Rattle.circuit.specs.Order.{tagOf, isEdge}
+use Rattle.circuit.specs.Known.{Known, start, knownAfter}
+use Rattle.circuit.specs.Table.{firstOf, unjudged, notComplementary, fieldTests}
 use Rattle.circuit.specs.Records.{emptyCircuit}
 use Rattle.circuit.specs.Verdicts.{isRefused}
 

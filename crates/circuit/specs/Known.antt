@@ -11,39 +11,21 @@ use Rattle.switch.specs.Bridges.{Bridge, nodes, input}
 use Rattle.circuit.specs.Fields.{Field, twoBytes}
 use Rattle.circuit.specs.Circuit.{Circuit, Instance, Listed, Reference, noType}
 use Rattle.circuit.specs.Numbers.{signed, choiceOf, referenceOf}
+use Rattle.circuit.specs.Order.{Tag, inputs-tag, type-tag, edge-tag, bridge-tag, instance-tag, vector-tag, no-tag, tagOf, isKind}
+use Rattle.circuit.specs.Order.{Previous, start-of-file, after-tag}
 
--- the tag of the field before, 0 before the first; the offset of the latest type's field; the circuit so far
+-- what stands before the next field; the offset of the latest type's field; the circuit so far
 pub record Known : Type 0 where
-  pub previous : ℕ
+  pub previous : Previous
   pub typeAt : ℕ
   pub circuit : Circuit
 
 abbrev pub start : Known
-start = record { previous = 0; typeAt = 0; circuit = record { inputs = 0; types = []; bridges = []; instances = []; vectors = [] } }
-
-pub data Tag : Type 0 where
-  inputs-tag : Tag
-  type-tag : Tag
-  edge-tag : Tag
-  bridge-tag : Tag
-  instance-tag : Tag
-  vector-tag : Tag
-  no-tag : Tag
-
-unfoldable pub tagOf : ℕ → Tag
-tagOf n =
-    cond (eqb n 1) inputs-tag (cond (eqb n 2) type-tag (cond (eqb n 3) edge-tag
-    (cond (eqb n 4) bridge-tag (cond (eqb n 5) instance-tag (cond (eqb n 6) vector-tag no-tag)))))
-
--- the place of a kind of field in 01's order of fields, by its tag; last what is none of 01's
-abbrev pub rank : Tag → ℕ
-rank inputs-tag = 1
-rank type-tag = 2
-rank edge-tag = 3
-rank bridge-tag = 4
-rank instance-tag = 5
-rank vector-tag = 6
-rank no-tag = 7
+start = record {
+  previous = start-of-file;
+  typeAt = 0;
+  circuit = record { inputs = 0; types = []; bridges = []; instances = []; vectors = [] };
+}
 
 -- ---- what a body says
 
@@ -133,11 +115,11 @@ taken vector-tag c body =
 taken no-tag c body = c
 
 unfoldable pub typeAtAfter : Known → Field → ℕ
-typeAtAfter known f = cond (eqb (f .tag) 2) (f .at) (known .typeAt)
+typeAtAfter known f = cond (isKind type-tag (tagOf (f .tag))) (f .at) (known .typeAt)
 
 unfoldable pub knownAfter : Known → Field → Known
 knownAfter known f = record {
-  previous = f .tag;
+  previous = after-tag (tagOf (f .tag));
   typeAt = typeAtAfter known f;
   circuit = taken (tagOf (f .tag)) (known .circuit) (f .body);
 }

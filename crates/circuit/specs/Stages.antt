@@ -10,8 +10,10 @@ use Rattle.switch.specs.Modules.{ModuleType}
 use Rattle.circuit.specs.Limits.{mostBytes}
 use Rattle.circuit.specs.Fields.{Cut, clean, broken, field, cutFrom, twoBytes}
 use Rattle.circuit.specs.Circuit.{Circuit, Instance, Listed}
-use Rattle.circuit.specs.Known.{typeIn, edgeIn, listedIn, instanceIn, vectorIn, latest, withEdge, edgeAdded, tagOf}
-use Rattle.circuit.specs.Table.{Test, Verdict, passes, refusedAt, firstOf, notComplementary, isEmpty, isUnknown, inputsTests}
+use Rattle.circuit.specs.Order.{Tag, inputs-tag, type-tag, edge-tag, bridge-tag, instance-tag, vector-tag, tagOf, isKind, isEdge}
+use Rattle.circuit.specs.Order.{isUnknown, after-tag}
+use Rattle.circuit.specs.Known.{typeIn, edgeIn, listedIn, instanceIn, vectorIn, latest, withEdge, edgeAdded}
+use Rattle.circuit.specs.Table.{Test, Verdict, passes, refusedAt, firstOf, misplaced, notComplementary, isEmpty, inputsTests}
 use Rattle.circuit.specs.Table.{typeTests, edgeTests, bridgeTests, instanceTests, vectorTests}
 use Rattle.circuit.specs.Reading.{Reading, accepted, refusal, unless}
 use Rattle.circuit.specs.Records.{emptyCircuit}
@@ -38,21 +40,21 @@ unfoldable pub ifPasses : {A : Type 0} → Verdict → A → Cut → Stage A →
 ifPasses passes a cut stage = stage
 ifPasses (refusedAt number place) a cut stage = stageOf (refusedAt number place) a cut
 
--- the fields with one tag, each tested against what was gathered from those before it
-unfoldable pub section : {A : Type 0} → ℕ → (A → ℕ → List ℕ → List Test) → (A → List ℕ → A) → A → Cut → Stage A
-section tag tests add sofar clean = stopped sofar clean
-section tag tests add sofar (broken at) = stopped sofar (broken at)
-section tag tests add sofar (field f rest) =
-    let more = section tag tests add (add sofar (f .body)) rest in
+-- the fields of one kind, each tested against what was gathered from those before it
+unfoldable pub section : {A : Type 0} → Tag → (A → ℕ → List ℕ → List Test) → (A → List ℕ → A) → A → Cut → Stage A
+section kind tests add sofar clean = stopped sofar clean
+section kind tests add sofar (broken at) = stopped sofar (broken at)
+section kind tests add sofar (field f rest) =
+    let more = section kind tests add (add sofar (f .body)) rest in
     let tested = ifPasses (firstOf (tests sofar (f .at) (f .body))) sofar (field f rest) more in
-    cond (eqb (f .tag) tag) tested (stopped sofar (field f rest))
+    cond (isKind kind (tagOf (f .tag))) tested (stopped sofar (field f rest))
 
 abbrev pub edgeStage : ModuleType → Cut → Stage ModuleType
-edgeStage = section 3 edgeTests (λ (t : ModuleType) (body : List ℕ). withEdge t (edgeIn body))
+edgeStage = section edge-tag edgeTests (λ (t : ModuleType) (body : List ℕ). withEdge t (edgeIn body))
 
 abbrev pub bridgeStage : List Listed → Cut → Stage (List Listed)
 bridgeStage =
-    section 4 (λ (bs : List Listed). bridgeTests (length bs)) (λ (bs : List Listed) (body : List ℕ). bs ++ (listedIn body ∷ []))
+    section bridge-tag (λ (bs : List Listed). bridgeTests (length bs)) (λ (bs : List Listed) (body : List ℕ). bs ++ (listedIn body ∷ []))
 
 -- the circuit when these instances are read, before any vector
 abbrev pub readTo : ℕ → List ModuleType → List Listed → List Instance → Circuit
@@ -60,25 +62,25 @@ readTo P types bridges instances = record { inputs = P; types = types; bridges =
 
 abbrev pub instanceStage : ℕ → List ModuleType → List Listed → List Instance → Cut → Stage (List Instance)
 instanceStage P types bridges =
-    section 5 (λ (is : List Instance). instanceTests (readTo P types bridges is))
+    section instance-tag (λ (is : List Instance). instanceTests (readTo P types bridges is))
     (λ (is : List Instance) (body : List ℕ). is ++ (instanceIn body ∷ []))
 
 abbrev pub vectorStage : ℕ → List (List Value) → Cut → Stage (List (List Value))
 vectorStage P =
-    section 6 (λ (vs : List (List Value)). vectorTests P (length vs))
+    section vector-tag (λ (vs : List (List Value)). vectorTests P (length vs))
     (λ (vs : List (List Value)) (body : List ℕ). vs ++ (vectorIn body ∷ []))
 
 -- ---- types, each judged when its edges are read
 
 -- the refusal of a type that is not complementary: 9, unless what stands next is refused before 9 is looked at
-unfoldable pub failingBefore : ℕ → ℕ → ℕ → Verdict
+unfoldable pub failingBefore : Tag → ℕ → ℕ → Verdict
 failingBefore tag at typeAt =
-    cond (isUnknown (tagOf tag)) (refusedAt 3 at) (cond (eqb tag 1) (refusedAt 4 at) (refusedAt 9 typeAt))
+    cond (isUnknown tag) (refusedAt 3 at) (cond (misplaced (after-tag type-tag) tag) (refusedAt 4 at) (refusedAt 9 typeAt))
 
 unfoldable pub failingVerdict : ℕ → Cut → Verdict
 failingVerdict typeAt clean = refusedAt 9 typeAt
 failingVerdict typeAt (broken at) = refusedAt 2 at
-failingVerdict typeAt (field f rest) = failingBefore (f .tag) (f .at) typeAt
+failingVerdict typeAt (field f rest) = failingBefore (tagOf (f .tag)) (f .at) typeAt
 
 -- the latest of some types is judged
 unfoldable pub judged : List ModuleType → ℕ → Cut → Verdict
@@ -101,9 +103,9 @@ typeStage types from (field f rest) =
     let moreTypes = typeStage (types ++ (typeIn (f .body) ∷ [])) (field f rest) rest in
     let edge = ifPasses (firstOf (edgeTests (latest types) (f .at) (f .body))) (typesBefore types) from moreEdges in
     let type = ifPasses (firstOf (typeTests (length types) (f .at) (f .body))) types (field f rest) moreTypes in
-    let next = cond (eqb (f .tag) 2) type (stopped types (field f rest)) in
+    let next = cond (isKind type-tag (tagOf (f .tag))) type (stopped types (field f rest)) in
     let other = ifPasses (judged types (fieldPlace from) (field f rest)) (typesBefore types) from next in
-    cond (eqb (f .tag) 3 && not (isEmpty types)) edge other
+    cond (isEdge (tagOf (f .tag)) && not (isEmpty types)) edge other
 
 -- ---- the ending, and the whole
 
@@ -111,13 +113,13 @@ typeStage types from (field f rest) =
 unfoldable pub endedVerdict : ℕ → ℕ → ℕ → Verdict
 endedVerdict size instances vectors = cond (eqb instances 0) (refusedAt 14 size) (cond (eqb vectors 0) (refusedAt 14 size) passes)
 
-unfoldable pub pastVerdict : ℕ → ℕ → Verdict
-pastVerdict tag at = cond (isUnknown (tagOf tag)) (refusedAt 3 at) (refusedAt 4 at)
+unfoldable pub pastVerdict : Tag → ℕ → Verdict
+pastVerdict tag at = cond (isUnknown tag) (refusedAt 3 at) (refusedAt 4 at)
 
 unfoldable pub endingVerdict : ℕ → ℕ → ℕ → Cut → Verdict
 endingVerdict size instances vectors clean = endedVerdict size instances vectors
 endingVerdict size instances vectors (broken at) = refusedAt 2 at
-endingVerdict size instances vectors (field f rest) = pastVerdict (f .tag) (f .at)
+endingVerdict size instances vectors (field f rest) = pastVerdict (tagOf (f .tag)) (f .at)
 
 unfoldable pub afterStage : {A : Type 0} → Stage A → (A → Cut → Reading) → Reading
 afterStage s next = unless (s .verdict) (next (s .gathered) (s .rest))
@@ -137,8 +139,8 @@ fromStart size clean = unless (endingVerdict size 0 0 clean) (accepted emptyCirc
 fromStart size (broken at) = unless (endingVerdict size 0 0 (broken at)) (accepted emptyCircuit)
 fromStart size (field f rest) =
     let first = unless (firstOf (inputsTests (f .at) (f .body))) (afterInputs size (twoBytes (f .body) 0) rest) in
-    let other = unless (pastVerdict (f .tag) (f .at)) (accepted emptyCircuit) in
-    cond (eqb (f .tag) 1) first other
+    let other = unless (pastVerdict (tagOf (f .tag)) (f .at)) (accepted emptyCircuit) in
+    cond (isKind inputs-tag (tagOf (f .tag))) first other
 
 unfoldable pub staged : List ℕ → Reading
 staged file = let whole = fromStart (length file) (cutFrom file 0) in cond (ltb mostBytes (length file)) (refusal 1 0) whole
@@ -168,7 +170,7 @@ gatheredAtStart (broken at) = emptyCircuit
 gatheredAtStart (field f rest) =
     let after = gatheredFrom (twoBytes (f .body) 0) rest in
     let first = cond (isRefused (firstOf (inputsTests (f .at) (f .body)))) emptyCircuit after in
-    cond (eqb (f .tag) 1) first emptyCircuit
+    cond (isKind inputs-tag (tagOf (f .tag))) first emptyCircuit
 
 -- or where the file is too long
 unfoldable pub gatheredOf : List ℕ → Circuit

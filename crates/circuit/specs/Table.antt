@@ -14,8 +14,9 @@ use Rattle.circuit.specs.Fields.{Field, twoBytes}
 use Rattle.circuit.specs.Circuit.{Circuit, Listed, Choice, exhaustive, no-faults, list, typeOfInstance, userList, chosenSize}
 use Rattle.circuit.specs.Circuit.{faultCount}
 use Rattle.circuit.specs.Numbers.{signed, choiceInRange, referenceGood}
-use Rattle.circuit.specs.Known.{Known, Tag, inputs-tag, type-tag, edge-tag, bridge-tag, instance-tag, vector-tag, no-tag, rank, tagOf}
-use Rattle.circuit.specs.Known.{edgeIn, instanceIn, latest}
+use Rattle.circuit.specs.Order.{Tag, inputs-tag, type-tag, edge-tag, bridge-tag, instance-tag, vector-tag, no-tag, tagOf, isEdge}
+use Rattle.circuit.specs.Order.{isUnknown, Previous, atStart, inType, mayFollow}
+use Rattle.circuit.specs.Known.{Known, edgeIn, instanceIn, latest}
 
 -- a test of the table: its number, whether it refuses, and the place that it gives
 pub record Test : Type 0 where
@@ -38,24 +39,14 @@ firstOf (t ∷ ts) = let later = firstOf ts in cond (t .refuses) (refusedAt (t .
 -- ---- number 4: a first field that is not tag 1, a later tag 1, an edge not right after its type or an edge of it, or a tag whose place
 -- in this order is past
 
--- the tag `previous` of the field before, 0 before the first
-unfoldable pub misplaced : ℕ → Tag → Bool
-misplaced previous inputs-tag = not (eqb previous 0)
-misplaced previous type-tag = eqb previous 0 || ltb 3 previous
-misplaced previous edge-tag = not (between 2 3 previous)
-misplaced previous bridge-tag = eqb previous 0 || ltb 4 previous
-misplaced previous instance-tag = eqb previous 0 || ltb 5 previous
-misplaced previous vector-tag = eqb previous 0
-misplaced previous no-tag = false
+abbrev pub misplaced : Previous → Tag → Bool
+misplaced previous tag = not (mayFollow previous tag)
 
 -- ---- number 9: a type is judged when a tag other than 3 has passed 4, or at the end of the file before 14
 
-unfoldable pub isEdge : Tag → Bool
-isEdge tag = eqb (rank tag) 3
-
 -- the field before was a type's or one of its edges, so that the latest type has not been judged
-unfoldable pub unjudged : ℕ → Bool
-unjudged previous = between 2 3 previous
+unfoldable pub unjudged : Previous → Bool
+unjudged previous = inType previous
 
 unfoldable pub notComplementary : List ModuleType → Bool
 notComplementary types = not (isComplementary (latest types))
@@ -160,9 +151,6 @@ bodyTests no-tag c at body = []
 
 -- ---- all tests of a field, and those of the end of the file
 
-unfoldable pub isUnknown : Tag → Bool
-isUnknown tag = eqb (rank tag) 7
-
 unfoldable pub fieldTests : Known → Field → List Test
 fieldTests known f =
     let tag = tagOf (f .tag) in
@@ -177,7 +165,7 @@ unfoldable pub endTests : Known → ℕ → List Test
 endTests known size =
     let failing = notComplementary (known .circuit .types) in
     test 9 (cond (unjudged (known .previous)) failing false) (known .typeAt)
-    ∷ test 14 (eqb (known .previous) 0) size
+    ∷ test 14 (atStart (known .previous)) size
     ∷ test 14 (isEmpty (known .circuit .instances)) size
     ∷ test 14 (isEmpty (known .circuit .vectors)) size
     ∷ []

@@ -1,5 +1,6 @@
 // The circuit that a file tells, and the refusals of the table.
 pub mod limits;
+pub mod order;
 pub mod ranges;
 pub mod refusal;
 

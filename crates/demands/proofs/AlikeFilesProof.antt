@@ -13,7 +13,8 @@ use Rattle.switch.specs.Conduction.{Value, atX}
 use Rattle.switch.specs.Modules.{allOf}
 use Rattle.switch.proofs.Paths.{both}
 use Rattle.circuit.specs.Circuit.{Circuit, joinLists}
-use Rattle.circuit.specs.Known.{start, Tag, inputs-tag, type-tag, edge-tag, bridge-tag, instance-tag, vector-tag, no-tag, tagOf, letterOf, vectorIn, taken}
+use Rattle.circuit.specs.Order.{Tag, inputs-tag, type-tag, edge-tag, bridge-tag, instance-tag, vector-tag, no-tag, tagOf}
+use Rattle.circuit.specs.Known.{start, letterOf, vectorIn, taken}
 use Rattle.circuit.specs.Reading.{readingOf}
 use Rattle.grading.specs.Rows.{Row, rowsOf, CellMarked}
 use Rattle.grading.specs.Classes.{largest, classesOf}

@@ -12,9 +12,10 @@ use Rattle.switch.specs.Deciding.{rename, partIn, renamings, joins, allBelow, o
 use Rattle.circuit.specs.Fields.{twoBytes, cutIn, cutFrom}
 use Rattle.circuit.specs.Circuit.{numbered, joinLists, nodePairs, nodeInputs, exhaustiveList, exhaustiveSize, userList, chosen, chosenSize, faultsOf, faultCount}
 use Rattle.circuit.specs.Numbers.{signed, choiceOf, choiceInRange, referenceOf, referenceGood}
-use Rattle.circuit.specs.Known.{tagOf, typeIn, edgeIn, bridgeOf, listedIn, referencesIn, instanceIn, letterOf, vectorIn, latest, withEdge, edgeAdded, taken, typeAtAfter, knownAfter}
+use Rattle.circuit.specs.Order.{tagOf, isKind, mayFollow}
+use Rattle.circuit.specs.Known.{typeIn, edgeIn, bridgeOf, listedIn, referencesIn, instanceIn, letterOf, vectorIn, latest, withEdge, edgeAdded, taken, typeAtAfter, knownAfter}
 use Rattle.circuit.specs.Records.{choiceByte}
-use Rattle.circuit.specs.Table.{firstOf, misplaced, isEdge, unjudged, notComplementary, bridgeInRange, bridgeSuits, isEmpty, listUnsuited, listEmpty, isLetter, inputsTests, typeTests, edgeTestsOf, edgeTests, bridgeTests, instanceTests, vectorTests, bodyTests, isUnknown, fieldTests, endTests}
+use Rattle.circuit.specs.Table.{firstOf, unjudged, notComplementary, bridgeInRange, bridgeSuits, isEmpty, listUnsuited, listEmpty, isLetter, inputsTests, typeTests, edgeTestsOf, edgeTests, bridgeTests, instanceTests, vectorTests, bodyTests, fieldTests, endTests}
 use Rattle.circuit.specs.Reading.{unless, readFrom, readingOf}
 use Rattle.grading.specs.Buffers.{Buffers, buffersOf}
 use Rattle.grading.specs.Values.{valueAt, labelValues, outputsAfter, outputsOf}
@@ -32,9 +33,9 @@ unfolding bit pack word sumTo table upTo rowOf choiceByte
     toLabel closing rename partIn renamings joins allBelow oneRail isComplementary deciding.outputValue isMarked
     twoBytes cutIn cutFrom numbered joinLists nodePairs nodeInputs exhaustiveList exhaustiveSize userList chosen chosenSize faultsOf faultCount
     signed choiceOf choiceInRange referenceOf referenceGood
-    tagOf typeIn edgeIn bridgeOf listedIn referencesIn instanceIn letterOf vectorIn latest withEdge edgeAdded taken typeAtAfter knownAfter
-    firstOf misplaced isEdge unjudged notComplementary bridgeInRange bridgeSuits isEmpty listUnsuited listEmpty isLetter
-    inputsTests typeTests edgeTestsOf edgeTests bridgeTests instanceTests vectorTests bodyTests isUnknown fieldTests endTests
+    tagOf isKind mayFollow typeIn edgeIn bridgeOf listedIn referencesIn instanceIn letterOf vectorIn latest withEdge edgeAdded taken typeAtAfter knownAfter
+    firstOf unjudged notComplementary bridgeInRange bridgeSuits isEmpty listUnsuited listEmpty isLetter
+    inputsTests typeTests edgeTestsOf edgeTests bridgeTests instanceTests vectorTests bodyTests fieldTests endTests
     unless readFrom readingOf valueAt labelValues outputsAfter outputsOf rowsOfInstance rowsFrom rowsOf rowValues cell markOf rowWords matrixOf
     sameReference sameLabel sameBridge sameClass classAmongBy largest classesAfterBy classesBy hasMarkBy classFoundBy foundBy foundCount
     countsOfCircuit gradingOfCircuit afterReading gradingOf countsIn numberIn placeIn over buffersAfter

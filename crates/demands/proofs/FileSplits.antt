@@ -14,8 +14,9 @@ use Rattle.switch.specs.Modules.{allOf}
 use Rattle.switch.proofs.Paths.{both}
 use Rattle.circuit.specs.Fields.{Field, cutFrom, twoBytes}
 use Rattle.circuit.specs.Circuit.{Circuit, joinLists}
-use Rattle.circuit.specs.Known.{Known, start, tagOf, knownAfter}
-use Rattle.circuit.specs.Table.{Verdict, passes, refusedAt, firstOf, misplaced, isUnknown, fieldTests}
+use Rattle.circuit.specs.Order.{vector-tag, tagOf, isKind, isUnknown, Previous, after-tag, mayFollow}
+use Rattle.circuit.specs.Known.{Known, start, knownAfter}
+use Rattle.circuit.specs.Table.{Verdict, passes, refusedAt, firstOf, misplaced, fieldTests}
 use Rattle.circuit.specs.Reading.{Reading, accepted, unless, readFrom}
 use Rattle.circuit.proofs.Verdicts.{first-passes}
 use Rattle.circuit.proofs.Tested.{holds, and-T}
@@ -155,15 +156,16 @@ passed-verdict passes r c e = refl
 passed-verdict (refusedAt number place) r c e = cc
 
 -- after a vector 3 and 4 let nothing through but a vector
-after-a-vector : (tag : ℕ) → isUnknown (tagOf tag) ≡ false → misplaced 6 (tagOf tag) ≡ false → tag ≡ 6
-unfolding tagOf isUnknown misplaced between
+after-a-vector : (tag : ℕ) → isUnknown (tagOf tag) ≡ false → misplaced (after-tag vector-tag) (tagOf tag) ≡ false → tag ≡ 6
+unfolding tagOf isKind mayFollow between
 after-a-vector tag = go (eqb tag 1) (eqb tag 2) (eqb tag 3) (eqb tag 4) (eqb tag 5) (eqb tag 6) refl
   where
     never : true ≡ false → tag ≡ 6
     never e = let z : _≡_ {A = ℕ} 0 1 = cc in absurd (omega arith)
 
     go : (one two three four five six : Bool) → eqb tag 6 ≡ six
-        → isUnknown (tagBy one two three four five six) ≡ false → misplaced 6 (tagBy one two three four five six) ≡ false → tag ≡ 6
+        → isUnknown (tagBy one two three four five six) ≡ false → misplaced (after-tag vector-tag) (tagBy one two three four five six) ≡ false
+        → tag ≡ 6
     go true two three four five six p u m = never m
     go false true three four five six p u m = never m
     go false false true four five six p u m = never m
@@ -172,7 +174,11 @@ after-a-vector tag = go (eqb tag 1) (eqb tag 2) (eqb tag 3) (eqb tag 4) (eqb tag
     go false false false false false true p u m = eqb-true tag 6 p
     go false false false false false false p u m = never u
 
-all-vectors : (size : ℕ) (known : Known) (at : ℕ) (fs : List TagAndBody) (c : Circuit) → known .previous ≡ 6
+behind-a-vector : (tag : ℕ) → tag ≡ 6 → after-tag (tagOf tag) ≡ after-tag vector-tag
+unfolding tagOf
+behind-a-vector tag e = ap (λ (n : ℕ). after-tag (tagOf n)) e
+
+all-vectors : (size : ℕ) (known : Known) (at : ℕ) (fs : List TagAndBody) (c : Circuit) → known .previous ≡ after-tag vector-tag
     → readFrom size known (cutOf at fs) ≡ accepted c → (bodies : List (List ℕ)) × (fs ≡ map vectorField bodies)
 unfolding readFrom cutOf knownAfter fieldTests
 all-vectors size known at [] c previous e = ([], refl)
@@ -181,7 +187,7 @@ all-vectors size known at (f ∷ fs) c previous e =
     let four = first-passes _ _ (three .1) in
     let is = after-a-vector (f .tag) (three .0) (rw previous at (four .0)) in
     let read = after-verdict (firstOf (fieldTests known (fieldAt at f))) _ c e in
-    let later = all-vectors size (knownAfter known (fieldAt at f)) (at + 3 + length (f .body)) fs c is read in (
+    let later = all-vectors size (knownAfter known (fieldAt at f)) (at + 3 + length (f .body)) fs c (behind-a-vector (f .tag) is) read in (
       f .body ∷ later .0,
       ap₂ (λ (tag : ℕ) (gs : List TagAndBody). record { tag = tag; body = f .body } ∷ gs) is (later .1),
     )
@@ -203,7 +209,7 @@ vectors-last size known at (f ∷ fs) c e =
     go : (six : Bool) → eqb (f .tag) 6 ≡ six → VectorsLast fs → VectorsLast (f ∷ fs)
     go true p later =
         let is = eqb-true (f .tag) 6 p in
-        let vectors = all-vectors size (knownAfter known (fieldAt at f)) (at + 3 + length (f .body)) fs c is read in (
+        let vectors = all-vectors size (knownAfter known (fieldAt at f)) (at + 3 + length (f .body)) fs c (behind-a-vector (f .tag) is) read in (
           [],
           f .body ∷ vectors .0,
           tt,

@@ -14,7 +14,8 @@ use Rattle.switch.specs.Modules.{allOf}
 use Rattle.switch.proofs.Paths.{both}
 use Rattle.circuit.specs.Limits.{mostBytes}
 use Rattle.circuit.specs.Circuit.{Circuit, joinLists}
-use Rattle.circuit.specs.Known.{Known, start, tagOf, letterOf, vectorIn, knownAfter}
+use Rattle.circuit.specs.Order.{tagOf}
+use Rattle.circuit.specs.Known.{Known, start, letterOf, vectorIn, knownAfter}
 use Rattle.circuit.specs.Table.{firstOf, isLetter, vectorTests, bodyTests, fieldTests}
 use Rattle.circuit.specs.Reading.{Reading, accepted, refusal, readFrom, readingOf}
 use Rattle.circuit.proofs.CircuitLaws.{accepted-is-good}

@@ -5,7 +5,7 @@
 --   demand 3      Refining, RefinedMarks, NoConverseProof
 --   of two files  WholeFields, AlikeFilesProof, FileSplits, OtherVectors, Fillings, AlikeFilesExamples
 --   one outcome   CellsAgree, ClassesAgree, Determines
---   contracts     ContractsProof, CircuitCallsProof, StepsOnce, CanBeMet, UniqueProof, MetProof
+--   contracts     ContractsProof, CircuitCallsProof, KindsOnce, StepsOnce, CanBeMet, UniqueProof, MetProof
 --   all of them   AllProofs
 --   by computing  KnownProof, WrongProof, BreaksProof; MeetsProof, what the demands do not break
 pub mod Gave
@@ -41,6 +41,7 @@ pub mod MeetsProof
 pub mod CellsAgree
 pub mod ClassesAgree
 pub mod Determines
+pub mod KindsOnce
 pub mod StepsOnce
 pub mod CanBeMet
 pub mod UniqueProof

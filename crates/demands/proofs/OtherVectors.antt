@@ -1,11 +1,11 @@
 -- Behind the head of an accepted file any good vectors are accepted: its fields pass the tests that they passed, and so does each vector.
 use Prim.Native.Nat.{ℕ, suc, _+_, _≤_, _<_}
-use mathlib.Core.Path.{_≡_, refl, sym, ap, _∙_}
-use mathlib.Core.Bool.{false, cond, and-true}
+use mathlib.Core.Path.{_≡_, refl, sym, ap, subst, _∙_}
+use mathlib.Core.Bool.{true, false, cond, and-true}
 use mathlib.Core.List.{List, [], _∷_, _++_, map}
 use native.Mathlib.Omega.{arith}
-use borrow.Author.Tests.{le-ltb, lt-leb, eq-eqb}
-use lib.Dec.{T, eqb}
+use borrow.Author.Tests.{le-ltb, lt-leb, eq-eqb, ne-eqb, not-false}
+use lib.Dec.{T}
 use lib.Ieee.Bits.{is-true}
 use lib.ListN.{length, getD, length-append, length-map}
 use Rattle.switch.specs.Conduction.{between}
@@ -13,9 +13,11 @@ use Rattle.switch.specs.Modules.{allOf}
 use Rattle.circuit.specs.Limits.{mostBytes, mostVectors}
 use Rattle.circuit.specs.Fields.{cutFrom}
 use Rattle.circuit.specs.Circuit.{Circuit}
-use Rattle.circuit.specs.Known.{Known, start, tagOf, vectorIn, taken, knownAfter}
-use Rattle.circuit.specs.Table.{passes, firstOf, misplaced, isEdge, unjudged, notComplementary, isEmpty, isLetter, vectorTests, bodyTests, isUnknown, fieldTests, endTests}
+use Rattle.circuit.specs.Order.{vector-tag, tagOf, isKind, Previous, reached, atStart, mayFollow}
+use Rattle.circuit.specs.Known.{Known, start, vectorIn, taken, knownAfter}
+use Rattle.circuit.specs.Table.{passes, firstOf, unjudged, notComplementary, isEmpty, isLetter, vectorTests, bodyTests, fieldTests, endTests}
 use Rattle.circuit.specs.Reading.{accepted, unless, readFrom, readingOf}
+use Rattle.circuit.proofs.RangeLaws.{in-between}
 use Rattle.circuit.proofs.CircuitLaws.{accepted-is-good}
 use Rattle.circuit.proofs.Tested.{length-snoc}
 use Rattle.circuit.proofs.Verdicts.{first-passes}
@@ -49,9 +51,15 @@ head-passes size known at (f ∷ fs) gs c e size′ hs =
 
 -- ---- vectors
 
+-- before the first field no vector may stand
+not-at-start : (previous : Previous) → mayFollow previous vector-tag ≡ true → atStart previous ≡ false
+unfolding mayFollow
+not-at-start previous e =
+    let low = in-between 1 5 (reached previous) (subst T (sym e) tt) .0 in ne-eqb (reached previous) 0 (omega arith)
+
 -- what is known where a vector of P primary inputs may stand next
 record Ready (P : ℕ) (known : Known) : Type 0 where
-  not-first : eqb (known .previous) 0 ≡ false
+  in-place : mayFollow (known .previous) vector-tag ≡ true
   judged : cond (unjudged (known .previous)) (notComplementary (known .circuit .types)) false ≡ false
   inputs : known .circuit .inputs ≡ P
   instance : isEmpty (known .circuit .instances) ≡ false
@@ -64,10 +72,10 @@ some-is (a ∷ as′) h = refl
 module _ (P : ℕ) (known : Known) (ready : Ready P known) (at : ℕ) (body : List ℕ) where
   vector-passes : length body ≡ P → T (allOf isLetter body) → length (known .circuit .vectors) < mostVectors
       → firstOf (fieldTests known (fieldAt at (vectorField body))) ≡ passes
-  unfolding firstOf fieldTests tagOf isUnknown misplaced isEdge bodyTests vectorTests
+  unfolding firstOf fieldTests tagOf isKind bodyTests vectorTests
   vector-passes long letters few =
       rw (
-        ready .not-first,
+        ready .in-place,
         and-true (unjudged (known .previous)),
         ready .judged,
         ready .inputs,
@@ -77,8 +85,8 @@ module _ (P : ℕ) (known : Known) (ready : Ready P known) (at : ℕ) (body : Li
       )
 
   ready-again : Ready P (knownAfter known (fieldAt at (vectorField body)))
-  unfolding knownAfter taken tagOf unjudged between
-  ready-again = record { not-first = refl; judged = refl; inputs = ready .inputs; instance = ready .instance }
+  unfolding knownAfter taken tagOf unjudged mayFollow between
+  ready-again = record { in-place = refl; judged = refl; inputs = ready .inputs; instance = ready .instance }
 
 vectors-read : (size P : ℕ) (bodies : List (List ℕ)) (known : Known) (at : ℕ) → Ready P known
     → ((v : ℕ) → v < length bodies → (length (getD bodies v []) ≡ P) × T (allOf isLetter (getD bodies v [])))
@@ -86,7 +94,7 @@ vectors-read : (size P : ℕ) (bodies : List (List ℕ)) (known : Known) (at : �
     → (d : Circuit) × (readFrom size known (cutOf at (map vectorField bodies)) ≡ accepted d)
 unfolding readFrom cutOf unless endTests firstOf knownAfter taken tagOf
 vectors-read size P [] known at ready each few some =
-    (known .circuit, rw (ready .judged, ready .not-first, ready .instance, some-is (known .circuit .vectors) (omega arith)))
+    (known .circuit, rw (ready .judged, not-at-start (known .previous) (ready .in-place), ready .instance, some-is (known .circuit .vectors) (omega arith)))
 vectors-read size P (body ∷ bodies) known at ready each few some =
     let first = each 0 (omega arith) in
     let one-more = length-snoc (known .circuit .vectors) (vectorIn body) in
@@ -100,7 +108,7 @@ vectors-read size P (body ∷ bodies) known at ready each few some =
 ready-there : (size : ℕ) (known : Known) (at : ℕ) (bodies : List (List ℕ)) (c : Circuit)
     → readFrom size known (cutOf at (map vectorField bodies)) ≡ accepted c → 1 ≤ length bodies → 1 ≤ length (c .instances)
     → Ready (c .inputs) known
-unfolding readFrom cutOf fieldTests tagOf misplaced isEdge
+unfolding readFrom cutOf fieldTests tagOf isKind
 ready-there size known at [] c e some instances = absurd (omega arith)
 ready-there size known at (body ∷ bodies) c e some instances =
     let three = first-passes _ _ (passed-verdict (firstOf (fieldTests known (fieldAt at (vectorField body)))) _ c e) in
@@ -108,7 +116,7 @@ ready-there size known at (body ∷ bodies) c e some instances =
     let nine = first-passes _ _ (four .1) in
     let is = sym (vectors-add (known .circuit) (body ∷ bodies)) ∙ read-whole size known at (map vectorField (body ∷ bodies)) c e in
     record {
-      not-first = four .0;
+      in-place = not-false (mayFollow (known .previous) vector-tag) (four .0);
       judged = rw and-true at (nine .0);
       inputs = ap (λ (x : Circuit). x .inputs) is;
       instance = rw (ap (λ (x : Circuit). x .instances) is) (some-is (c .instances) instances);

@@ -4,6 +4,7 @@ use mathlib.Core.Path.{_≡_, refl, sym, ap, _∙_}
 use mathlib.Core.List.{List}
 use native.Mathlib.Omega.{arith}
 use lib.ListN.{length}
+use Rattle.circuit.specs.Order.{Tag}
 use Rattle.circuit.specs.Fields.{Field, clean, broken, field, cutFrom}
 use Rattle.read_fields.specs.Steps.{fieldIn, FieldAt, StepIs, NextIs}
 use Rattle.read_fields.specs.declared.Field.{Field as FieldRecord}
@@ -67,9 +68,9 @@ module _ (file : List ℕ) where
     step-once End Broken p q = absurd (not-both at q p)
     step-once End End p q = refl
 
-    pub next-once : (tag : ℕ) (r s : Next) → NextIs file at tag r → NextIs file at tag s → r ≡ s
+    pub next-once : (kind : Tag) (r s : Next) → NextIs file at kind r → NextIs file at kind s → r ≡ s
     unfolding NextIs fieldIn
-    next-once tag (Found f) (Found g) (p, t) (q, t′) = ap Found (same-field f g p q)
-    next-once tag (Found f) Other (p, t) q = absurd (q (fieldIn file f) (cutFrom file (f .body + f .len)) (p .cut) t)
-    next-once tag Other (Found g) p (q, t) = absurd (p (fieldIn file g) (cutFrom file (g .body + g .len)) (q .cut) t)
-    next-once tag Other Other p q = refl
+    next-once kind (Found f) (Found g) (p, t) (q, t′) = ap Found (same-field f g p q)
+    next-once kind (Found f) Other (p, t) q = absurd (q (fieldIn file f) (cutFrom file (f .body + f .len)) (p .cut) t)
+    next-once kind Other (Found g) p (q, t) = absurd (p (fieldIn file g) (cutFrom file (g .body + g .len)) (q .cut) t)
+    next-once kind Other Other p q = refl

@@ -8,6 +8,8 @@ use denote.Ref.{now}
 use Rattle.switch.specs.Deciding.{isComplementary}
 use Rattle.switch.specs.Promises.{railsOf}
 use Rattle.switch.specs.Records.{typeWith, EdgesGiven}
+use Rattle.circuit.specs.Kinds.{kindTag}
+use Rattle.circuit.specs.declared.order.Kind.the-variants.{Inputs}
 use Rattle.circuit.specs.Reading.{readingOf}
 use Rattle.circuit.specs.Records.{unusedInstance, unusedVector}
 use Rattle.circuit.proofs.AnswerLaws.{verdict-tells, answers-unique}
@@ -25,6 +27,7 @@ use Rattle.read_vectors.proofs.VectorsOnce.{vectors-once}
 use Rattle.read_file.proofs.StagesOnce.{stages-once}
 use Rattle.grading.specs.declared.Answer.the-variants.{ShortMatrix}
 use Rattle.demands.proofs.Outcomes.{same-counts, answered-once}
+use Rattle.demands.proofs.KindsOnce.{kind-once}
 use Rattle.demands.proofs.StepsOnce.{step-once, next-once}
 use Rattle.demands.proofs.CanBeMet.{lent, emptyField, bareType, edges-given, type-given, noBridges, bridges-listed, codes-fit, codes-of-none}
 use Rattle.demands.proofs.CanBeMet.{rows-held, noTypes, noLists, held-to-none, firstInput, instance-given, readingOfNone, none-read, circuit-given}
@@ -75,13 +78,15 @@ unique = record {
   join-nodes-joining-of = record { can-be-met = λ κs. ((bareType, (lent (replicate 48 0), (lent (replicate 48 0), tt))), type-given); one-outcome = λ κs a asked one other p q. both (p ∙ sym q) refl };
   join-nodes-join-type = record { can-be-met = λ κs. ((bareType, (lent (replicate 48 0), (lent (replicate 48 0), tt))), type-given); one-outcome = λ κs a asked one other p q. both (p ∙ sym q) refl };
   join-nodes-output-planes = record { asks-nothing = λ κs a. tt; one-outcome = λ κs a asked one other p q. both (p ∙ sym q) refl };
+  circuit-kind-of = record { asks-nothing = λ κs a. tt; one-outcome = λ κs a asked one other p q. both (kind-once (one .0) (other .0) (p ∙ sym q)) refl };
+  circuit-is-kind = record { asks-nothing = λ κs a. tt; one-outcome = λ κs a asked one other p q. both (p ∙ sym q) refl };
   circuit-is-between = record { asks-nothing = λ κs a. tt; one-outcome = λ κs a asked one other p q. both (p ∙ sym q) refl };
   circuit-refuses = record { asks-nothing = λ κs a. tt; one-outcome = λ κs a asked one other p q. both (p ∙ sym q) refl };
   circuit-or-if = record { asks-nothing = λ κs a. tt; one-outcome = λ κs a asked one other p q. both (verdict-tells (one .0) (other .0) (p ∙ sym q)) refl };
   circuit-number-of = record { asks-nothing = λ κs a. tt; one-outcome = λ κs a asked one other p q. both (p ∙ sym q) refl };
   circuit-place-of = record { asks-nothing = λ κs a. tt; one-outcome = λ κs a asked one other p q. both (p ∙ sym q) refl };
   read-fields-step-at = record { can-be-met = λ κs. ((lent [], (0, tt)), omega arith); one-outcome = λ κs a asked one other p q. both (step-once (now (a .0)) (a .1 .0) (one .0) (other .0) p q) refl };
-  read-fields-field-of = record { can-be-met = λ κs. ((lent [], (0, (0, tt))), omega arith); one-outcome = λ κs a asked one other p q. both (next-once (now (a .0)) (a .1 .0) (a .1 .1 .0) (one .0) (other .0) p q) refl };
+  read-fields-field-of = record { can-be-met = λ κs. ((lent [], (0, (Inputs, tt))), omega arith); one-outcome = λ κs a asked one other p q. both (next-once (now (a .0)) (a .1 .0) (kindTag (a .1 .1 .0)) (one .0) (other .0) p q) refl };
   read-fields-byte = record { can-be-met = λ κs. ((lent [], (emptyField, (0, tt))), omega arith); one-outcome = λ κs a asked one other p q. both (p ∙ sym q) refl };
   read-fields-two-bytes = record { can-be-met = λ κs. ((lent [], (emptyField, (0, tt))), (omega arith, omega arith)); one-outcome = λ κs a asked one other p q. both (p ∙ sym q) refl };
   read-types-no-type = record { asks-nothing = λ κs a. tt; one-outcome = λ κs a asked one other p q. both (p ∙ sym q) refl };

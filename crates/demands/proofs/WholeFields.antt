@@ -11,7 +11,8 @@ use lib.Seq.{take-append-seam, drop-append-add, getD-append-seam, getD-append-ad
 use Rattle.circuit.specs.Limits.{mostBytes}
 use Rattle.circuit.specs.Fields.{Field, Cut, clean, field, cutFrom, twoBytes}
 use Rattle.circuit.specs.Circuit.{Circuit, joinLists}
-use Rattle.circuit.specs.Known.{Known, start, tagOf, taken, knownAfter}
+use Rattle.circuit.specs.Order.{tagOf}
+use Rattle.circuit.specs.Known.{Known, start, taken, knownAfter}
 use Rattle.circuit.specs.Table.{Verdict, passes, refusedAt, firstOf, fieldTests, endTests}
 use Rattle.circuit.specs.Reading.{Reading, accepted, refusal, unless, readFrom, readingOf}
 use Rattle.read_fields.proofs.Cuts.{behind, standing, cut-clean, cut-field}

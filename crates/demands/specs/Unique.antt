@@ -27,6 +27,8 @@ use Rattle.join_nodes.proofs.rails.joining as join-nodes-joining
 use Rattle.join_nodes.proofs.rails.joining_of as join-nodes-joining-of
 use Rattle.join_nodes.proofs.rails.join_type as join-nodes-join-type
 use Rattle.join_nodes.proofs.rails.output_planes as join-nodes-output-planes
+use Rattle.circuit.proofs.order.kind_of as circuit-kind-of
+use Rattle.circuit.proofs.order.is_kind as circuit-is-kind
 use Rattle.circuit.proofs.ranges.is_between as circuit-is-between
 use Rattle.circuit.proofs.refusal.refuses as circuit-refuses
 use Rattle.circuit.proofs.refusal.or_if as circuit-or-if
@@ -117,6 +119,8 @@ pub record Unique : Type 2 where
   pub join-nodes-join-type : SoleWhereMet join-nodes-join-type.ended join-nodes-join-type.Reads.Asked join-nodes-join-type.Reads.Learnt
   pub join-nodes-output-planes :
       Sole join-nodes-output-planes.ended join-nodes-output-planes.Reads.Asked join-nodes-output-planes.Reads.Learnt
+  pub circuit-kind-of : Sole circuit-kind-of.ended circuit-kind-of.Reads.Asked circuit-kind-of.Reads.Learnt
+  pub circuit-is-kind : Sole circuit-is-kind.ended circuit-is-kind.Reads.Asked circuit-is-kind.Reads.Learnt
   pub circuit-is-between : Sole circuit-is-between.ended circuit-is-between.Reads.Asked circuit-is-between.Reads.Learnt
   pub circuit-refuses : Sole circuit-refuses.ended circuit-refuses.Reads.Asked circuit-refuses.Reads.Learnt
   pub circuit-or-if : Sole circuit-or-if.ended circuit-or-if.Reads.Asked circuit-or-if.Reads.Learnt

@@ -13,6 +13,7 @@ use Rattle.switch.proofs.Paths.{both}
 use Rattle.switch.proofs.Deciding.{and-both}
 use Rattle.circuit.specs.Limits.{mostBridges}
 use Rattle.circuit.specs.Fields.{cutFrom}
+use Rattle.circuit.specs.Order.{bridge-tag, tagOf}
 use Rattle.circuit.specs.Circuit.{Listed}
 use Rattle.circuit.specs.Known.{bridgeOf, listedIn}
 use Rattle.circuit.specs.Table.{Test, test, passes, refusedAt, firstOf, bridgeInRange, bridgeTests}
@@ -114,7 +115,7 @@ all-more p (b ∷ as′) a t q =
 -- at the head of the loop: some bridges are read, they stand in the record, and the stage goes on from them
 pub record BridgesSoFar (file : List ℕ) (from : ℕ) (all : List BridgeRecord) (count at : ℕ) : Type 0 where
   pub bridges : List Listed
-  pub so : SoFar 4 mostBridges (λ (l : List Listed). bridgeTests (length l)) listedIn bridgeRecord unusedBridge file from bridges all count at
+  pub so : SoFar bridge-tag mostBridges (λ (l : List Listed). bridgeTests (length l)) listedIn bridgeRecord unusedBridge file from bridges all count at
   pub ranges : T (allOf listedInRange bridges)
 
 pub no-bridges : (file : List ℕ) (from : ℕ) (unused : BridgeRecord) → from ≤ length file → unused ≡ unusedBridge
@@ -122,7 +123,7 @@ pub no-bridges : (file : List ℕ) (from : ℕ) (unused : BridgeRecord) → from
 unfolding allOf
 no-bridges file from unused h e = record {
   bridges = [];
-  so = none-yet 4 mostBridges (λ (l : List Listed). bridgeTests (length l)) listedIn bridgeRecord unusedBridge file from unused h e;
+  so = none-yet bridge-tag mostBridges (λ (l : List Listed). bridgeTests (length l)) listedIn bridgeRecord unusedBridge file from unused h e;
   ranges = tt;
 }
 
@@ -140,11 +141,11 @@ module _ {file : List ℕ} {from : ℕ} {all : List BridgeRecord} {count at : �
     ranges = sofar .ranges;
   }
 
-  pub bridges-stop : NextIs file at 4 Other → BridgesRead file from (record { refusal = Nothing; at = at; count = count; all = all })
+  pub bridges-stop : NextIs file at bridge-tag Other → BridgesRead file from (record { refusal = Nothing; at = at; count = count; all = all })
   unfolding verdictOf numberedVerdict refusalNumber refusalPlace
   bridges-stop other = bridges-read Nothing (stops (sofar .so) other)
 
-  module _ (f : FieldRecord) (here : FieldAt file at f) (own : f .tag ≡ 4) (r : Refusal)
+  module _ (f : FieldRecord) (here : FieldAt file at f) (own : tagOf (f .tag) ≡ bridge-tag) (r : Refusal)
       (verdict : verdictOf r ≡ firstOf (bridgeTests count (f .at) (bodyOf file f))) where
     of-length : verdictOf r ≡ firstOf (bridgeTests (length (sofar .bridges)) (f .at) (bodyOf file f))
     of-length = verdict ∙ ap (λ (n : ℕ). firstOf (bridgeTests n (f .at) (bodyOf file f))) (sofar .so .counted)

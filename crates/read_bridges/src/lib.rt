@@ -3,6 +3,7 @@ pub mod lists;
 
 use circuit::Bridge;
 use circuit::limits::MOST_BRIDGES;
+use circuit::order::Kind;
 use circuit::refusal::Refusal;
 use circuit::refusal::or_if;
 use circuit::refusal::refuses;
@@ -92,7 +93,7 @@ pub fn read_bridges(file: &[u8], from: usize) -> Bridges
     let mut count: usize = 0;
     let mut at = from;
     loop {
-        let Next::Found(f) = field_of(file, at, 4) else {
+        let Next::Found(f) = field_of(file, at, Kind::Bridge) else {
             return Bridges {
                 refusal: Refusal::Nothing,
                 at,

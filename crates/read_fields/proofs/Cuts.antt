@@ -1,5 +1,5 @@
 -- The cut of a file at an offset, by what stands there: the end, no whole field, or a field with the cut behind it.
--- With it the step of a stage: at a field of its own tag, and at anything else.
+-- With it the step of a stage: at a field of its own kind, and at anything else.
 use Prim.Native.Nat.{ℕ, zero, suc, _+_, _-_, _<_, _≤_}
 use mathlib.Core.Path.{_≡_, refl, sym, ap, _∙_}
 use mathlib.Core.Bool.{Bool, true, false, cond}
@@ -9,8 +9,10 @@ use borrow.Author.Tests.{ltb-false, lt-ltb, le-ltb, eq-eqb, ne-eqb}
 use lib.Dec.{eqb, ltb}
 use lib.ListN.{length, getD, take, drop}
 use Rattle.circuit.specs.Fields.{Field, Cut, clean, broken, field, cutIn, cutFrom, twoBytes}
+use Rattle.circuit.specs.Order.{Tag, tagOf}
 use Rattle.circuit.specs.Table.{Test, firstOf}
 use Rattle.circuit.specs.Stages.{stopped, ifPasses, section}
+use Rattle.circuit.proofs.OrderLaws.{is-kind, not-kind}
 use Rattle.read_fields.specs.Steps.{bodyOf, fieldIn, FieldAt, NextIs}
 use Rattle.read_fields.specs.declared.Field.{Field as FieldRecord}
 use Rattle.read_fields.specs.declared.Next.the-variants.{Other}
@@ -76,21 +78,21 @@ module _ (file : List ℕ) (at : ℕ) where
       cut-step (omega arith)
       ∙ rw (ne-eqb at (length file) (omega arith), le-ltb (length file) (at + 3) (omega arith), le-ltb (length file) (behind file at) h)
 
-module _ {A : Type 0} (tag : ℕ) (tests : A → ℕ → List ℕ → List Test) (add : A → List ℕ → A) (sofar : A) (file : List ℕ) (at : ℕ) where
-  -- a stage at a field of its tag
-  pub section-step : (f : FieldRecord) → FieldAt file at f → f .tag ≡ tag
-      → section tag tests add sofar (cutFrom file at)
+module _ {A : Type 0} (kind : Tag) (tests : A → ℕ → List ℕ → List Test) (add : A → List ℕ → A) (sofar : A) (file : List ℕ) (at : ℕ) where
+  -- a stage at a field of its kind
+  pub section-step : (f : FieldRecord) → FieldAt file at f → tagOf (f .tag) ≡ kind
+      → section kind tests add sofar (cutFrom file at)
       ≡ ifPasses (firstOf (tests sofar (f .at) (bodyOf file f))) sofar (cutFrom file at)
-      (section tag tests add (add sofar (bodyOf file f)) (cutFrom file (f .body + f .len)))
+      (section kind tests add (add sofar (bodyOf file f)) (cutFrom file (f .body + f .len)))
   unfolding section fieldIn
-  section-step f here own = rw (here .cut, eq-eqb (f .tag) tag own)
+  section-step f here own = rw (here .cut, is-kind kind (tagOf (f .tag)) own)
 
-  -- a stage where no field of its tag stands
-  pub section-stop : NextIs file at tag Other → section tag tests add sofar (cutFrom file at) ≡ stopped sofar (cutFrom file at)
+  -- a stage where no field of its kind stands
+  pub section-stop : NextIs file at kind Other → section kind tests add sofar (cutFrom file at) ≡ stopped sofar (cutFrom file at)
   unfolding NextIs section
   section-stop other = go (cutFrom file at) refl
     where
-      go : (cut : Cut) → cutFrom file at ≡ cut → section tag tests add sofar cut ≡ stopped sofar cut
+      go : (cut : Cut) → cutFrom file at ≡ cut → section kind tests add sofar cut ≡ stopped sofar cut
       go clean e = refl
       go (broken place) e = refl
-      go (field f rest) e = rw (ne-eqb (f .tag) tag (other f rest e))
+      go (field f rest) e = rw (not-kind kind (tagOf (f .tag)) (other f rest e))

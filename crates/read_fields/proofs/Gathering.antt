@@ -1,5 +1,5 @@
 -- A stage that gathers a list: the elements read so far stand in the code's array, and what is left of the stage begins behind them.
--- It stops where no field of its tag stands, fails where a test of the field refuses, and otherwise has one element more.
+-- It stops where no field of its kind stands, fails where a test of the field refuses, and otherwise has one element more.
 use Prim.Native.Nat.{ℕ, _+_, _<_, _≤_}
 use mathlib.Core.Path.{_≡_, refl, sym, ap, _∙_}
 use mathlib.Core.Bool.{true}
@@ -7,6 +7,7 @@ use mathlib.Core.List.{List, [], _∷_, _++_, map, map-append}
 use native.Mathlib.Omega.{arith}
 use lib.ListN.{length, set, replicate, length-append, length-map}
 use Rattle.circuit.specs.Fields.{Cut, cutFrom}
+use Rattle.circuit.specs.Order.{Tag, tagOf}
 use Rattle.circuit.specs.Table.{Test, Verdict, passes, refusedAt, firstOf}
 use Rattle.circuit.specs.Records.{padded}
 use Rattle.circuit.specs.Verdicts.{isRefused}
@@ -22,10 +23,10 @@ unfolding isRefused ifPasses
 refused-here passes a cut more e = cc
 refused-here (refusedAt n p) a cut more e = refl
 
--- fields with one tag, of whose bodies elements are made; `shown` is an element's record, and `none` stands in unused places
-module _ {A R : Type 0} (tag most : ℕ) (tests : List A → ℕ → List ℕ → List Test) (make : List ℕ → A) (shown : A → R) (none : R) where
+-- fields of one kind, of whose bodies elements are made; `shown` is an element's record, and `none` stands in unused places
+module _ {A R : Type 0} (kind : Tag) (most : ℕ) (tests : List A → ℕ → List ℕ → List Test) (make : List ℕ → A) (shown : A → R) (none : R) where
   abbrev pub gather : List A → Cut → Stage (List A)
-  gather = section tag tests (λ (as′ : List A) (body : List ℕ). as′ ++ (make body ∷ []))
+  gather = section kind tests (λ (as′ : List A) (body : List ℕ). as′ ++ (make body ∷ []))
 
   -- the elements between two offsets of a file, and the code's array, count and offset
   pub record SoFar (file : List ℕ) (from : ℕ) (as′ : List A) (all : List R) (count at : ℕ) : Type 0 where
@@ -44,27 +45,27 @@ module _ {A R : Type 0} (tag most : ℕ) (tests : List A → ℕ → List ℕ �
     is = ap (replicate most) e ∙ sym (padded-nil none most);
   }
 
-module _ {A R : Type 0} {tag most : ℕ} {tests : List A → ℕ → List ℕ → List Test} {make : List ℕ → A} {shown : A → R} {none : R}
+module _ {A R : Type 0} {kind : Tag} {most : ℕ} {tests : List A → ℕ → List ℕ → List Test} {make : List ℕ → A} {shown : A → R} {none : R}
     {file : List ℕ} {from : ℕ} {as′ : List A} {all : List R} {count at : ℕ}
-    (so : SoFar tag most tests make shown none file from as′ all count at) where
+    (so : SoFar kind most tests make shown none file from as′ all count at) where
   abbrev add : List A → List ℕ → List A
   add l body = l ++ (make body ∷ [])
 
-  pub stops : NextIs file at tag Other → section tag tests add [] (cutFrom file from) ≡ stopped as′ (cutFrom file at)
-  stops other = so .stage ∙ section-stop tag tests add as′ file at other
+  pub stops : NextIs file at kind Other → section kind tests add [] (cutFrom file from) ≡ stopped as′ (cutFrom file at)
+  stops other = so .stage ∙ section-stop kind tests add as′ file at other
 
-  module _ (f : FieldRecord) (here : FieldAt file at f) (own : f .tag ≡ tag) (v : Verdict)
+  module _ (f : FieldRecord) (here : FieldAt file at f) (own : tagOf (f .tag) ≡ kind) (v : Verdict)
       (verdict : v ≡ firstOf (tests as′ (f .at) (bodyOf file f))) where
-    stepped : section tag tests add [] (cutFrom file from)
-        ≡ ifPasses v as′ (cutFrom file at) (section tag tests add (add as′ (bodyOf file f)) (cutFrom file (f .body + f .len)))
-    stepped = so .stage ∙ section-step tag tests add as′ file at f here own ∙ rw (← verdict)
+    stepped : section kind tests add [] (cutFrom file from)
+        ≡ ifPasses v as′ (cutFrom file at) (section kind tests add (add as′ (bodyOf file f)) (cutFrom file (f .body + f .len)))
+    stepped = so .stage ∙ section-step kind tests add as′ file at f here own ∙ rw (← verdict)
 
-    pub fails : isRefused v ≡ true → section tag tests add [] (cutFrom file from) ≡ stageOf v as′ (cutFrom file at)
+    pub fails : isRefused v ≡ true → section kind tests add [] (cutFrom file from) ≡ stageOf v as′ (cutFrom file at)
     fails e =
-        stepped ∙ refused-here v as′ (cutFrom file at) (section tag tests add (add as′ (bodyOf file f)) (cutFrom file (f .body + f .len))) e
+        stepped ∙ refused-here v as′ (cutFrom file at) (section kind tests add (add as′ (bodyOf file f)) (cutFrom file (f .body + f .len))) e
 
     pub one-more : v ≡ passes → count < most
-        → SoFar tag most tests make shown none file from (add as′ (bodyOf file f)) (set all count (shown (make (bodyOf file f)))) (count + 1) (f .body + f .len)
+        → SoFar kind most tests make shown none file from (add as′ (bodyOf file f)) (set all count (shown (make (bodyOf file f)))) (count + 1) (f .body + f .len)
     unfolding ifPasses
     one-more e room =
         let a : A = make (bodyOf file f) in

@@ -5,6 +5,7 @@ use mathlib.Core.List.{List}
 use denote.Ref.{now}
 use lib.ListN.{length, take, drop}
 use Rattle.circuit.specs.Fields.{Field, Cut, clean, broken, field, cutFrom}
+use Rattle.circuit.specs.Order.{Tag, tagOf}
 use Rattle.read_fields.specs.declared.cursor.Reader.{Reader}
 use Rattle.read_fields.specs.declared.Field.{Field as FieldRecord}
 use Rattle.read_fields.specs.declared.Step.{Step}
@@ -32,9 +33,9 @@ StepIs file at (Whole f) = FieldAt file at f
 StepIs file at Broken = cutFrom file at ≡ broken at
 StepIs file at End = cutFrom file at ≡ clean
 
-unfoldable pub NextIs : List ℕ → ℕ → ℕ → Next → Type 0
-NextIs file at tag (Found f) = FieldAt file at f × (f .tag ≡ tag)
-NextIs file at tag Other = (f : Field) (rest : Cut) → cutFrom file at ≡ field f rest → f .tag ≡ tag → ⊥
+unfoldable pub NextIs : List ℕ → ℕ → Tag → Next → Type 0
+NextIs file at kind (Found f) = FieldAt file at f × (tagOf (f .tag) ≡ kind)
+NextIs file at kind Other = (f : Field) (rest : Cut) → cutFrom file at ≡ field f rest → tagOf (f .tag) ≡ kind → ⊥
 
 -- ---- a step of the reader
 

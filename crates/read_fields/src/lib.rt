@@ -3,10 +3,13 @@ mod cursor;
 
 use crate::cursor::next;
 use crate::cursor::reader_at;
+use circuit::order::Kind;
+use circuit::order::is_kind;
 ghost use mathlib.Core.Path.{_≡_};
 ghost use Prim.Native.Nat.{_+_, _≤_};
 ghost use lib.ListN.{length, getD};
 ghost use Rattle.circuit.specs.Fields.{twoBytes};
+ghost use Rattle.circuit.specs.Kinds.{kindTag};
 ghost use Rattle.read_fields.specs.Steps.{bodyOf, StepIs, NextIs};
 
 // A whole field: the offset of its tag byte, its tag, and where its body starts and how long that is.
@@ -24,7 +27,7 @@ pub enum Step {
     End,
 }
 
-// What stands at an offset, where a field with one tag is looked for.
+// What stands at an offset, where a field of one kind is looked for.
 pub enum Next {
     Found(Field),
     Other,
@@ -39,14 +42,14 @@ pub fn step_at(file: &[u8], at: usize) -> Step
     next(&mut reader)
 }
 
-pub fn field_of(file: &[u8], at: usize, tag: u8) -> Next
+pub fn field_of(file: &[u8], at: usize, kind: Kind) -> Next
     requires { ⌜ at ≤ length (now file) ⌝ }
-    ensures { λ r. ⌜ NextIs (now (file .entry)) at tag r ⌝ }
+    ensures { λ r. ⌜ NextIs (now (file .entry)) at (kindTag kind) r ⌝ }
 {
     let Step::Whole(f) = step_at(file, at) else {
         return Next::Other;
     };
-    if f.tag == tag {
+    if is_kind(f.tag, kind) {
         return Next::Found(f);
     }
     Next::Other

@@ -6,7 +6,7 @@ use mathlib.Core.Bool.{Bool, true, false, cond, not, _&&_}
 use mathlib.Core.List.{List, [], _∷_}
 use native.Mathlib.Decide.{decLt}
 use native.Mathlib.Omega.{arith}
-use borrow.Author.Tests.{eq-eqb, ne-eqb, lt-ltb, le-ltb, lt-leb, le-leb, leb-true, not-false}
+use borrow.Author.Tests.{lt-ltb, le-ltb, lt-leb, le-leb, leb-true, not-false}
 use lib.Dec.{eqb, leb, ltb}
 use lib.ListN.{length, replicate}
 use Rattle.switch.specs.Conduction.{Value, between}
@@ -14,8 +14,8 @@ use Rattle.switch.specs.Modules.{ModuleType}
 use Rattle.circuit.specs.Limits.{mostBytes, mostTypes, mostBridges, mostInstances, mostVectors}
 use Rattle.circuit.specs.Fields.{Cut, clean, broken, field, cutFrom, twoBytes}
 use Rattle.circuit.specs.Circuit.{Circuit, Instance, Listed, faultCount}
-use Rattle.circuit.specs.Known.{tagOf}
-use Rattle.circuit.specs.Table.{Verdict, passes, refusedAt, firstOf, test, isEmpty, isUnknown, inputsTests}
+use Rattle.circuit.specs.Order.{inputs-tag, tagOf, isUnknown}
+use Rattle.circuit.specs.Table.{Verdict, passes, refusedAt, firstOf, test, isEmpty, inputsTests}
 use Rattle.circuit.specs.Reading.{Reading, accepted, refusal, unless, readingOf}
 use Rattle.circuit.specs.Records.{unusedType, unusedBridge, unusedInstance, unusedVector, circuitRecord, emptyCircuit}
 use Rattle.circuit.specs.Refusals.{verdictOf}
@@ -47,6 +47,7 @@ use Rattle.read_file.specs.declared.read.Start.{Start}
 use Rattle.read_vectors.specs.declared.Vectors.{Vectors}
 use Rattle.circuit.proofs.Padding.{padded-nil}
 use Rattle.circuit.proofs.Verdicts.{first-passes}
+use Rattle.circuit.proofs.OrderLaws.{is-kind, not-kind}
 use Rattle.circuit.proofs.GatheredLaws.{gathered-is-before}
 use Rattle.read_fields.proofs.Cuts.{cut-clean}
 
@@ -224,13 +225,13 @@ told-accepted (refusal n p) r tells e = (tells, cc (e, ap isRefused tells))
 
 -- ---- how a file begins
 
-pub start-field : (file : List ℕ) (f : FieldRecord) → FieldAt file 0 f → f .tag ≡ 1
+pub start-field : (file : List ℕ) (f : FieldRecord) → FieldAt file 0 f → tagOf (f .tag) ≡ inputs-tag
     → fromStart (length file) (cutFrom file 0)
     ≡ unless (firstOf (inputsTests (f .at) (bodyOf file f))) (afterInputs (length file) (twoBytes (bodyOf file f) 0) (cutFrom file (f .body + f .len)))
 unfolding fromStart fieldIn
-start-field file f here own = rw (here .cut, eq-eqb (f .tag) 1 own)
+start-field file f here own = rw (here .cut, is-kind inputs-tag (tagOf (f .tag)) own)
 
-pub start-other : (file : List ℕ) → NextIs file 0 1 Other
+pub start-other : (file : List ℕ) → NextIs file 0 inputs-tag Other
     → fromStart (length file) (cutFrom file 0) ≡ unless (endingVerdict (length file) 0 0 (cutFrom file 0)) (accepted emptyCircuit)
 unfolding NextIs fromStart endingVerdict
 start-other file other = go (cutFrom file 0) refl
@@ -238,7 +239,7 @@ start-other file other = go (cutFrom file 0) refl
     go : (cut : Cut) → cutFrom file 0 ≡ cut → fromStart (length file) cut ≡ unless (endingVerdict (length file) 0 0 cut) (accepted emptyCircuit)
     go clean e = refl
     go (broken place) e = refl
-    go (field f rest) e = rw (ne-eqb (f .tag) 1 (other f rest e))
+    go (field f rest) e = rw (not-kind inputs-tag (tagOf (f .tag)) (other f rest e))
 
 -- with no instance and no vector there is always a refusal
 pub start-refused : (size : ℕ) (cut : Cut) → isRefused (endingVerdict size 0 0 cut) ≡ true
@@ -282,20 +283,20 @@ unfolding gatheredOf
 gathered-long file h = rw (lt-ltb mostBytes (length file) h)
 
 module _ (file : List ℕ) (short : length file ≤ mostBytes) where
-  pub gathered-other : NextIs file 0 1 Other → gatheredOf file ≡ emptyCircuit
+  pub gathered-other : NextIs file 0 inputs-tag Other → gatheredOf file ≡ emptyCircuit
   unfolding NextIs gatheredOf gatheredAtStart
   gathered-other other = rw (le-ltb mostBytes (length file) short) (go (cutFrom file 0) refl)
     where
       go : (cut : Cut) → cutFrom file 0 ≡ cut → gatheredAtStart cut ≡ emptyCircuit
       go clean e = refl
       go (broken place) e = refl
-      go (field f rest) e = rw (ne-eqb (f .tag) 1 (other f rest e))
+      go (field f rest) e = rw (not-kind inputs-tag (tagOf (f .tag)) (other f rest e))
 
-  pub gathered-field : (f : FieldRecord) → FieldAt file 0 f → f .tag ≡ 1
+  pub gathered-field : (f : FieldRecord) → FieldAt file 0 f → tagOf (f .tag) ≡ inputs-tag
       → gatheredOf file ≡ cond (isRefused (firstOf (inputsTests (f .at) (bodyOf file f)))) emptyCircuit
       (gatheredFrom (twoBytes (bodyOf file f) 0) (cutFrom file (f .body + f .len)))
   unfolding gatheredOf gatheredAtStart fieldIn
-  gathered-field f here own = rw (le-ltb mostBytes (length file) short, here .cut, eq-eqb (f .tag) 1 own)
+  gathered-field f here own = rw (le-ltb mostBytes (length file) short, here .cut, is-kind inputs-tag (tagOf (f .tag)) own)
 
 -- ---- the number of inputs
 

@@ -1,4 +1,6 @@
 // The end of a file: after the last vector nothing may stand, and an instance and a vector must have been there.
+use circuit::order::Kind;
+use circuit::order::is_kind;
 use circuit::refusal::Refusal;
 use read_fields::Step;
 use read_fields::step_at;
@@ -6,6 +8,7 @@ ghost use mathlib.Core.Path.{_≡_};
 ghost use Prim.Native.Nat.{_≤_};
 ghost use lib.ListN.{length};
 ghost use Rattle.circuit.specs.Fields.{cutFrom};
+ghost use Rattle.circuit.specs.Order.{tagOf};
 ghost use Rattle.circuit.specs.Refusals.{verdictOf};
 ghost use Rattle.circuit.specs.Stages.{endedVerdict, pastVerdict, endingVerdict};
 
@@ -22,9 +25,9 @@ fn at_end(size: usize, instances: usize, vectors: usize) -> Refusal
 }
 
 fn at_field(tag: u8, at: usize) -> Refusal
-    ensures { λ r. ⌜ verdictOf r ≡ pastVerdict tag at ⌝ }
+    ensures { λ r. ⌜ verdictOf r ≡ pastVerdict (tagOf tag) at ⌝ }
 {
-    if tag < 1 || 6 < tag {
+    if is_kind(tag, Kind::Unknown) {
         return Refusal::UnknownTag(at);
     }
     Refusal::Misplaced(at)

@@ -7,6 +7,7 @@ use circuit::limits::MOST_BYTES;
 use circuit::limits::MOST_INSTANCES;
 use circuit::limits::MOST_TYPES;
 use circuit::limits::MOST_VECTORS;
+use circuit::order::Kind;
 use circuit::refusal::Refusal;
 use circuit::refusal::or_if;
 use circuit::refusal::refuses;
@@ -132,7 +133,7 @@ fn read_start(file: &[u8]) -> Start
     if MOST_BYTES < file.len() {
         return refused_at_start(file, Refusal::TooLong);
     }
-    let Next::Found(f) = field_of(file, 0, 1) else {
+    let Next::Found(f) = field_of(file, 0, Kind::Inputs) else {
         return refused_at_start(file, ending(file, 0, 0, 0));
     };
     let refusal = inputs_verdict(file, f);

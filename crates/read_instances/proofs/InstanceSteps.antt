@@ -8,6 +8,7 @@ use lib.ListN.{length, set, replicate}
 use Rattle.switch.specs.Modules.{ModuleType}
 use Rattle.circuit.specs.Limits.{mostInstances}
 use Rattle.circuit.specs.Fields.{cutFrom}
+use Rattle.circuit.specs.Order.{instance-tag, tagOf}
 use Rattle.circuit.specs.Circuit.{Instance, Listed, typeOfInstance, chosenSize, faultCount}
 use Rattle.circuit.specs.Known.{instanceIn}
 use Rattle.circuit.specs.Table.{Test, passes, firstOf, instanceTests}
@@ -33,7 +34,7 @@ testsAfter P types bridges is = instanceTests (readTo P types bridges is)
 pub record InstancesSoFar (file : List ℕ) (from P : ℕ) (types : List ModuleType) (bridges : List Listed) (all : List InstanceRecord)
     (count faults at : ℕ) : Type 0 where
   pub instances : List Instance
-  pub so : SoFar 5 mostInstances (testsAfter P types bridges) instanceIn instanceRecord unusedInstance file from instances all count at
+  pub so : SoFar instance-tag mostInstances (testsAfter P types bridges) instanceIn instanceRecord unusedInstance file from instances all count at
   pub summed : faults ≡ faultCount types bridges instances
 
 -- so of all types and bridges that the code's columns and sums tell
@@ -49,7 +50,7 @@ pub no-instances : (file : List ℕ) (from P : ℕ) (types : List ModuleType) (b
 unfolding faultCount
 no-instances file from P types bridges unused h e = record {
   instances = [];
-  so = none-yet 5 mostInstances (testsAfter P types bridges) instanceIn instanceRecord unusedInstance file from unused h e;
+  so = none-yet instance-tag mostInstances (testsAfter P types bridges) instanceIn instanceRecord unusedInstance file from unused h e;
   summed = refl;
 }
 
@@ -68,12 +69,12 @@ module _ {file : List ℕ} {from P : ℕ} {types : List ModuleType} {bridges : L
     all = sofar .so .is;
   }
 
-  pub instances-stop : NextIs file at 5 Other
+  pub instances-stop : NextIs file at instance-tag Other
       → InstancesRead file from P types bridges (record { refusal = Nothing; at = at; count = count; faults = faults; all = all })
   unfolding verdictOf numberedVerdict refusalNumber refusalPlace
   instances-stop other = instances-read Nothing (stops (sofar .so) other)
 
-  module _ (f : FieldRecord) (here : FieldAt file at f) (own : f .tag ≡ 5) (r : Refusal)
+  module _ (f : FieldRecord) (here : FieldAt file at f) (own : tagOf (f .tag) ≡ instance-tag) (r : Refusal)
       (verdict : verdictOf r ≡ firstOf (testsAfter P types bridges (sofar .instances) (f .at) (bodyOf file f))) where
     abbrev one : Instance
     one = instanceIn (bodyOf file f)

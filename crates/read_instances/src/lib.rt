@@ -15,6 +15,7 @@ use circuit::Reference;
 use circuit::limits::MOST_FAULTS;
 use circuit::limits::MOST_INSTANCES;
 use circuit::limits::MOST_TYPES;
+use circuit::order::Kind;
 use circuit::refusal::Refusal;
 use circuit::refusal::or_if;
 use circuit::refusal::refuses;
@@ -186,7 +187,7 @@ pub fn read_instances(
     let mut faults: usize = 0;
     let mut at = from;
     loop {
-        let Next::Found(f) = field_of(file, at, 5) else {
+        let Next::Found(f) = field_of(file, at, Kind::Instance) else {
             return instances_read(Refusal::Nothing, at, count, faults, all);
         };
         let number = byte(file, f, 0);

@@ -15,6 +15,7 @@ use Rattle.switch.specs.declared.ModuleType.{ModuleType as TypeRecord}
 use Rattle.switch.proofs.Deciding.{and-both}
 use Rattle.circuit.specs.Limits.{mostTypes, mostEdges}
 use Rattle.circuit.specs.Fields.{Cut, clean, cutFrom}
+use Rattle.circuit.specs.Order.{type-tag, edge-tag}
 use Rattle.circuit.specs.Known.{typeIn, edgeIn, withEdge}
 use Rattle.circuit.specs.Table.{Verdict, passes, refusedAt, firstOf, typeTests, edgeTests, edgeTestsOf}
 use Rattle.circuit.specs.Records.{padded, unusedType, edgeRecord, typeRecord}
@@ -83,11 +84,11 @@ module _ (file : List ℕ) (from : ℕ) (bare : TypeRecord) where
   }
 
   module _ (r : TypeRecord) (at : ℕ) (sofar : EdgesSoFar file from bare r at) where
-    pub edges-stop : NextIs file at 3 Other → EdgesRead file from bare (record { refusal = Nothing; at = at; «module_type» = r })
+    pub edges-stop : NextIs file at edge-tag Other → EdgesRead file from bare (record { refusal = Nothing; at = at; «module_type» = r })
     unfolding NextIs verdictOf refusalNumber refusalPlace numberedVerdict
     edges-stop other = record {
       type = sofar .type;
-      stage = sofar .stage ∙ section-stop 3 edgeTests plusEdge (sofar .type) file at other;
+      stage = sofar .stage ∙ section-stop edge-tag edgeTests plusEdge (sofar .type) file at other;
       place = sofar .place;
       ranges = sofar .ranges;
       within = sofar .within;
@@ -95,7 +96,7 @@ module _ (file : List ℕ) (from : ℕ) (bare : TypeRecord) where
       is = sofar .is;
     }
 
-    module _ (f : FieldRecord) (here : NextIs file at 3 (Found f)) (v : Refusal)
+    module _ (f : FieldRecord) (here : NextIs file at edge-tag (Found f)) (v : Refusal)
         (tested : verdictOf v ≡ firstOf (edgeTestsOf (r .highest) (r .output) (r .labels) (r .count) (f .at) (bodyOf file f))) where
       verdict-is : verdictOf v ≡ firstOf (edgeTests (sofar .type) (f .at) (bodyOf file f))
       verdict-is = tested ∙ ap firstOf (tests-of-record r (sofar .type) (sofar .is) (f .at) (bodyOf file f))
@@ -106,7 +107,7 @@ module _ (file : List ℕ) (from : ℕ) (bare : TypeRecord) where
           (edgeStage (withEdge (sofar .type) (edgeIn (bodyOf file f))) (cutFrom file (f .body + f .len)))
       unfolding NextIs
       stage-here =
-          sofar .stage ∙ section-step 3 edgeTests plusEdge (sofar .type) file at f (here .0) (here .1)
+          sofar .stage ∙ section-step edge-tag edgeTests plusEdge (sofar .type) file at f (here .0) (here .1)
 
       pub edges-refused : isRefused (verdictOf v) ≡ true → EdgesRead file from bare (record { refusal = v; at = at; «module_type» = r })
       edges-refused e = record {
@@ -260,11 +261,11 @@ module _ (file : List ℕ) (from : ℕ) where
       good = sofar .good;
     }
 
-    pub types-stop : NextIs file at 2 Other → TypesRead file from (record { refusal = Nothing; at = at; count = count; all = all })
+    pub types-stop : NextIs file at type-tag Other → TypesRead file from (record { refusal = Nothing; at = at; count = count; all = all })
     unfolding verdictOf refusalNumber refusalPlace numberedVerdict
     types-stop other = ended Nothing (type-stop (sofar .types) (sofar .latest) file at (sofar .settled) other)
 
-    module _ (f : FieldRecord) (here : NextIs file at 2 (Found f)) (v : Refusal)
+    module _ (f : FieldRecord) (here : NextIs file at type-tag (Found f)) (v : Refusal)
         (tested : verdictOf v ≡ firstOf (typeTests count (f .at) (bodyOf file f))) where
       type-tested : verdictOf v ≡ firstOf (typeTests (length (sofar .types)) (f .at) (bodyOf file f))
       type-tested = tested ∙ ap (λ (n : ℕ). firstOf (typeTests n (f .at) (bodyOf file f))) (sofar .counted)

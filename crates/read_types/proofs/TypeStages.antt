@@ -4,8 +4,7 @@ use mathlib.Core.Path.{_≡_, refl, sym, ap, _∙_}
 use mathlib.Core.Bool.{Bool, true, false, cond, not, _&&_}
 use mathlib.Core.List.{List, [], _∷_, _++_}
 use native.Mathlib.Omega.{arith}
-use borrow.Author.Tests.{eq-eqb, ne-eqb}
-use lib.Dec.{T, eqb}
+use lib.Dec.{T}
 use lib.ListN.{length, length-append}
 use lib.Seq.{getD-append-seam, set-append-seam, take-append-seam}
 use Rattle.switch.specs.Conduction.{Edge}
@@ -13,11 +12,13 @@ use Rattle.switch.specs.Modules.{ModuleType}
 use Rattle.switch.specs.Deciding.{isComplementary}
 use Rattle.circuit.specs.Fields.{Field, Cut, clean, broken, field, cutFrom}
 use Rattle.circuit.specs.Circuit.{noType}
+use Rattle.circuit.specs.Order.{type-tag, edge-tag, tagOf, isEdge}
 use Rattle.circuit.specs.Known.{typeIn, edgeIn, latest, withEdge, edgeAdded}
 use Rattle.circuit.specs.Table.{Verdict, passes, refusedAt, firstOf, notComplementary, isEmpty, typeTests, edgeTests}
 use Rattle.circuit.specs.Verdicts.{isRefused}
 use Rattle.circuit.specs.Before.{typesBefore}
 use Rattle.circuit.specs.Stages.{Stage, stopped, ifPasses, section, edgeStage, failingVerdict, judged, fieldPlace, typeStage}
+use Rattle.circuit.proofs.OrderLaws.{is-kind, not-kind}
 use Rattle.circuit.proofs.GatheredLaws.{failing-refuses}
 use Rattle.read_fields.specs.Steps.{bodyOf, fieldIn, FieldAt, NextIs}
 use Rattle.read_fields.specs.declared.Field.{Field as FieldRecord}
@@ -61,9 +62,9 @@ pub edges-first : (types : List ModuleType) (t : ModuleType) (from cut : Cut)
 unfolding section typeStage ifPasses
 edges-first types t from clean = refl
 edges-first types t from (broken at) = refl
-edges-first types t from (field f rest) = go (eqb (f .tag) 3) refl (edges-first types (withEdge t (edgeIn (f .body))) from rest)
+edges-first types t from (field f rest) = go (isEdge (tagOf (f .tag))) refl (edges-first types (withEdge t (edgeIn (f .body))) from rest)
   where
-    go : (b : Bool) → eqb (f .tag) 3 ≡ b
+    go : (b : Bool) → isEdge (tagOf (f .tag)) ≡ b
         → typeStage (types ++ (withEdge t (edgeIn (f .body)) ∷ [])) from rest ≡ afterEdges types from (edgeStage (withEdge t (edgeIn (f .body))) rest)
         → typeStage (types ++ (t ∷ [])) from (field f rest) ≡ afterEdges types from (edgeStage t (field f rest))
     go true e later =
@@ -86,7 +87,7 @@ failing-leaves typeAt cut a from s u = refused-leaves (failingVerdict typeAt cut
 
 -- where no edge stands the latest type is judged before anything else
 abbrev pub NoEdge : Cut → Type 0
-NoEdge cut = (f : Field) (rest : Cut) → cut ≡ field f rest → f .tag ≡ 3 → ⊥
+NoEdge cut = (f : Field) (rest : Cut) → cut ≡ field f rest → tagOf (f .tag) ≡ edge-tag → ⊥
 
 judged-latest : (types : List ModuleType) (t : ModuleType) (typeAt : ℕ) (cut : Cut)
     → judged (types ++ (t ∷ [])) typeAt cut ≡ cond (not (isComplementary t)) (failingVerdict typeAt cut) passes
@@ -102,7 +103,7 @@ failing-stage types t from clean none e s =
 failing-stage types t from (broken at) none e s =
     rw (judged-latest types t (fieldPlace from) (broken at), e, before-snoc types t) (failing-leaves (fieldPlace from) (broken at) types from _ s)
 failing-stage types t from (field f rest) none e s =
-    rw (ne-eqb (f .tag) 3 (none f rest refl), judged-latest types t (fieldPlace from) (field f rest), e, before-snoc types t)
+    rw (not-kind edge-tag (tagOf (f .tag)) (none f rest refl), judged-latest types t (fieldPlace from) (field f rest), e, before-snoc types t)
     (failing-leaves (fieldPlace from) (field f rest) types from _ s)
 
 -- ---- types that are judged, before what stands next
@@ -110,11 +111,11 @@ failing-stage types t from (field f rest) none e s =
 -- every type is complementary, and what stands next is no edge of the latest type
 pub record Settled (types : List ModuleType) (cut : Cut) : Type 0 where
   pub sound : (typeAt : ℕ) → judged types typeAt cut ≡ passes
-  pub no-edge : (f : Field) (rest : Cut) → cut ≡ field f rest → (eqb (f .tag) 3 && not (isEmpty types)) ≡ false
+  pub no-edge : (f : Field) (rest : Cut) → cut ≡ field f rest → (isEdge (tagOf (f .tag)) && not (isEmpty types)) ≡ false
 
 pub settled-none : (cut : Cut) → Settled [] cut
 unfolding judged isEmpty
-settled-none cut = record { sound = λ typeAt. refl; no-edge = λ f rest e. never (eqb (f .tag) 3) }
+settled-none cut = record { sound = λ typeAt. refl; no-edge = λ f rest e. never (isEdge (tagOf (f .tag))) }
   where
     never : (b : Bool) → (b && false) ≡ false
     never true = refl
@@ -123,7 +124,7 @@ settled-none cut = record { sound = λ typeAt. refl; no-edge = λ f rest e. neve
 pub settled-more : (types : List ModuleType) (t : ModuleType) (cut : Cut) → T (isComplementary t) → NoEdge cut → Settled (types ++ (t ∷ [])) cut
 settled-more types t cut p none = record {
   sound = λ typeAt. judged-latest types t typeAt cut ∙ rw (is-true (isComplementary t) p);
-  no-edge = λ f rest e. rw (ne-eqb (f .tag) 3 (none f rest e));
+  no-edge = λ f rest e. rw (not-kind edge-tag (tagOf (f .tag)) (none f rest e));
 }
   where
     is-true : (b : Bool) → T b → b ≡ true
@@ -132,7 +133,7 @@ settled-more types t cut p none = record {
 
 module _ (types : List ModuleType) (from : Cut) (file : List ℕ) (at : ℕ) (settled : Settled types (cutFrom file at)) where
   -- at a type
-  pub type-step : (f : FieldRecord) → FieldAt file at f → f .tag ≡ 2
+  pub type-step : (f : FieldRecord) → FieldAt file at f → tagOf (f .tag) ≡ type-tag
       → typeStage types from (cutFrom file at)
       ≡ ifPasses (firstOf (typeTests (length types) (f .at) (bodyOf file f))) types (cutFrom file at)
       (typeStage (types ++ (typeIn (bodyOf file f) ∷ [])) (cutFrom file at) (cutFrom file (f .body + f .len)))
@@ -140,14 +141,14 @@ module _ (types : List ModuleType) (from : Cut) (file : List ℕ) (at : ℕ) (se
   type-step f here own =
       let cut : Cut = field (fieldIn file f) (cutFrom file (f .body + f .len)) in
       let sound : judged types (fieldPlace from) cut ≡ passes = rw (here .cut) at (settled .sound (fieldPlace from)) in
-      rw (here .cut, settled .no-edge (fieldIn file f) (cutFrom file (f .body + f .len)) (here .cut), sound, eq-eqb (f .tag) 2 own)
+      rw (here .cut, settled .no-edge (fieldIn file f) (cutFrom file (f .body + f .len)) (here .cut), sound, is-kind type-tag (tagOf (f .tag)) own)
 
   -- at anything else
-  pub type-stop : NextIs file at 2 Other → typeStage types from (cutFrom file at) ≡ stopped types (cutFrom file at)
+  pub type-stop : NextIs file at type-tag Other → typeStage types from (cutFrom file at) ≡ stopped types (cutFrom file at)
   unfolding NextIs typeStage ifPasses
   type-stop other = go (cutFrom file at) refl (settled .sound (fieldPlace from))
     where
       go : (cut : Cut) → cutFrom file at ≡ cut → judged types (fieldPlace from) cut ≡ passes → typeStage types from cut ≡ stopped types cut
       go clean e sound = rw sound
       go (broken place) e sound = rw sound
-      go (field f rest) e sound = rw (settled .no-edge f rest e, sound, ne-eqb (f .tag) 2 (other f rest e))
+      go (field f rest) e sound = rw (settled .no-edge f rest e, sound, not-kind type-tag (tagOf (f .tag)) (other f rest e))

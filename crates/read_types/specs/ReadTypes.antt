@@ -12,6 +12,7 @@ use Rattle.switch.specs.Deciding.{isComplementary}
 use Rattle.switch.specs.declared.ModuleType.{ModuleType as TypeRecord}
 use Rattle.circuit.specs.Limits.{mostTypes, mostEdges}
 use Rattle.circuit.specs.Fields.{Field, Cut, clean, field, cutFrom}
+use Rattle.circuit.specs.Order.{edge-tag, tagOf}
 use Rattle.circuit.specs.Table.{passes}
 use Rattle.circuit.specs.Records.{padded, unusedType, typeRecord}
 use Rattle.circuit.specs.Refusals.{verdictOf}
@@ -46,7 +47,8 @@ pub record EdgesRead (file : List ℕ) (from : ℕ) (bare : TypeRecord) (r : One
   pub place : r .at ≤ length file
   pub ranges : T (inRange type)
   pub within : length (type .edges) ≤ mostEdges
-  pub next : (f : Field) (rest : Cut) → verdictOf (r .refusal) ≡ passes → cutFrom file (r .at) ≡ field f rest → f .tag ≡ 3 → ⊥
+  pub next : (f : Field) (rest : Cut) → verdictOf (r .refusal) ≡ passes → cutFrom file (r .at) ≡ field f rest → tagOf (f .tag) ≡ edge-tag
+      → ⊥
   pub is : r .«module_type» ≡ typeRecord type
 
 -- a type with its edges, judged: it is refused, or it is complementary
@@ -60,7 +62,8 @@ pub record TypeRead (file : List ℕ) (f : FieldRecord) (r : OneType) : Type 0 w
       → typeStage (types ++ (typeIn (bodyOf file f) ∷ [])) from (cutFrom file (f .body + f .len))
       ≡ ifPasses (verdictOf (r .refusal)) types from (typeStage (types ++ (type ∷ [])) from (cutFrom file (r .at)))
   pub complementary : verdictOf (r .refusal) ≡ passes → T (isComplementary type)
-  pub next : (g : Field) (rest : Cut) → verdictOf (r .refusal) ≡ passes → cutFrom file (r .at) ≡ field g rest → g .tag ≡ 3 → ⊥
+  pub next : (g : Field) (rest : Cut) → verdictOf (r .refusal) ≡ passes → cutFrom file (r .at) ≡ field g rest → tagOf (g .tag) ≡ edge-tag
+      → ⊥
 
 -- the types from an offset on: each in range and complementary
 pub record TypesRead (file : List ℕ) (from : ℕ) (r : Types) : Type 0 where

@@ -1,5 +1,6 @@
 // The edges of a type: the fields with tag 3 right after it.
 use circuit::limits::MOST_EDGES;
+use circuit::order::Kind;
 use circuit::ranges::is_between;
 use circuit::refusal::Refusal;
 use circuit::refusal::or_if;
@@ -126,7 +127,7 @@ pub fn read_edges(file: &[u8], from: usize, bare: ModuleType) -> OneType
     let mut module_type = bare;
     let mut at = from;
     loop {
-        let Next::Found(f) = field_of(file, at, 3) else {
+        let Next::Found(f) = field_of(file, at, Kind::Edge) else {
             return OneType {
                 refusal: Refusal::Nothing,
                 at,

@@ -1,9 +1,11 @@
-// Types: each is a field with tag 2, followed at once by its edges, and is judged when its edges are read.
+// Types: each is a field, followed at once by its edges, and is judged when its edges are read.
 use crate::edges::OneType;
 use crate::edges::no_edge;
 use crate::edges::read_edges;
 use circuit::limits::MOST_EDGES;
 use circuit::limits::MOST_TYPES;
+use circuit::order::Kind;
+use circuit::order::is_kind;
 use circuit::ranges::is_between;
 use circuit::refusal::Refusal;
 use circuit::refusal::or_if;
@@ -22,6 +24,7 @@ ghost use lib.Dec.{T};
 ghost use lib.ListN.{length, getD};
 ghost use Rattle.switch.specs.Modules.{typeInRange};
 ghost use Rattle.circuit.specs.Fields.{cutFrom};
+ghost use Rattle.circuit.specs.Order.{tagOf};
 ghost use Rattle.circuit.specs.Known.{typeIn};
 ghost use Rattle.circuit.specs.Table.{firstOf, typeTests};
 ghost use Rattle.circuit.specs.Records.{unusedType, typeRecord};
@@ -80,12 +83,12 @@ fn type_in(file: &[u8], f: Field) -> ModuleType
 
 // The refusal of a type that is not complementary, before a field with this tag.
 fn failing_before(tag: u8, at: usize, type_at: usize) -> Refusal
-    ensures { λ r. ⌜ verdictOf r ≡ failingBefore tag at «type_at» ⌝ }
+    ensures { λ r. ⌜ verdictOf r ≡ failingBefore (tagOf tag) at «type_at» ⌝ }
 {
-    if tag < 1 || 6 < tag {
+    if is_kind(tag, Kind::Unknown) {
         return Refusal::UnknownTag(at);
     }
-    if tag == 1 {
+    if is_kind(tag, Kind::Inputs) {
         return Refusal::Misplaced(at);
     }
     Refusal::NotComplementary(type_at)
@@ -147,7 +150,7 @@ pub fn read_types(file: &[u8], from: usize) -> Types
     let mut count: usize = 0;
     let mut at = from;
     loop {
-        let Next::Found(f) = field_of(file, at, 2) else {
+        let Next::Found(f) = field_of(file, at, Kind::Module) else {
             return types_read(Refusal::Nothing, at, count, all);
         };
         let refusal = type_verdict(file, f, count);

@@ -18,6 +18,7 @@ use Rattle.switch.specs.Modules.{allOf}
 use Rattle.switch.specs.Promises.{isAt0, isAt1}
 use Rattle.circuit.specs.Limits.{mostVectors}
 use Rattle.circuit.specs.Fields.{cutFrom}
+use Rattle.circuit.specs.Order.{vector-tag, tagOf}
 use Rattle.circuit.specs.Known.{letterOf, vectorIn}
 use Rattle.circuit.specs.Table.{Test, test, passes, firstOf, isLetter, vectorTests}
 use Rattle.circuit.specs.Records.{unusedVector, vectorRecord}
@@ -172,13 +173,13 @@ vector-fits P count at body e =
 
 pub record VectorsSoFar (file : List ℕ) (from P : ℕ) (all : List VectorRecord) (count at : ℕ) : Type 0 where
   pub vectors : List (List Value)
-  pub so : SoFar 6 mostVectors (λ (vs : List (List Value)). vectorTests P (length vs)) vectorIn vectorRecord unusedVector file from vectors all count at
+  pub so : SoFar vector-tag mostVectors (λ (vs : List (List Value)). vectorTests P (length vs)) vectorIn vectorRecord unusedVector file from vectors all count at
 
 pub no-vectors : (file : List ℕ) (from P : ℕ) (unused : VectorRecord) → from ≤ length file → unused ≡ unusedVector
     → VectorsSoFar file from P (replicate mostVectors unused) 0 from
 no-vectors file from P unused h e = record {
   vectors = [];
-  so = none-yet 6 mostVectors (λ (vs : List (List Value)). vectorTests P (length vs)) vectorIn vectorRecord unusedVector file from unused h e;
+  so = none-yet vector-tag mostVectors (λ (vs : List (List Value)). vectorTests P (length vs)) vectorIn vectorRecord unusedVector file from unused h e;
 }
 
 module _ {file : List ℕ} {from P : ℕ} {all : List VectorRecord} {count at : ℕ} (sofar : VectorsSoFar file from P all count at) where
@@ -194,11 +195,11 @@ module _ {file : List ℕ} {from P : ℕ} {all : List VectorRecord} {count at : 
     all = sofar .so .is;
   }
 
-  pub vectors-stop : NextIs file at 6 Other → VectorsRead file from P (record { refusal = Nothing; at = at; count = count; all = all })
+  pub vectors-stop : NextIs file at vector-tag Other → VectorsRead file from P (record { refusal = Nothing; at = at; count = count; all = all })
   unfolding verdictOf refusalNumber refusalPlace numberedVerdict
   vectors-stop other = vectors-read Nothing (stops (sofar .so) other)
 
-  module _ (f : FieldRecord) (here : FieldAt file at f) (own : f .tag ≡ 6) (r : Refusal)
+  module _ (f : FieldRecord) (here : FieldAt file at f) (own : tagOf (f .tag) ≡ vector-tag) (r : Refusal)
       (verdict : verdictOf r ≡ firstOf (vectorTests P count (f .at) (bodyOf file f))) where
     of-length : verdictOf r ≡ firstOf (vectorTests P (length (sofar .vectors)) (f .at) (bodyOf file f))
     of-length = verdict ∙ ap (λ (n : ℕ). firstOf (vectorTests P n (f .at) (bodyOf file f))) (sofar .so .counted)

@@ -1,6 +1,7 @@
 // Vectors: the fields with tag 6, one letter for each primary input.
 use circuit::Vector;
 use circuit::limits::MOST_VECTORS;
+use circuit::order::Kind;
 use circuit::refusal::Refusal;
 use circuit::refusal::or_if;
 use circuit::refusal::refuses;
@@ -110,7 +111,7 @@ pub fn read_vectors(file: &[u8], from: usize, inputs: usize) -> Vectors
     let mut count: usize = 0;
     let mut at = from;
     loop {
-        let Next::Found(f) = field_of(file, at, 6) else {
+        let Next::Found(f) = field_of(file, at, Kind::Vector) else {
             return Vectors {
                 refusal: Refusal::Nothing,
                 at,

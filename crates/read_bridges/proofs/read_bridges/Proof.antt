@@ -6,6 +6,7 @@ use mathlib.Core.List.{List}
 use native.Mathlib.Omega.{arith}
 use borrow.Author.Needs.{needs}
 use lib.ListN.{length}
+use Rattle.circuit.specs.Order.{bridge-tag, tagOf}
 use Rattle.circuit.specs.Table.{passes}
 use Rattle.circuit.specs.Refusals.{verdictOf}
 use Rattle.read_fields.specs.Steps.{bodyOf, NextIs, FieldAt}
@@ -51,7 +52,7 @@ file-at c = c .before .before .before .before .before .before .args .file .now
 abbrev field-at : tie.After-f Inv-loop μ-loop → FieldRecord
 field-at c = c .f .given .0 .0
 
-found : (c : tie.After-f Inv-loop μ-loop) → FieldAt (file-at c) (c .before .before .before .loop .at) (field-at c) × (field-at c .tag ≡ 4)
+found : (c : tie.After-f Inv-loop μ-loop) → FieldAt (file-at c) (c .before .before .before .loop .at) (field-at c) × (tagOf (field-at c .tag) ≡ bridge-tag)
 unfolding NextIs
 found c = rw (c .f .given .1) at (c .before .before .field-of .ensures)
 

@@ -10,6 +10,7 @@ use lib.ListN.{length}
 use Rattle.switch.specs.Modules.{ModuleType}
 use Rattle.circuit.specs.Circuit.{Listed, numbered, noType, typeOfInstance}
 use Rattle.circuit.specs.Known.{instanceIn}
+use Rattle.circuit.specs.Order.{instance-tag, tagOf}
 use Rattle.circuit.specs.Table.{passes, firstOf, instanceTests}
 use Rattle.circuit.specs.Stages.{readTo}
 use Rattle.circuit.specs.Refusals.{verdictOf}
@@ -99,7 +100,7 @@ field-at c = c .f .given .0 .0
 abbrev body-at : tie.After-f Inv-loop μ-loop → List ℕ
 body-at c = bodyOf (file-at c) (field-at c)
 
-found : (c : tie.After-f Inv-loop μ-loop) → FieldAt (file-at c) (loop-of c .loop .at) (field-at c) × (field-at c .tag ≡ 5)
+found : (c : tie.After-f Inv-loop μ-loop) → FieldAt (file-at c) (loop-of c .loop .at) (field-at c) × (tagOf (field-at c .tag) ≡ instance-tag)
 unfolding NextIs
 found c = rw (c .f .given .1) at (c .before .before .field-of .ensures)
 

@@ -5,6 +5,7 @@ use mathlib.Core.List.{List}
 use borrow.Author.Needs.{needs}
 use lib.ListN.{length}
 use Rattle.circuit.specs.Fields.{cutFrom}
+use Rattle.circuit.specs.Order.{tagOf}
 use Rattle.circuit.specs.Table.{refusedAt}
 use Rattle.circuit.specs.Refusals.{refusalNumber, refusalPlace, numberedVerdict, verdictOf}
 use Rattle.circuit.specs.Stages.{endedVerdict, pastVerdict, endingVerdict}
@@ -24,7 +25,7 @@ module _ (file : List ℕ) (at size instances vectors : ℕ) (s : Step) (is : St
   unfolding StepIs endingVerdict
   no-whole e = rw (rw e at is)
 
-  past : (f : FieldRecord) → s ≡ Whole f → pastVerdict (f .tag) at ≡ endingVerdict size instances vectors (cutFrom file at)
+  past : (f : FieldRecord) → s ≡ Whole f → pastVerdict (tagOf (f .tag)) at ≡ endingVerdict size instances vectors (cutFrom file at)
   unfolding StepIs endingVerdict fieldIn
   past f e = let here : FieldAt file at f = rw e at is in rw (here .cut, here .place)
 

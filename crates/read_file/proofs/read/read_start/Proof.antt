@@ -8,6 +8,7 @@ use native.Mathlib.Omega.{arith}
 use borrow.Author.Needs.{needs}
 use lib.ListN.{length}
 use Rattle.circuit.specs.Fields.{cutFrom, twoBytes}
+use Rattle.circuit.specs.Order.{inputs-tag, tagOf}
 use Rattle.circuit.specs.Refusals.{verdictOf, refusalNumber, refusalPlace, numberedVerdict}
 use Rattle.circuit.specs.Verdicts.{isRefused}
 use Rattle.circuit.specs.Stages.{afterInputs, gatheredFrom, gatheredOf}
@@ -54,7 +55,7 @@ returns-2 c =
     let x = c .before in
     let m = x .before .before .before in
     let file = m .before .before .before .args .file .now in
-    let other : NextIs file 0 1 Other = rw (x .before .enum-told .given .1) at (m .field-of .ensures) in
+    let other : NextIs file 0 inputs-tag Other = rw (x .before .enum-told .given .1) at (m .field-of .ensures) in
     refused-start file (accepted emptyCircuit) (x .ending .result) (c .refused-at-start2 .result)
     (sym (staged-is-reading file) ∙ staged-short file (m .before .if1 .left) ∙ start-other file other ∙ rw (x .ending .ensures))
     (gathered-other file (m .before .if1 .left) other)
@@ -69,7 +70,7 @@ file-at c = c .before .before .before .before .before .args .file .now
 abbrev field-at : tie.After-f → FieldRecord
 field-at c = c .f .given .0 .0
 
-here : (c : tie.After-f) → FieldAt (file-at c) 0 (field-at c) × (field-at c .tag ≡ 1)
+here : (c : tie.After-f) → FieldAt (file-at c) 0 (field-at c) × (tagOf (field-at c .tag) ≡ inputs-tag)
 unfolding NextIs
 here c = rw (c .f .given .1) at (c .before .before .field-of .ensures)
 

@@ -7,6 +7,7 @@ use native.Mathlib.Omega.{arith}
 use borrow.Author.Needs.{needs}
 use lib.ListN.{length}
 use Rattle.circuit.specs.Limits.{mostEdges}
+use Rattle.circuit.specs.Order.{edge-tag}
 use Rattle.circuit.specs.Refusals.{verdictOf}
 use Rattle.circuit.specs.Verdicts.{isRefused}
 use Rattle.read_fields.specs.Steps.{FieldAt, NextIs}
@@ -24,7 +25,7 @@ abbrev μ-loop : tie.MeasureT-loop
 
 -- the edge that stands here
 found : (c : tie.After-f Inv-loop μ-loop)
-    → NextIs (c .before .before .before .before .before .args .file .now) (c .before .before .before .loop .at) 3 (Found (c .f .given .0 .0))
+    → NextIs (c .before .before .before .before .before .args .file .now) (c .before .before .before .loop .at) edge-tag (Found (c .f .given .0 .0))
 found c = rw (c .f .given .1) at (c .before .before .field-of .ensures)
 
 stands : (c : tie.After-f Inv-loop μ-loop)
@@ -65,7 +66,7 @@ returns : tie.Need-returns Inv-loop μ-loop
 returns c =
     let a = c .before .before .before .before .before .args in
     let turn = c .before .before .before .loop in
-    let other : NextIs (a .file .now) (turn .at) 3 Other = rw (c .enum-told .given .1) at (c .before .before .field-of .ensures) in
+    let other : NextIs (a .file .now) (turn .at) edge-tag Other = rw (c .enum-told .given .1) at (c .before .before .field-of .ensures) in
     edges-stop (a .file .now) (a .from) (a .bare) (turn .module-type) (turn .at) (turn .inv) other
 
 edge-verdict-requires : tie.Need-edge-verdict-requires Inv-loop μ-loop

@@ -4,6 +4,7 @@ use mathlib.Core.Path.{_≡_, _∙_}
 use mathlib.Core.List.{List}
 use borrow.Author.Needs.{needs}
 use Rattle.circuit.specs.Fields.{cutFrom}
+use Rattle.circuit.specs.Order.{tagOf}
 use Rattle.circuit.specs.Table.{refusedAt}
 use Rattle.circuit.specs.Refusals.{refusalNumber, refusalPlace, numberedVerdict, verdictOf}
 use Rattle.circuit.specs.Stages.{failingBefore, failingVerdict}
@@ -23,7 +24,7 @@ module _ (file : List ℕ) (at typeAt : ℕ) (s : Step) (is : StepIs file at s) 
   unfolding StepIs failingVerdict
   no-whole e = rw (rw e at is)
 
-  before-field : (f : FieldRecord) → s ≡ Whole f → failingBefore (f .tag) at typeAt ≡ failingVerdict typeAt (cutFrom file at)
+  before-field : (f : FieldRecord) → s ≡ Whole f → failingBefore (tagOf (f .tag)) at typeAt ≡ failingVerdict typeAt (cutFrom file at)
   unfolding StepIs failingVerdict fieldIn
   before-field f e = let here : FieldAt file at f = rw e at is in rw (here .cut, here .place)
 

@@ -11,6 +11,7 @@ use lib.ListN.{getD, replicate}
 use Rattle.switch.specs.Modules.{typeInRange}
 use Rattle.switch.specs.declared.ModuleType.{ModuleType as TypeRecord}
 use Rattle.circuit.specs.Limits.{mostTypes}
+use Rattle.circuit.specs.Order.{type-tag}
 use Rattle.circuit.specs.Refusals.{verdictOf}
 use Rattle.circuit.specs.Verdicts.{isRefused}
 use Rattle.read_fields.specs.Steps.{bodyOf, FieldAt, NextIs}
@@ -28,7 +29,7 @@ abbrev μ-loop : tie.MeasureT-loop
 
 -- the type that stands here
 found : (c : tie.After-f Inv-loop μ-loop)
-    → NextIs (c .before .before .before .before .before .before .args .file .now) (c .before .before .before .loop .at) 2 (Found (c .f .given .0 .0))
+    → NextIs (c .before .before .before .before .before .before .args .file .now) (c .before .before .before .loop .at) type-tag (Found (c .f .given .0 .0))
 found c = rw (c .f .given .1) at (c .before .before .field-of .ensures)
 
 stands : (c : tie.After-f Inv-loop μ-loop)
@@ -85,7 +86,7 @@ returns c =
     let out = c .before in
     let a = out .before .before .before .before .before .before .args in
     let turn = out .before .before .before .loop in
-    let other : NextIs (a .file .now) (turn .at) 2 Other = rw (out .enum-told .given .1) at (out .before .before .field-of .ensures) in
+    let other : NextIs (a .file .now) (turn .at) type-tag Other = rw (out .enum-told .given .1) at (out .before .before .field-of .ensures) in
     subst (TypesRead (a .file .now) (a .from)) (sym (c .types-read .ensures))
     (types-stop (a .file .now) (a .from) (turn .all) (turn .count) (turn .at) (turn .inv) other)
 

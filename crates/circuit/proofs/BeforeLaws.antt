@@ -18,7 +18,7 @@ use Rattle.circuit.specs.Records.{emptyCircuit}
 use Rattle.circuit.specs.Verdicts.{isRefused}
 use Rattle.circuit.specs.Before.{typesBefore}
 use Rattle.circuit.specs.Stages.{Stage, stopped, ifPasses, section, bridgeStage, instanceStage, judged, fieldPlace, typeStage, gatheredFrom, gatheredAtStart, gatheredOf}
-use Rattle.circuit.specs.Laws.{GoodWithLeast, BeforeIsGood}
+use Rattle.circuit.specs.Laws.{CircuitGood, BeforeIsGood}
 use Rattle.circuit.proofs.CircuitLaws.{TypesGood, TypesSound, no-types, latest-sound, edge-keeps, type-keeps, judged-types, BridgesGood, InstancesGood, VectorsGood, bridge-keeps, instance-keeps, vector-keeps}
 use Rattle.circuit.proofs.GatheredLaws.{gathered-is-before}
 use Rattle.circuit.proofs.Tested.{inputs-pass, type-pass, edge-pass, each-none}
@@ -115,24 +115,22 @@ types-keep types from (field f rest) s =
 
 -- ---- the whole
 
-nothing-good : GoodWithLeast 0 emptyCircuit
+nothing-good : CircuitGood emptyCircuit
 unfolding faultCount
 nothing-good = record {
-  inputs = (omega arith, omega arith);
+  few-inputs = omega arith;
   few-types = omega arith;
   types = each-none _;
   few-bridges = omega arith;
   bridges = each-none _;
-  some-instance = omega arith;
   few-instances = omega arith;
   instances = each-none _;
   few-faults = omega arith;
-  some-vector = omega arith;
   few-vectors = omega arith;
   vectors = each-none _;
 }
 
-gathered-good : (P : ℕ) (cut : Cut) → P ≤ 64 → GoodWithLeast 0 (gatheredFrom P cut)
+gathered-good : (P : ℕ) (cut : Cut) → P ≤ 64 → CircuitGood (gatheredFrom P cut)
 unfolding gatheredFrom faultCount
 gathered-good P cut few =
     let types = typeStage [] clean cut in
@@ -144,28 +142,26 @@ gathered-good P cut few =
     (record { few = omega arith; each = each-none _; faults = omega arith }) in
     let v = section-keeps vector-tag _ _ (VectorsGood P) (vector-keeps P) [] (instances .rest) (record { few = omega arith; each = each-none _ }) in
     record {
-      inputs = (omega arith, few);
+      few-inputs = few;
       few-types = t .few;
       types = t .each;
       few-bridges = b .few;
       bridges = b .each;
-      some-instance = omega arith;
-      few-instances = i .few;
+          few-instances = i .few;
       instances = i .each;
       few-faults = i .faults;
-      some-vector = omega arith;
-      few-vectors = v .few;
+          few-vectors = v .few;
       vectors = v .each;
     }
 
 inputs-keep : (one : Bool) (v : Verdict) (P : ℕ) (rest : Cut) → (v ≡ passes → (1 ≤ P) × (P ≤ 64))
-    → GoodWithLeast 0 (cond one (cond (isRefused v) emptyCircuit (gatheredFrom P rest)) emptyCircuit)
+    → CircuitGood (cond one (cond (isRefused v) emptyCircuit (gatheredFrom P rest)) emptyCircuit)
 unfolding isRefused
 inputs-keep true passes P rest range = gathered-good P rest (range refl .1)
 inputs-keep true (refusedAt number place) P rest range = nothing-good
 inputs-keep false v P rest range = nothing-good
 
-start-keeps : (cut : Cut) → GoodWithLeast 0 (gatheredAtStart cut)
+start-keeps : (cut : Cut) → CircuitGood (gatheredAtStart cut)
 unfolding gatheredAtStart
 start-keeps clean = nothing-good
 start-keeps (broken at) = nothing-good
@@ -174,8 +170,8 @@ start-keeps (field f rest) =
 
 pub before-is-good : BeforeIsGood
 unfolding gatheredOf
-before-is-good file = subst (GoodWithLeast 0) (gathered-is-before file) (go (ltb mostBytes (length file)))
+before-is-good file = subst (CircuitGood) (gathered-is-before file) (go (ltb mostBytes (length file)))
   where
-    go : (long : Bool) → GoodWithLeast 0 (cond long emptyCircuit (gatheredAtStart (cutFrom file 0)))
+    go : (long : Bool) → CircuitGood (cond long emptyCircuit (gatheredAtStart (cutFrom file 0)))
     go true = nothing-good
     go false = start-keeps (cutFrom file 0)

@@ -20,11 +20,11 @@ use Rattle.circuit.specs.Circuit.{Instance, Listed, noType, faultCount}
 use Rattle.circuit.specs.Order.{Tag, inputs-tag, type-tag, edge-tag, bridge-tag, instance-tag, vector-tag, tagOf, isKind, isEdge, isUnknown, after-tag}
 use Rattle.circuit.specs.Known.{typeIn, edgeIn, listedIn, instanceIn, vectorIn, latest, withEdge, edgeAdded}
 use Rattle.circuit.specs.Table.{Test, Verdict, passes, refusedAt, firstOf, misplaced, notComplementary, isEmpty, inputsTests, typeTests, edgeTests, bridgeTests, instanceTests, vectorTests}
-use Rattle.circuit.specs.Reading.{Reading, accepted, refusal, unless}
+use Rattle.circuit.specs.Reading.{Reading, accepted, refusal, unless, readingWith}
 use Rattle.circuit.specs.Records.{emptyCircuit}
 use Rattle.circuit.specs.Stages.{Stage, stopped, ifPasses, section, failingBefore, failingVerdict, judged, typeStage, readTo, endedVerdict, pastVerdict, endingVerdict, afterStage, afterInputs, fromStart, staged, fieldPlace}
 use Rattle.circuit.specs.Before.{typesBefore}
-use Rattle.circuit.specs.Laws.{Each, TypeSound, TypeGood, ListedGood, InstanceGood, CircuitGood, RefusalGood, AcceptedIsGood, RefusalIsGood}
+use Rattle.circuit.specs.Laws.{Each, TypeSound, TypeGood, ListedGood, InstanceGood, CircuitGood, Whole, RefusalGood, AcceptedIsGood, AcceptedIsWhole, RefusalIsGood}
 use Rattle.circuit.proofs.StageLaws.{staged-is-reading}
 use Rattle.circuit.proofs.Tested.{VerdictGood, TestsGood, first-good, inputs-refuse, types-refuse, edges-refuse, bridges-refuse, instances-refuse, vectors-refuse, inputs-pass, type-pass, edge-pass, bridge-pass, faults-snoc, instance-pass, vector-pass, holds, length-snoc, each-none, each-snoc, never-passes}
 
@@ -55,38 +55,38 @@ cut-placed (suc most) file at h =
 
 -- ---- readings
 
-abbrev ReadingGood : ℕ → Reading → Type 0
-ReadingGood size (accepted c) = CircuitGood c
-ReadingGood size (refusal number place) = RefusalGood size number place
+abbrev ReadingGood : Bool → ℕ → Reading → Type 0
+ReadingGood wanted size (accepted c) = CircuitGood c × Whole wanted c
+ReadingGood wanted size (refusal number place) = RefusalGood size number place
 
-unless-good : (size : ℕ) (v : Verdict) (r : Reading) → VerdictGood size v → (v ≡ passes → ReadingGood size r) → ReadingGood size (unless v r)
+unless-good : (wanted : Bool) (size : ℕ) (v : Verdict) (r : Reading) → VerdictGood size v → (v ≡ passes → ReadingGood wanted size r) → ReadingGood wanted size (unless v r)
 unfolding unless
-unless-good size passes r g later = later refl
-unless-good size (refusedAt n p) r g later = g
+unless-good wanted size passes r g later = later refl
+unless-good wanted size (refusedAt n p) r g later = g
 
-stage-good : {A : Type 0} (size : ℕ) (v : Verdict) (a : A) (cut : Cut) (s : Stage A) (next : A → Cut → Reading)
-    → VerdictGood size v → (v ≡ passes → ReadingGood size (afterStage s next)) → ReadingGood size (afterStage (ifPasses v a cut s) next)
+stage-good : {A : Type 0} (wanted : Bool) (size : ℕ) (v : Verdict) (a : A) (cut : Cut) (s : Stage A) (next : A → Cut → Reading)
+    → VerdictGood size v → (v ≡ passes → ReadingGood wanted size (afterStage s next)) → ReadingGood wanted size (afterStage (ifPasses v a cut s) next)
 unfolding ifPasses afterStage unless
-stage-good size passes a cut s next g later = later refl
-stage-good size (refusedAt n p) a cut s next g later = g
+stage-good wanted size passes a cut s next g later = later refl
+stage-good wanted size (refusedAt n p) a cut s next g later = g
 
 -- ---- a stage of one kind keeps what each of its fields keeps
 
-module _ (size : ℕ) (kind : Tag) {A : Type 0} (tests : A → ℕ → List ℕ → List Test) (add : A → List ℕ → A) (Holds : A → Type 0)
+module _ (wanted : Bool) (size : ℕ) (kind : Tag) {A : Type 0} (tests : A → ℕ → List ℕ → List Test) (add : A → List ℕ → A) (Holds : A → Type 0)
     (refuses-well : (a : A) (at : ℕ) (body : List ℕ) → at ≤ size → TestsGood size (tests a at body))
     (keeps : (a : A) (at : ℕ) (body : List ℕ) → Holds a → firstOf (tests a at body) ≡ passes → Holds (add a body))
-    (next : A → Cut → Reading) (goes-on : (a : A) (cut : Cut) → Holds a → Placed size cut → ReadingGood size (next a cut)) where
-  section-good : (a : A) (cut : Cut) → Holds a → Placed size cut → ReadingGood size (afterStage (section kind tests add a cut) next)
+    (next : A → Cut → Reading) (goes-on : (a : A) (cut : Cut) → Holds a → Placed size cut → ReadingGood wanted size (next a cut)) where
+  section-good : (a : A) (cut : Cut) → Holds a → Placed size cut → ReadingGood wanted size (afterStage (section kind tests add a cut) next)
   unfolding section afterStage unless
   section-good a clean h p = goes-on a clean h p
   section-good a (broken at) h p = goes-on a (broken at) h p
   section-good a (field f rest) h p = go (isKind kind (tagOf (f .tag))) (λ k. section-good (add a (f .body)) rest k (p .1))
     where
-      go : (b : Bool) → (Holds (add a (f .body)) → ReadingGood size (afterStage (section kind tests add (add a (f .body)) rest) next))
-          → ReadingGood size
+      go : (b : Bool) → (Holds (add a (f .body)) → ReadingGood wanted size (afterStage (section kind tests add (add a (f .body)) rest) next))
+          → ReadingGood wanted size
           (afterStage (cond b (ifPasses (firstOf (tests a (f .at) (f .body))) a (field f rest) (section kind tests add (add a (f .body)) rest)) (stopped a (field f rest))) next)
       go true more =
-          stage-good size (firstOf (tests a (f .at) (f .body))) a (field f rest) (section kind tests add (add a (f .body)) rest) next
+          stage-good wanted size (firstOf (tests a (f .at) (f .body))) a (field f rest) (section kind tests add (add a (f .body)) rest) next
           (first-good size (tests a (f .at) (f .body)) (refuses-well a (f .at) (f .body) (p .0)))
           (λ e. more (keeps a (f .at) (f .body) h e))
       go false more = goes-on a (field f rest) h p
@@ -183,8 +183,8 @@ judged-types types typeAt cut s e =
             let last : i ≡ length types - 1 = omega arith in
             rw (getD-any types i none noType h, last) (holds (isComplementary (latest types)) co)
 
-module _ (size : ℕ) (next : List ModuleType → Cut → Reading)
-    (goes-on : (types : List ModuleType) (cut : Cut) → TypesGood types → Placed size cut → ReadingGood size (next types cut)) where
+module _ (wanted : Bool) (size : ℕ) (next : List ModuleType → Cut → Reading)
+    (goes-on : (types : List ModuleType) (cut : Cut) → TypesGood types → Placed size cut → ReadingGood wanted size (next types cut)) where
   failing-good : (typeAt : ℕ) (cut : Cut) → typeAt ≤ size → Placed size cut → VerdictGood size (failingVerdict typeAt cut)
   unfolding failingVerdict failingBefore
   failing-good typeAt clean h p = omega arith
@@ -206,13 +206,13 @@ module _ (size : ℕ) (next : List ModuleType → Cut → Reading)
       go false false = tt
 
   types-good : (types : List ModuleType) (from cut : Cut) → TypesSound types → fieldPlace from ≤ size → Placed size cut
-      → ReadingGood size (afterStage (typeStage types from cut) next)
+      → ReadingGood wanted size (afterStage (typeStage types from cut) next)
   unfolding typeStage afterStage edgeAdded unless fieldPlace
   types-good types from clean s h p =
-      stage-good size (judged types (fieldPlace from) clean) (typesBefore types) from (stopped types clean) next (judged-good types (fieldPlace from) clean h p)
+      stage-good wanted size (judged types (fieldPlace from) clean) (typesBefore types) from (stopped types clean) next (judged-good types (fieldPlace from) clean h p)
       (λ e. goes-on types clean (judged-types types (fieldPlace from) clean s e) p)
   types-good types from (broken at) s h p =
-      stage-good size (judged types (fieldPlace from) (broken at)) (typesBefore types) from (stopped types (broken at)) next (judged-good types (fieldPlace from) (broken at) h p)
+      stage-good wanted size (judged types (fieldPlace from) (broken at)) (typesBefore types) from (stopped types (broken at)) next (judged-good types (fieldPlace from) (broken at) h p)
       (λ e. goes-on types (broken at) (judged-types types (fieldPlace from) (broken at) s e) p)
   types-good types from (field f rest) s h p =
       go (isEdge (tagOf (f .tag))) (isEmpty types) refl
@@ -231,29 +231,29 @@ module _ (size : ℕ) (next : List ModuleType → Cut → Reading)
       type : Stage (List ModuleType)
       type = ifPasses (firstOf (typeTests (length types) (f .at) (f .body))) types (field f rest) more-types
 
-      as-type : (two : Bool) → TypesGood types → (TypesSound (types ++ (typeIn (f .body) ∷ [])) → ReadingGood size (afterStage more-types next))
-          → ReadingGood size (afterStage (cond two type (stopped types (field f rest))) next)
+      as-type : (two : Bool) → TypesGood types → (TypesSound (types ++ (typeIn (f .body) ∷ [])) → ReadingGood wanted size (afterStage more-types next))
+          → ReadingGood wanted size (afterStage (cond two type (stopped types (field f rest))) next)
       as-type true g more =
-          stage-good size (firstOf (typeTests (length types) (f .at) (f .body))) types (field f rest) more-types next
+          stage-good wanted size (firstOf (typeTests (length types) (f .at) (f .body))) types (field f rest) more-types next
           (first-good size (typeTests (length types) (f .at) (f .body)) (types-refuse size (f .at) (p .0) (f .body) (length types)))
           (λ e. let new = type-pass (length types) (f .at) (f .body) e in more (type-keeps types (typeIn (f .body)) g (new .0) (new .1)))
       as-type false g more = goes-on types (field f rest) g p
 
-      other : (TypesSound (types ++ (typeIn (f .body) ∷ [])) → ReadingGood size (afterStage more-types next))
-          → ReadingGood size (afterStage (ifPasses (judged types (fieldPlace from) (field f rest)) (typesBefore types) from (cond (isKind type-tag (tagOf (f .tag))) type (stopped types (field f rest)))) next)
+      other : (TypesSound (types ++ (typeIn (f .body) ∷ [])) → ReadingGood wanted size (afterStage more-types next))
+          → ReadingGood wanted size (afterStage (ifPasses (judged types (fieldPlace from) (field f rest)) (typesBefore types) from (cond (isKind type-tag (tagOf (f .tag))) type (stopped types (field f rest)))) next)
       other more =
-          stage-good size (judged types (fieldPlace from) (field f rest)) (typesBefore types) from (cond (isKind type-tag (tagOf (f .tag))) type (stopped types (field f rest))) next
+          stage-good wanted size (judged types (fieldPlace from) (field f rest)) (typesBefore types) from (cond (isKind type-tag (tagOf (f .tag))) type (stopped types (field f rest))) next
           (judged-good types (fieldPlace from) (field f rest) h p)
           (λ e. as-type (isKind type-tag (tagOf (f .tag))) (judged-types types (fieldPlace from) (field f rest) s e) more)
 
       go : (three em : Bool) → isEmpty types ≡ em
-          → (TypesSound (edgeAdded types (edgeIn (f .body))) → ReadingGood size (afterStage more-edges next))
-          → (TypesSound (types ++ (typeIn (f .body) ∷ [])) → ReadingGood size (afterStage more-types next))
-          → ReadingGood size (afterStage (cond (three && not em) edge
+          → (TypesSound (edgeAdded types (edgeIn (f .body))) → ReadingGood wanted size (afterStage more-edges next))
+          → (TypesSound (types ++ (typeIn (f .body) ∷ [])) → ReadingGood wanted size (afterStage more-types next))
+          → ReadingGood wanted size (afterStage (cond (three && not em) edge
           (ifPasses (judged types (fieldPlace from) (field f rest)) (typesBefore types) from (cond (isKind type-tag (tagOf (f .tag))) type (stopped types (field f rest))))) next)
       go true true em edges types′ = other types′
       go true false em edges types′ =
-          stage-good size (firstOf (edgeTests (latest types) (f .at) (f .body))) (typesBefore types) from more-edges next
+          stage-good wanted size (firstOf (edgeTests (latest types) (f .at) (f .body))) (typesBefore types) from more-edges next
           (first-good size (edgeTests (latest types) (f .at) (f .body)) (edges-refuse size (f .at) (p .0) (f .body) (latest types)))
           (λ e. edges (edge-keeps types (withEdge (latest types) (edgeIn (f .body))) em s
           (edge-pass (latest types) (f .at) (f .body) e (latest-sound types em s))))
@@ -325,98 +325,106 @@ past-refuses tag at = go (isUnknown tag)
     go true e = never-passes e
     go false e = never-passes e
 
-ended-good : (size instances vectors : ℕ) → VerdictGood size (endedVerdict size instances vectors)
+ended-good : (wanted : Bool) (size instances vectors : ℕ) → VerdictGood size (endedVerdict wanted size instances vectors)
 unfolding endedVerdict
-ended-good size instances vectors = go (eqb instances 0) (eqb vectors 0)
+ended-good wanted size instances vectors = go (eqb instances 0) (wanted && eqb vectors 0)
   where
     go : (a b : Bool) → VerdictGood size (cond a (refusedAt 14 size) (cond b (refusedAt 14 size) passes))
     go true b = omega arith
     go false true = omega arith
     go false false = tt
 
-ended-some : (size instances vectors : ℕ) → endedVerdict size instances vectors ≡ passes → (1 ≤ instances) × (1 ≤ vectors)
+abbrev Some : Bool → ℕ → ℕ → Type 0
+Some wanted instances vectors = (1 ≤ instances) × (wanted ≡ true → 1 ≤ vectors)
+
+ended-some : (wanted : Bool) (size instances vectors : ℕ) → endedVerdict wanted size instances vectors ≡ passes → Some wanted instances vectors
 unfolding endedVerdict
-ended-some size instances vectors = go (eqb instances 0) (eqb vectors 0) refl refl
+ended-some wanted size instances vectors = go (eqb instances 0) (eqb vectors 0) wanted refl refl
   where
-    go : (a b : Bool) → eqb instances 0 ≡ a → eqb vectors 0 ≡ b → cond a (refusedAt 14 size) (cond b (refusedAt 14 size) passes) ≡ passes
-        → (1 ≤ instances) × (1 ≤ vectors)
-    go true b p q e = absurd (never-passes e)
-    go false true p q e = absurd (never-passes e)
-    go false false p q e = omega (arith, eqb-false instances 0 p, eqb-false vectors 0 q)
+    go : (a b w : Bool) → eqb instances 0 ≡ a → eqb vectors 0 ≡ b → cond a (refusedAt 14 size) (cond (w && b) (refusedAt 14 size) passes) ≡ passes
+        → Some w instances vectors
+    go true b w p q e = absurd (never-passes e)
+    go false true true p q e = absurd (never-passes e)
+    go false true false p q e = (omega (arith, eqb-false instances 0 p), λ z. let y : _≡_ {A = ℕ} 0 1 = cc in absurd (omega arith))
+    go false false w p q e = (omega (arith, eqb-false instances 0 p), λ z. omega (arith, eqb-false vectors 0 q))
 
-ending-good : (size instances vectors : ℕ) (cut : Cut) → Placed size cut → VerdictGood size (endingVerdict size instances vectors cut)
+ending-good : (wanted : Bool) (size instances vectors : ℕ) (cut : Cut) → Placed size cut → VerdictGood size (endingVerdict wanted size instances vectors cut)
 unfolding endingVerdict
-ending-good size instances vectors clean p = ended-good size instances vectors
-ending-good size instances vectors (broken at) p = omega arith
-ending-good size instances vectors (field f rest) p = past-good size (tagOf (f .tag)) (f .at) (p .0)
+ending-good wanted size instances vectors clean p = ended-good wanted size instances vectors
+ending-good wanted size instances vectors (broken at) p = omega arith
+ending-good wanted size instances vectors (field f rest) p = past-good size (tagOf (f .tag)) (f .at) (p .0)
 
-ending-some : (size instances vectors : ℕ) (cut : Cut) → endingVerdict size instances vectors cut ≡ passes → (1 ≤ instances) × (1 ≤ vectors)
+ending-some : (wanted : Bool) (size instances vectors : ℕ) (cut : Cut) → endingVerdict wanted size instances vectors cut ≡ passes → Some wanted instances vectors
 unfolding endingVerdict
-ending-some size instances vectors clean e = ended-some size instances vectors e
-ending-some size instances vectors (broken at) e = absurd (never-passes e)
-ending-some size instances vectors (field f rest) e = absurd (past-refuses (tagOf (f .tag)) (f .at) e)
+ending-some wanted size instances vectors clean e = ended-some wanted size instances vectors e
+ending-some wanted size instances vectors (broken at) e = absurd (never-passes e)
+ending-some wanted size instances vectors (field f rest) e = absurd (past-refuses (tagOf (f .tag)) (f .at) e)
 
-after-inputs-good : (size P : ℕ) (cut : Cut) → (1 ≤ P) × (P ≤ 64) → Placed size cut → ReadingGood size (afterInputs size P cut)
+after-inputs-good : (wanted : Bool) (size P : ℕ) (cut : Cut) → (1 ≤ P) × (P ≤ 64) → Placed size cut → ReadingGood wanted size (afterInputs wanted size P cut)
 unfolding afterInputs faultCount fieldPlace
-after-inputs-good size P cut some p =
-    types-good size _ (λ types cut₂ t p₂.
-    section-good size bridge-tag _ _ BridgesGood (λ bs at body h. bridges-refuse size at h body (length bs)) bridge-keeps _ (λ bridges cut₃ b p₃.
-    section-good size instance-tag _ _ (InstancesGood P types bridges)
+after-inputs-good wanted size P cut some p =
+    types-good wanted size _ (λ types cut₂ t p₂.
+    section-good wanted size bridge-tag _ _ BridgesGood (λ bs at body h. bridges-refuse size at h body (length bs)) bridge-keeps _ (λ bridges cut₃ b p₃.
+    section-good wanted size instance-tag _ _ (InstancesGood P types bridges)
     (λ is at body h. instances-refuse size at h body (readTo P types bridges is)) (instance-keeps P types bridges) _
     (λ instances cut₄ i p₄.
-    section-good size vector-tag _ _ (VectorsGood P) (λ vs at body h. vectors-refuse size at h body P (length vs)) (vector-keeps P) _ (λ vectors cut₅ v p₅.
-    unless-good size (endingVerdict size (length instances) (length vectors) cut₅) _ (ending-good size (length instances) (length vectors) cut₅ p₅)
-    (λ e. let there = ending-some size (length instances) (length vectors) cut₅ e in
-    record {
-      inputs = some;
+    section-good wanted size vector-tag _ _ (VectorsGood P) (λ vs at body h. vectors-refuse size at h body P (length vs)) (vector-keeps P) _ (λ vectors cut₅ v p₅.
+    unless-good wanted size (endingVerdict wanted size (length instances) (length vectors) cut₅) _ (ending-good wanted size (length instances) (length vectors) cut₅ p₅)
+    (λ e. let there = ending-some wanted size (length instances) (length vectors) cut₅ e in
+    (record {
+      few-inputs = some .1;
       few-types = t .few;
       types = t .each;
       few-bridges = b .few;
       bridges = b .each;
-      some-instance = there .0;
       few-instances = i .few;
       instances = i .each;
       few-faults = i .faults;
-      some-vector = there .1;
       few-vectors = v .few;
       vectors = v .each;
-    }))
+    }, record { some-input = some .0; some-instance = there .0; some-vector = there .1 })))
     [] cut₄ (record { few = omega arith; each = each-none _ }) p₄)
     [] cut₃ (record { few = omega arith; each = each-none _; faults = omega arith }) p₃)
     [] cut₂ (record { few = omega arith; each = each-none _ }) p₂)
     [] clean cut no-types (omega arith) p
 
-start-good : (size : ℕ) (cut : Cut) → Placed size cut → ReadingGood size (fromStart size cut)
+start-good : (wanted : Bool) (size : ℕ) (cut : Cut) → Placed size cut → ReadingGood wanted size (fromStart wanted size cut)
 unfolding fromStart
-start-good size clean p =
-    unless-good size (endingVerdict size 0 0 clean) (accepted emptyCircuit) (ending-good size 0 0 clean p)
-    (λ e. let there = ending-some size 0 0 clean e in absurd (omega arith))
-start-good size (broken at) p =
-    unless-good size (endingVerdict size 0 0 (broken at)) (accepted emptyCircuit) (ending-good size 0 0 (broken at) p)
-    (λ e. let there = ending-some size 0 0 (broken at) e in absurd (omega arith))
-start-good size (field f rest) p = go (isKind inputs-tag (tagOf (f .tag)))
+start-good wanted size clean p =
+    unless-good wanted size (endingVerdict wanted size 0 0 clean) (accepted emptyCircuit) (ending-good wanted size 0 0 clean p)
+    (λ e. let there = ending-some wanted size 0 0 clean e in absurd (omega (arith, there .0)))
+start-good wanted size (broken at) p =
+    unless-good wanted size (endingVerdict wanted size 0 0 (broken at)) (accepted emptyCircuit) (ending-good wanted size 0 0 (broken at) p)
+    (λ e. let there = ending-some wanted size 0 0 (broken at) e in absurd (omega (arith, there .0)))
+start-good wanted size (field f rest) p = go (isKind inputs-tag (tagOf (f .tag)))
   where
-    go : (one : Bool) → ReadingGood size
-        (cond one (unless (firstOf (inputsTests (f .at) (f .body))) (afterInputs size (twoBytes (f .body) 0) rest))
+    go : (one : Bool) → ReadingGood wanted size
+        (cond one (unless (firstOf (inputsTests (f .at) (f .body))) (afterInputs wanted size (twoBytes (f .body) 0) rest))
         (unless (pastVerdict (tagOf (f .tag)) (f .at)) (accepted emptyCircuit)))
     go true =
-        unless-good size (firstOf (inputsTests (f .at) (f .body))) (afterInputs size (twoBytes (f .body) 0) rest)
+        unless-good wanted size (firstOf (inputsTests (f .at) (f .body))) (afterInputs wanted size (twoBytes (f .body) 0) rest)
         (first-good size (inputsTests (f .at) (f .body)) (inputs-refuse size (f .at) (p .0) (f .body)))
-        (λ e. after-inputs-good size (twoBytes (f .body) 0) rest (inputs-pass (f .at) (f .body) e) (p .1))
+        (λ e. after-inputs-good wanted size (twoBytes (f .body) 0) rest (inputs-pass (f .at) (f .body) e) (p .1))
     go false =
-        unless-good size (pastVerdict (tagOf (f .tag)) (f .at)) (accepted emptyCircuit) (past-good size (tagOf (f .tag)) (f .at) (p .0))
+        unless-good wanted size (pastVerdict (tagOf (f .tag)) (f .at)) (accepted emptyCircuit) (past-good size (tagOf (f .tag)) (f .at) (p .0))
         (λ e. absurd (past-refuses (tagOf (f .tag)) (f .at) e))
 
-staged-good : (file : List ℕ) → ReadingGood (length file) (staged file)
+staged-good : (wanted : Bool) (file : List ℕ) → ReadingGood wanted (length file) (staged wanted file)
 unfolding staged cutFrom
-staged-good file = go (ltb mostBytes (length file))
+staged-good wanted file = go (ltb mostBytes (length file))
   where
-    go : (long : Bool) → ReadingGood (length file) (cond long (refusal 1 0) (fromStart (length file) (cutFrom file 0)))
+    go : (long : Bool) → ReadingGood wanted (length file) (cond long (refusal 1 0) (fromStart wanted (length file) (cutFrom file 0)))
     go true = omega arith
-    go false = start-good (length file) (cutFrom file 0) (cut-placed (suc (length file) - 0) file 0 (omega arith))
+    go false = start-good wanted (length file) (cutFrom file 0) (cut-placed (suc (length file) - 0) file 0 (omega arith))
+
+reading-good : (wanted : Bool) (file : List ℕ) (r : Reading) → readingWith wanted file ≡ r → ReadingGood wanted (length file) r
+reading-good wanted file r e = subst (ReadingGood wanted (length file)) (staged-is-reading wanted file ∙ e) (staged-good wanted file)
 
 pub accepted-is-good : AcceptedIsGood
-accepted-is-good file c e = subst (ReadingGood (length file)) (staged-is-reading file ∙ e) (staged-good file)
+accepted-is-good wanted file c e = reading-good wanted file (accepted c) e .0
+
+pub accepted-is-whole : AcceptedIsWhole
+accepted-is-whole wanted file c e = reading-good wanted file (accepted c) e .1
 
 pub refusal-is-good : RefusalIsGood
-refusal-is-good file number place e = subst (ReadingGood (length file)) (staged-is-reading file ∙ e) (staged-good file)
+refusal-is-good wanted file number place e = reading-good wanted file (refusal number place) e

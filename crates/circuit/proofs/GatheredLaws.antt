@@ -384,16 +384,16 @@ behind (refusedAt number place) r c e = not-accepted number place c e
 same-circuit : (c d : Circuit) → accepted c ≡ accepted d → c ≡ d
 same-circuit c d e = cc
 
-inputs-accepted : (size P : ℕ) (cut : Cut) (c : Circuit) → afterInputs size P cut ≡ accepted c → gatheredFrom P cut ≡ c
+inputs-accepted : (wanted : Bool) (size P : ℕ) (cut : Cut) (c : Circuit) → afterInputs wanted size P cut ≡ accepted c → gatheredFrom P cut ≡ c
 unfolding afterInputs afterStage gatheredFrom
-inputs-accepted size P cut c e =
+inputs-accepted wanted size P cut c e =
     same-circuit _ c (behind _ _ c (behind _ _ c (behind _ _ c (behind _ _ c (behind _ _ c e .1) .1) .1) .1) .1)
 
-start-accepted : (size : ℕ) (cut : Cut) (c : Circuit) → fromStart size cut ≡ accepted c → gatheredAtStart cut ≡ c
+start-accepted : (wanted : Bool) (size : ℕ) (cut : Cut) (c : Circuit) → fromStart wanted size cut ≡ accepted c → gatheredAtStart cut ≡ c
 unfolding fromStart gatheredAtStart
-start-accepted size clean c e = same-circuit emptyCircuit c (behind _ _ c e .1)
-start-accepted size (broken at) c e = same-circuit emptyCircuit c (behind _ _ c e .1)
-start-accepted size (field f rest) c e = go (isKind inputs-tag (tagOf (f .tag))) e
+start-accepted wanted size clean c e = same-circuit emptyCircuit c (behind _ _ c e .1)
+start-accepted wanted size (broken at) c e = same-circuit emptyCircuit c (behind _ _ c e .1)
+start-accepted wanted size (field f rest) c e = go (isKind inputs-tag (tagOf (f .tag))) e
   where
     P : ℕ
     P = twoBytes (f .body) 0
@@ -401,19 +401,19 @@ start-accepted size (field f rest) c e = go (isKind inputs-tag (tagOf (f .tag)))
     v : Verdict
     v = firstOf (inputsTests (f .at) (f .body))
 
-    go : (own : Bool) → cond own (unless v (afterInputs size P rest)) (unless (pastVerdict (tagOf (f .tag)) (f .at)) (accepted emptyCircuit)) ≡ accepted c
+    go : (own : Bool) → cond own (unless v (afterInputs wanted size P rest)) (unless (pastVerdict (tagOf (f .tag)) (f .at)) (accepted emptyCircuit)) ≡ accepted c
         → cond own (cond (isRefused v) emptyCircuit (gatheredFrom P rest)) emptyCircuit ≡ c
-    go true q = let first = behind v (afterInputs size P rest) c q in rw (first .0) (inputs-accepted size P rest c (first .1))
+    go true q = let first = behind v (afterInputs wanted size P rest) c q in rw (first .0) (inputs-accepted wanted size P rest c (first .1))
     go false q = same-circuit emptyCircuit c (behind (pastVerdict (tagOf (f .tag)) (f .at)) (accepted emptyCircuit) c q .1)
 
 pub before-is-circuit : BeforeIsCircuit
 unfolding staged gatheredOf
-before-is-circuit file c e = sym (gathered-is-before file) ∙ whole
+before-is-circuit wanted file c e = sym (gathered-is-before file) ∙ whole
   where
-    go : (long : Bool) → cond long (refusal 1 0) (fromStart (length file) (cutFrom file 0)) ≡ accepted c
+    go : (long : Bool) → cond long (refusal 1 0) (fromStart wanted (length file) (cutFrom file 0)) ≡ accepted c
         → cond long emptyCircuit (gatheredAtStart (cutFrom file 0)) ≡ c
     go true q = not-accepted 1 0 c q
-    go false q = start-accepted (length file) (cutFrom file 0) c q
+    go false q = start-accepted wanted (length file) (cutFrom file 0) c q
 
     whole : gatheredOf file ≡ c
-    whole = go (ltb mostBytes (length file)) (staged-is-reading file ∙ e)
+    whole = go (ltb mostBytes (length file)) (staged-is-reading wanted file ∙ e)

@@ -15,7 +15,7 @@ use Rattle.circuit.specs.Circuit.{Circuit, Instance, Listed, faultCount}
 use Rattle.circuit.specs.Order.{Tag, inputs-tag, type-tag, edge-tag, bridge-tag, instance-tag, vector-tag, no-tag, tagOf, isKind, isEdge, isUnknown, rank, Previous, start-of-file, after-tag, reached, mayFollow}
 use Rattle.circuit.specs.Known.{Known, start, typeIn, edgeIn, listedIn, instanceIn, vectorIn, latest, withEdge, edgeAdded, taken, typeAtAfter, knownAfter}
 use Rattle.circuit.specs.Table.{Test, Verdict, passes, refusedAt, firstOf, misplaced, unjudged, notComplementary, isEmpty, inputsTests, typeTests, edgeTests, bridgeTests, instanceTests, vectorTests, bodyTests, fieldTests, endTests}
-use Rattle.circuit.specs.Reading.{Reading, accepted, unless, readFrom, readingOf}
+use Rattle.circuit.specs.Reading.{Reading, accepted, unless, readFrom, readingWith}
 use Rattle.circuit.specs.Records.{emptyCircuit}
 use Rattle.circuit.specs.Stages.{Stage, stopped, ifPasses, section, failingBefore, failingVerdict, judged, typeStage, readTo, endedVerdict, pastVerdict, endingVerdict, afterStage, afterInputs, fromStart, staged, fieldPlace}
 use Rattle.circuit.specs.Before.{typesBefore}
@@ -33,13 +33,13 @@ abbrev pub quiet : Previous → Tag → List ModuleType → Type 0
 quiet previous tag types = cond (unjudged previous && not (isEdge tag)) (notComplementary types) false ≡ false
 
 -- a field of a kind that 3, 4 and 9 let through
-read-own : (size : ℕ) (known : Known) (f : Field) (rest : Cut) (kind : Tag) → tagOf (f .tag) ≡ kind
+read-own : (wanted : Bool) (size : ℕ) (known : Known) (f : Field) (rest : Cut) (kind : Tag) → tagOf (f .tag) ≡ kind
     → isUnknown kind ≡ false → mayFollow (known .previous) kind ≡ true → quiet (known .previous) kind (known .circuit .types)
-    → readFrom size known (field f rest)
+    → readFrom wanted size known (field f rest)
     ≡ unless (firstOf (bodyTests kind (known .circuit) (f .at) (f .body)))
-    (readFrom size (knowing (after-tag kind) (cond (isKind type-tag kind) (f .at) (known .typeAt)) (taken kind (known .circuit) (f .body))) rest)
+    (readFrom wanted size (knowing (after-tag kind) (cond (isKind type-tag kind) (f .at) (known .typeAt)) (taken kind (known .circuit) (f .body))) rest)
 unfolding readFrom fieldTests firstOf knownAfter typeAtAfter
-read-own size known f rest kind own a b c = rw (own, a, b, c)
+read-own wanted size known f rest kind own a b c = rw (own, a, b, c)
 
 unless-stage : {A : Type 0} (v : Verdict) (r : Reading) (a : A) (cut : Cut) (s : Stage A) (next : A → Cut → Reading)
     → r ≡ afterStage s next → unless v r ≡ afterStage (ifPasses v a cut s) next
@@ -107,14 +107,14 @@ module _ {kind : Tag} {A : Type 0} {types : List ModuleType} {tests : A → ℕ 
   ready-end previous cut e r =
       let h = r .high in let k = s .high in record { low = r .low; high = omega arith; judged = r .judged; behind = λ q. absurd (omega arith) }
 
-module _ (size : ℕ) (kind : Tag) {A : Type 0} (types : List ModuleType)
+module _ (wanted : Bool) (size : ℕ) (kind : Tag) {A : Type 0} (types : List ModuleType)
     (tests : A → ℕ → List ℕ → List Test) (add : A → List ℕ → A) (circuit : A → Circuit)
     (s : StageOf kind types tests add circuit)
     (next : A → Cut → Reading)
     (goes-on : (a : A) (previous : Previous) (typeAt : ℕ) (cut : Cut) → Ready (suc (rank kind)) previous types cut
-    → readFrom size (knowing previous typeAt (circuit a)) cut ≡ next a cut) where
+    → readFrom wanted size (knowing previous typeAt (circuit a)) cut ≡ next a cut) where
   section-reads : (a : A) (previous : Previous) (typeAt : ℕ) (cut : Cut) → Ready (rank kind) previous types cut
-      → readFrom size (knowing previous typeAt (circuit a)) cut ≡ afterStage (section kind tests add a cut) next
+      → readFrom wanted size (knowing previous typeAt (circuit a)) cut ≡ afterStage (section kind tests add a cut) next
   unfolding section afterStage unless
   section-reads a previous typeAt clean r = goes-on a previous typeAt clean (ready-end s previous clean refl r)
   section-reads a previous typeAt (broken at) r = goes-on a previous typeAt (broken at) (ready-end s previous (broken at) refl r)
@@ -126,12 +126,12 @@ module _ (size : ℕ) (kind : Tag) {A : Type 0} (types : List ModuleType)
       known = knowing previous typeAt (circuit a)
 
       go : (b : Bool) → isKind kind (tagOf (f .tag)) ≡ b
-          → readFrom size (knowing (after-tag kind) (cond (isKind type-tag kind) (f .at) typeAt) (circuit (add a (f .body)))) rest
+          → readFrom wanted size (knowing (after-tag kind) (cond (isKind type-tag kind) (f .at) typeAt) (circuit (add a (f .body)))) rest
           ≡ afterStage (section kind tests add (add a (f .body)) rest) next
-          → readFrom size known (field f rest)
+          → readFrom wanted size known (field f rest)
           ≡ afterStage (cond b (ifPasses (firstOf (tests a (f .at) (f .body))) a (field f rest) (section kind tests add (add a (f .body)) rest)) (stopped a (field f rest))) next
       go true e more =
-          read-own size known f rest kind (kind-is kind (tagOf (f .tag)) e) (s .known-tag) (s .in-place previous (r .low) (r .high))
+          read-own wanted size known f rest kind (kind-is kind (tagOf (f .tag)) e) (s .known-tag) (s .in-place previous (r .low) (r .high))
           (judged-quiet previous kind (circuit a .types) (rw (s .same-types a) (r .judged)))
           ∙ rw (s .tested a (f .at) (f .body), s .added a (f .body))
           (unless-stage (firstOf (tests a (f .at) (f .body))) _ a (field f rest) (section kind tests add (add a (f .body)) rest) next more)
@@ -203,10 +203,10 @@ refused-alike g previous at later more other = go (isUnknown g) (mayFollow previ
     go false true h = let z = h refl in cc
     go false false h = refl
 
-ending-reads : (size : ℕ) (previous : Previous) (typeAt : ℕ) (c : Circuit) (cut : Cut) → Ready 6 previous (c .types) cut
-    → readFrom size (knowing previous typeAt c) cut ≡ unless (endingVerdict size (length (c .instances)) (length (c .vectors)) cut) (accepted c)
+ending-reads : (wanted : Bool) (size : ℕ) (previous : Previous) (typeAt : ℕ) (c : Circuit) (cut : Cut) → Ready 6 previous (c .types) cut
+    → readFrom wanted size (knowing previous typeAt c) cut ≡ unless (endingVerdict wanted size (length (c .instances)) (length (c .vectors)) cut) (accepted c)
 unfolding readFrom unless endTests firstOf endingVerdict endedVerdict pastVerdict fieldTests
-ending-reads size previous typeAt c clean r =
+ending-reads wanted size previous typeAt c clean r =
     let l = r .low in
     let quiet-end : cond (unjudged previous) (notComplementary (c .types)) false ≡ false = judged-end (unjudged previous) (notComplementary (c .types)) (r .judged) in
     rw (quiet-end, ne-eqb (reached previous) 0 (omega arith), empty-count (c .instances), empty-count (c .vectors))
@@ -214,8 +214,8 @@ ending-reads size previous typeAt c clean r =
     judged-end : (u fl : Bool) → (u ≡ true → fl ≡ false) → cond u fl false ≡ false
     judged-end true fl h = h refl
     judged-end false fl h = refl
-ending-reads size previous typeAt c (broken at) r = refl
-ending-reads size previous typeAt c (field f rest) r =
+ending-reads wanted size previous typeAt c (broken at) r = refl
+ending-reads wanted size previous typeAt c (field f rest) r =
     refused-alike (tagOf (f .tag)) previous (f .at) _ _ (accepted c) (λ e. r .behind (known-rank (tagOf (f .tag)) e))
 
 -- ---- types with their edges
@@ -285,33 +285,33 @@ types-past types previous no-tag b other no-type h = absurd (omega arith)
 abbrev pub withTypes : ℕ → List ModuleType → Circuit
 withTypes P types = record { inputs = P; types = types; bridges = []; instances = []; vectors = [] }
 
-module _ (size P : ℕ) (types : List ModuleType) (previous : Previous) (typeAt : ℕ) where
+module _ (wanted : Bool) (size P : ℕ) (types : List ModuleType) (previous : Previous) (typeAt : ℕ) where
   read-edge : (f : Field) (rest : Cut) → tagOf (f .tag) ≡ edge-tag → unjudged previous ≡ true
-      → readFrom size (knowing previous typeAt (withTypes P types)) (field f rest)
-      ≡ unless (firstOf (edgeTests (latest types) (f .at) (f .body))) (readFrom size (knowing (after-tag edge-tag) typeAt (withTypes P (edgeAdded types (edgeIn (f .body))))) rest)
+      → readFrom wanted size (knowing previous typeAt (withTypes P types)) (field f rest)
+      ≡ unless (firstOf (edgeTests (latest types) (f .at) (f .body))) (readFrom wanted size (knowing (after-tag edge-tag) typeAt (withTypes P (edgeAdded types (edgeIn (f .body))))) rest)
   unfolding isKind mayFollow unjudged bodyTests taken
   read-edge f rest own u =
-      read-own size (knowing previous typeAt (withTypes P types)) f rest edge-tag own refl u (rw u)
+      read-own wanted size (knowing previous typeAt (withTypes P types)) f rest edge-tag own refl u (rw u)
 
   read-type : (f : Field) (rest : Cut) → tagOf (f .tag) ≡ type-tag → 1 ≤ reached previous → reached previous ≤ 2 → (unjudged previous ≡ true → notComplementary types ≡ false)
-      → readFrom size (knowing previous typeAt (withTypes P types)) (field f rest)
-      ≡ unless (firstOf (typeTests (length types) (f .at) (f .body))) (readFrom size (knowing (after-tag type-tag) (f .at) (withTypes P (types ++ (typeIn (f .body) ∷ [])))) rest)
+      → readFrom wanted size (knowing previous typeAt (withTypes P types)) (field f rest)
+      ≡ unless (firstOf (typeTests (length types) (f .at) (f .body))) (readFrom wanted size (knowing (after-tag type-tag) (f .at) (withTypes P (types ++ (typeIn (f .body) ∷ [])))) rest)
   unfolding isKind mayFollow bodyTests taken
   read-type f rest own low high j =
-      read-own size (knowing previous typeAt (withTypes P types)) f rest type-tag own refl (between-in 1 2 (reached previous) low high) (judged-quiet previous type-tag types j)
+      read-own wanted size (knowing previous typeAt (withTypes P types)) f rest type-tag own refl (between-in 1 2 (reached previous) low high) (judged-quiet previous type-tag types j)
 
   module _ {A : Type 0} (a : A) (from : Cut) (later : Stage A) (next : A → Cut → Reading) (u : unjudged previous ≡ true) (fl : notComplementary types ≡ true) where
-    failing-at-end : readFrom size (knowing previous typeAt (withTypes P types)) clean ≡ afterStage (ifPasses (failingVerdict typeAt clean) a from later) next
+    failing-at-end : readFrom wanted size (knowing previous typeAt (withTypes P types)) clean ≡ afterStage (ifPasses (failingVerdict typeAt clean) a from later) next
     unfolding readFrom endTests firstOf unless failingVerdict ifPasses afterStage
     failing-at-end = rw (u, fl)
 
     failing-at-broken : (at : ℕ)
-        → readFrom size (knowing previous typeAt (withTypes P types)) (broken at) ≡ afterStage (ifPasses (failingVerdict typeAt (broken at)) a from later) next
+        → readFrom wanted size (knowing previous typeAt (withTypes P types)) (broken at) ≡ afterStage (ifPasses (failingVerdict typeAt (broken at)) a from later) next
     unfolding readFrom failingVerdict unless ifPasses afterStage
     failing-at-broken at = refl
 
     failing-at-field : (f : Field) (rest : Cut) → isEdge (tagOf (f .tag)) ≡ false
-        → readFrom size (knowing previous typeAt (withTypes P types)) (field f rest)
+        → readFrom wanted size (knowing previous typeAt (withTypes P types)) (field f rest)
         ≡ afterStage (ifPasses (failingVerdict typeAt (field f rest)) a from later) next
     unfolding readFrom failingVerdict failingBefore unless ifPasses afterStage
     failing-at-field f rest other =
@@ -325,36 +325,36 @@ module _ (size P : ℕ) (types : List ModuleType) (previous : Previous) (typeAt 
         go false true more = refl
         go false false more = refl
 
-module _ (size P : ℕ) where
+module _ (wanted : Bool) (size P : ℕ) where
   module _ (next : List ModuleType → Cut → Reading)
       (goes-on : (types : List ModuleType) (previous : Previous) (typeAt : ℕ) (cut : Cut) → Ready 3 previous types cut
-      → readFrom size (knowing previous typeAt (withTypes P types)) cut ≡ next types cut) where
+      → readFrom wanted size (knowing previous typeAt (withTypes P types)) cut ≡ next types cut) where
     -- the latest type is judged: where it is not complementary, so that this is what is read, and else
     judge : (types : List ModuleType) (previous : Previous) (from cut : Cut) (later : Stage (List ModuleType)) → Before types previous
         → (isEmpty types ≡ false → notComplementary types ≡ true
-        → readFrom size (knowing previous (fieldPlace from) (withTypes P types)) cut ≡ afterStage (ifPasses (failingVerdict (fieldPlace from) cut) (typesBefore types) from later) next)
-        → ((unjudged previous ≡ true → notComplementary types ≡ false) → readFrom size (knowing previous (fieldPlace from) (withTypes P types)) cut ≡ afterStage later next)
-        → readFrom size (knowing previous (fieldPlace from) (withTypes P types)) cut ≡ afterStage (ifPasses (judged types (fieldPlace from) cut) (typesBefore types) from later) next
+        → readFrom wanted size (knowing previous (fieldPlace from) (withTypes P types)) cut ≡ afterStage (ifPasses (failingVerdict (fieldPlace from) cut) (typesBefore types) from later) next)
+        → ((unjudged previous ≡ true → notComplementary types ≡ false) → readFrom wanted size (knowing previous (fieldPlace from) (withTypes P types)) cut ≡ afterStage later next)
+        → readFrom wanted size (knowing previous (fieldPlace from) (withTypes P types)) cut ≡ afterStage (ifPasses (judged types (fieldPlace from) cut) (typesBefore types) from later) next
     unfolding judged ifPasses
     judge types previous from cut later b failing fine = go (isEmpty types) (notComplementary types) refl refl
       where
         go : (em fl : Bool) → isEmpty types ≡ em → notComplementary types ≡ fl
-            → readFrom size (knowing previous (fieldPlace from) (withTypes P types)) cut
+            → readFrom wanted size (knowing previous (fieldPlace from) (withTypes P types)) cut
             ≡ afterStage (ifPasses (cond em passes (cond fl (failingVerdict (fieldPlace from) cut) passes)) (typesBefore types) from later) next
         go true fl e f = fine (none-waits types previous b e)
         go false true e f = failing e f
         go false false e f = fine (λ u. f)
 
     types-read : (types : List ModuleType) (previous : Previous) (from cut : Cut) → Before types previous
-        → readFrom size (knowing previous (fieldPlace from) (withTypes P types)) cut ≡ afterStage (typeStage types from cut) next
+        → readFrom wanted size (knowing previous (fieldPlace from) (withTypes P types)) cut ≡ afterStage (typeStage types from cut) next
     unfolding typeStage afterStage edgeAdded unless fieldPlace
     types-read types previous from clean b =
         judge types previous from clean (stopped types clean) b
-        (λ em fl. failing-at-end size P types previous (fieldPlace from) (typesBefore types) from (stopped types clean) next (b .some em) fl)
+        (λ em fl. failing-at-end wanted size P types previous (fieldPlace from) (typesBefore types) from (stopped types clean) next (b .some em) fl)
         (λ j. goes-on types previous (fieldPlace from) clean (ready types previous clean b j (λ h. absurd (omega arith))))
     types-read types previous from (broken at) b =
         judge types previous from (broken at) (stopped types (broken at)) b
-        (λ em fl. failing-at-broken size P types previous (fieldPlace from) (typesBefore types) from (stopped types (broken at)) next (b .some em) fl at)
+        (λ em fl. failing-at-broken wanted size P types previous (fieldPlace from) (typesBefore types) from (stopped types (broken at)) next (b .some em) fl at)
         (λ j. goes-on types previous (fieldPlace from) (broken at) (ready types previous (broken at) b j (λ h. absurd (omega arith))))
     types-read types previous from (field f rest) b =
         go (isEdge (tagOf (f .tag)) && not (isEmpty types)) refl
@@ -368,80 +368,80 @@ module _ (size P : ℕ) where
         type = ifPasses (firstOf (typeTests (length types) (f .at) (f .body))) types (field f rest) (typeStage (types ++ (typeIn (f .body) ∷ [])) (field f rest) rest)
 
         go : (own : Bool) → (isEdge (tagOf (f .tag)) && not (isEmpty types)) ≡ own
-            → (Before (edgeAdded types (edgeIn (f .body))) (after-tag edge-tag) → readFrom size (knowing (after-tag edge-tag) (fieldPlace from) (withTypes P (edgeAdded types (edgeIn (f .body))))) rest
+            → (Before (edgeAdded types (edgeIn (f .body))) (after-tag edge-tag) → readFrom wanted size (knowing (after-tag edge-tag) (fieldPlace from) (withTypes P (edgeAdded types (edgeIn (f .body))))) rest
             ≡ afterStage (typeStage (edgeAdded types (edgeIn (f .body))) from rest) next)
-            → (Before (types ++ (typeIn (f .body) ∷ [])) (after-tag type-tag) → readFrom size (knowing (after-tag type-tag) (f .at) (withTypes P (types ++ (typeIn (f .body) ∷ [])))) rest
+            → (Before (types ++ (typeIn (f .body) ∷ [])) (after-tag type-tag) → readFrom wanted size (knowing (after-tag type-tag) (f .at) (withTypes P (types ++ (typeIn (f .body) ∷ [])))) rest
             ≡ afterStage (typeStage (types ++ (typeIn (f .body) ∷ [])) (field f rest) rest) next)
-            → readFrom size (knowing previous (fieldPlace from) (withTypes P types)) (field f rest)
+            → readFrom wanted size (knowing previous (fieldPlace from) (withTypes P types)) (field f rest)
             ≡ afterStage (cond own edge (ifPasses (judged types (fieldPlace from) (field f rest)) (typesBefore types) from (cond (isKind type-tag (tagOf (f .tag))) type (stopped types (field f rest))))) next
         go true e more-edge more-type =
             let parts = both-true (isEdge (tagOf (f .tag))) (not (isEmpty types)) e in
             let some = not-true (isEmpty types) (parts .1) in
-            read-edge size P types previous (fieldPlace from) f rest (kind-is edge-tag (tagOf (f .tag)) (parts .0)) (b .some some)
+            read-edge wanted size P types previous (fieldPlace from) f rest (kind-is edge-tag (tagOf (f .tag)) (parts .0)) (b .some some)
             ∙ unless-stage (firstOf (edgeTests (latest types) (f .at) (f .body))) _ (typesBefore types) from (typeStage (edgeAdded types (edgeIn (f .body))) from rest) next
             (more-edge (after-type (edgeAdded types (edgeIn (f .body))) (after-tag edge-tag)
             (set-some types (length types - 1) (withEdge (latest types) (edgeIn (f .body))) some) refl))
         go false e more-edge more-type = judge types previous from (field f rest) (cond (isKind type-tag (tagOf (f .tag))) type (stopped types (field f rest))) b failing fine
           where
-            failing : isEmpty types ≡ false → notComplementary types ≡ true → readFrom size (knowing previous (fieldPlace from) (withTypes P types)) (field f rest)
+            failing : isEmpty types ≡ false → notComplementary types ≡ true → readFrom wanted size (knowing previous (fieldPlace from) (withTypes P types)) (field f rest)
                 ≡ afterStage (ifPasses (failingVerdict (fieldPlace from) (field f rest)) (typesBefore types) from (cond (isKind type-tag (tagOf (f .tag))) type (stopped types (field f rest)))) next
             failing em fl =
-                failing-at-field size P types previous (fieldPlace from) (typesBefore types) from (cond (isKind type-tag (tagOf (f .tag))) type (stopped types (field f rest))) next (b .some em) fl f rest
+                failing-at-field wanted size P types previous (fieldPlace from) (typesBefore types) from (cond (isKind type-tag (tagOf (f .tag))) type (stopped types (field f rest))) next (b .some em) fl f rest
                 (sym (and-true (isEdge (tagOf (f .tag)))) ∙ (rw em at e))
 
             as-type : (two : Bool) → isKind type-tag (tagOf (f .tag)) ≡ two → (unjudged previous ≡ true → notComplementary types ≡ false)
-                → readFrom size (knowing previous (fieldPlace from) (withTypes P types)) (field f rest) ≡ afterStage (cond two type (stopped types (field f rest))) next
+                → readFrom wanted size (knowing previous (fieldPlace from) (withTypes P types)) (field f rest) ≡ afterStage (cond two type (stopped types (field f rest))) next
             as-type true q j =
-                read-type size P types previous (fieldPlace from) f rest (kind-is type-tag (tagOf (f .tag)) q) (b .low) (b .high) j
+                read-type wanted size P types previous (fieldPlace from) f rest (kind-is type-tag (tagOf (f .tag)) q) (b .low) (b .high) j
                 ∙ unless-stage (firstOf (typeTests (length types) (f .at) (f .body))) _ types (field f rest) (typeStage (types ++ (typeIn (f .body) ∷ [])) (field f rest) rest) next
                 (more-type (after-type (types ++ (typeIn (f .body) ∷ [])) (after-tag type-tag) (snoc-some types (typeIn (f .body))) refl))
             as-type false q j =
                 goes-on types previous (fieldPlace from) (field f rest) (ready types previous (field f rest) b j (types-past types previous (tagOf (f .tag)) b e q))
 
             fine : (unjudged previous ≡ true → notComplementary types ≡ false)
-                → readFrom size (knowing previous (fieldPlace from) (withTypes P types)) (field f rest)
+                → readFrom wanted size (knowing previous (fieldPlace from) (withTypes P types)) (field f rest)
                 ≡ afterStage (cond (isKind type-tag (tagOf (f .tag))) type (stopped types (field f rest))) next
             fine = as-type (isKind type-tag (tagOf (f .tag))) refl
 
 -- ---- the whole
 
 -- every stage after the inputs field
-after-inputs : (size P : ℕ) (cut : Cut) → readFrom size (knowing (after-tag inputs-tag) 0 (withTypes P [])) cut ≡ afterInputs size P cut
+after-inputs : (wanted : Bool) (size P : ℕ) (cut : Cut) → readFrom wanted size (knowing (after-tag inputs-tag) 0 (withTypes P [])) cut ≡ afterInputs wanted size P cut
 unfolding afterInputs isEmpty unjudged fieldPlace
-after-inputs size P cut =
-    types-read size P _ (λ types p₂ at₂ cut₂ r₂.
-    section-reads size bridge-tag types _ _ _ (bridges-stage P types) _ (λ bridges p₃ at₃ cut₃ r₃.
-    section-reads size instance-tag types _ _ _ (instances-stage P types bridges) _ (λ instances p₄ at₄ cut₄ r₄.
-    section-reads size vector-tag types _ _ _ (vectors-stage P types bridges instances) _ (λ vectors p₅ at₅ cut₅ r₅.
-    ending-reads size p₅ at₅ (record { inputs = P; types = types; bridges = bridges; instances = instances; vectors = vectors }) cut₅ r₅)
+after-inputs wanted size P cut =
+    types-read wanted size P _ (λ types p₂ at₂ cut₂ r₂.
+    section-reads wanted size bridge-tag types _ _ _ (bridges-stage P types) _ (λ bridges p₃ at₃ cut₃ r₃.
+    section-reads wanted size instance-tag types _ _ _ (instances-stage P types bridges) _ (λ instances p₄ at₄ cut₄ r₄.
+    section-reads wanted size vector-tag types _ _ _ (vectors-stage P types bridges instances) _ (λ vectors p₅ at₅ cut₅ r₅.
+    ending-reads wanted size p₅ at₅ (record { inputs = P; types = types; bridges = bridges; instances = instances; vectors = vectors }) cut₅ r₅)
     [] p₄ at₄ cut₄ r₄) [] p₃ at₃ cut₃ r₃) [] p₂ at₂ cut₂ r₂) [] (after-tag inputs-tag) clean cut
     (record { low = omega arith; high = omega arith; none = λ e. refl; some = λ e. cc })
 
-read-first : (size : ℕ) (f : Field) (rest : Cut) → tagOf (f .tag) ≡ inputs-tag
-    → readFrom size start (field f rest) ≡ unless (firstOf (inputsTests (f .at) (f .body))) (afterInputs size (twoBytes (f .body) 0) rest)
+read-first : (wanted : Bool) (size : ℕ) (f : Field) (rest : Cut) → tagOf (f .tag) ≡ inputs-tag
+    → readFrom wanted size start (field f rest) ≡ unless (firstOf (inputsTests (f .at) (f .body))) (afterInputs wanted size (twoBytes (f .body) 0) rest)
 unfolding isKind mayFollow unjudged bodyTests taken
-read-first size f rest own =
-    read-own size start f rest inputs-tag own refl refl refl ∙ ap (unless (firstOf (inputsTests (f .at) (f .body)))) (after-inputs size (twoBytes (f .body) 0) rest)
+read-first wanted size f rest own =
+    read-own wanted size start f rest inputs-tag own refl refl refl ∙ ap (unless (firstOf (inputsTests (f .at) (f .body)))) (after-inputs wanted size (twoBytes (f .body) 0) rest)
 
-read-other : (size : ℕ) (f : Field) (rest : Cut) → isKind inputs-tag (tagOf (f .tag)) ≡ false
-    → readFrom size start (field f rest) ≡ unless (pastVerdict (tagOf (f .tag)) (f .at)) (accepted emptyCircuit)
+read-other : (wanted : Bool) (size : ℕ) (f : Field) (rest : Cut) → isKind inputs-tag (tagOf (f .tag)) ≡ false
+    → readFrom wanted size start (field f rest) ≡ unless (pastVerdict (tagOf (f .tag)) (f .at)) (accepted emptyCircuit)
 unfolding readFrom fieldTests firstOf pastVerdict
-read-other size f rest other =
+read-other wanted size f rest other =
     refused-alike (tagOf (f .tag)) start-of-file (f .at) _ _ (accepted emptyCircuit) (first-place start-of-file (tagOf (f .tag)) refl other)
 
-from-start : (size : ℕ) (cut : Cut) → fromStart size cut ≡ readFrom size start cut
+from-start : (wanted : Bool) (size : ℕ) (cut : Cut) → fromStart wanted size cut ≡ readFrom wanted size start cut
 unfolding fromStart readFrom unless endTests firstOf unjudged endingVerdict endedVerdict
-from-start size clean = refl
-from-start size (broken at) = refl
-from-start size (field f rest) = go (isKind inputs-tag (tagOf (f .tag))) refl
+from-start wanted size clean = refl
+from-start wanted size (broken at) = refl
+from-start wanted size (field f rest) = go (isKind inputs-tag (tagOf (f .tag))) refl
   where
     go : (own : Bool) → isKind inputs-tag (tagOf (f .tag)) ≡ own
-        → cond own (unless (firstOf (inputsTests (f .at) (f .body))) (afterInputs size (twoBytes (f .body) 0) rest))
+        → cond own (unless (firstOf (inputsTests (f .at) (f .body))) (afterInputs wanted size (twoBytes (f .body) 0) rest))
         (unless (pastVerdict (tagOf (f .tag)) (f .at)) (accepted emptyCircuit))
-        ≡ readFrom size start (field f rest)
-    go true e = sym (read-first size f rest (kind-is inputs-tag (tagOf (f .tag)) e))
-    go false e = sym (read-other size f rest e)
+        ≡ readFrom wanted size start (field f rest)
+    go true e = sym (read-first wanted size f rest (kind-is inputs-tag (tagOf (f .tag)) e))
+    go false e = sym (read-other wanted size f rest e)
 
 pub staged-is-reading : StagedIsReading
-unfolding staged readingOf
-staged-is-reading file = rw (from-start (length file) (cutFrom file 0))
+unfolding staged readingWith
+staged-is-reading wanted file = rw (from-start wanted (length file) (cutFrom file 0))

@@ -15,13 +15,13 @@ use Rattle.circuit.specs.Circuit.{Circuit, Instance, Listed, Choice, exh
 use Rattle.circuit.specs.Circuit.{chosenSize, faultsOf, faultCount}
 use Rattle.circuit.specs.Numbers.{referenceGood}
 use Rattle.circuit.specs.Table.{listUnsuited, listEmpty}
-use Rattle.circuit.specs.Reading.{Reading, accepted, refusal, readingOf}
+use Rattle.circuit.specs.Reading.{Reading, accepted, refusal, readingWith}
 use Rattle.circuit.specs.Answers.{Answers}
 use Rattle.circuit.specs.Before.{readBefore}
 use Rattle.circuit.specs.Stages.{staged, gatheredOf}
 use Rattle.circuit.specs.declared.Reading.{Reading as ReadingRecord}
 
--- ---- what holds of a circuit that was accepted
+-- ---- what holds of a circuit that was read
 
 -- at each place of a list; places are counted from 0, and `none` is what stands past the end
 abbrev pub Each : {A : Type 0} → (ℕ → A → Type 0) → List A → Type 0
@@ -66,32 +66,39 @@ pub record InstanceGood (P : ℕ) (types : List ModuleType) (bridges : List List
   pub suited : listUnsuited (typeOfInstance types i) bridges (i .choice) ≡ false
   pub filled : listEmpty bridges (i .choice) ≡ false
 
--- a circuit each of whose fields keeps the rules, with at least so many inputs, instances and vectors
-pub record GoodWithLeast (least : ℕ) (c : Circuit) : Type 0 where
-  pub inputs : (least ≤ c .inputs) × (c .inputs ≤ 64)
+-- a circuit each of whose fields keeps the rules, as far as it is read
+pub record CircuitGood (c : Circuit) : Type 0 where
+  pub few-inputs : c .inputs ≤ 64
   pub few-types : length (c .types) ≤ mostTypes
   pub types : Each (λ (i : ℕ) (t : ModuleType). TypeGood t) (c .types)
   pub few-bridges : length (c .bridges) ≤ mostBridges
   pub bridges : Each (λ (i : ℕ) (b : Listed). ListedGood b) (c .bridges)
-  pub some-instance : least ≤ length (c .instances)
   pub few-instances : length (c .instances) ≤ mostInstances
   pub instances : Each (InstanceGood (c .inputs) (c .types) (c .bridges)) (c .instances)
   pub few-faults : faultCount (c .types) (c .bridges) (c .instances) ≤ mostFaults
-  pub some-vector : least ≤ length (c .vectors)
   pub few-vectors : length (c .vectors) ≤ mostVectors
   pub vectors : Each (λ (i : ℕ) (v : List Value). length v ≡ c .inputs) (c .vectors)
 
-abbrev pub CircuitGood : Circuit → Type 0
-CircuitGood c = GoodWithLeast 1 c
-
 abbrev pub AcceptedIsGood : Type 0
-AcceptedIsGood = (file : List ℕ) (c : Circuit) → readingOf file ≡ accepted c → CircuitGood c
+AcceptedIsGood = (wanted : Bool) (file : List ℕ) (c : Circuit) → readingWith wanted file ≡ accepted c → CircuitGood c
+
+abbrev pub HasVector : Circuit → Type 0
+HasVector c = 1 ≤ length (c .vectors)
+
+-- what a whole file has: an input, an instance and, where it was wanted, a vector
+pub record Whole (wanted : Bool) (c : Circuit) : Type 0 where
+  pub some-input : 1 ≤ c .inputs
+  pub some-instance : 1 ≤ length (c .instances)
+  pub some-vector : wanted ≡ true → HasVector c
+
+abbrev pub AcceptedIsWhole : Type 0
+AcceptedIsWhole = (wanted : Bool) (file : List ℕ) (c : Circuit) → readingWith wanted file ≡ accepted c → Whole wanted c
 
 -- ---- what holds of a refusal
 
--- what was read before it keeps the rules too, but may be nothing
+-- what was read before it keeps the rules too
 abbrev pub BeforeIsGood : Type 0
-BeforeIsGood = (file : List ℕ) → GoodWithLeast 0 (readBefore file)
+BeforeIsGood = (file : List ℕ) → CircuitGood (readBefore file)
 
 -- a number of the table, and a place in the file or at its end
 pub record RefusalGood (size number place : ℕ) : Type 0 where
@@ -100,7 +107,9 @@ pub record RefusalGood (size number place : ℕ) : Type 0 where
   pub inside : place ≤ size
 
 abbrev pub RefusalIsGood : Type 0
-RefusalIsGood = (file : List ℕ) (number place : ℕ) → readingOf file ≡ refusal number place → RefusalGood (length file) number place
+RefusalIsGood =
+    (wanted : Bool) (file : List ℕ) (number place : ℕ)
+    → readingWith wanted file ≡ refusal number place → RefusalGood (length file) number place
 
 -- ---- the faults of instances
 
@@ -120,7 +129,7 @@ CountIsRows =
 
 -- reading stage by stage is reading field by field
 abbrev pub StagedIsReading : Type 0
-StagedIsReading = (file : List ℕ) → staged file ≡ readingOf file
+StagedIsReading = (wanted : Bool) (file : List ℕ) → staged wanted file ≡ readingWith wanted file
 
 -- what the stages gather is what was read before the refused field
 abbrev pub GatheredIsBefore : Type 0
@@ -128,7 +137,7 @@ GatheredIsBefore = (file : List ℕ) → gatheredOf file ≡ readBefore file
 
 -- and of an accepted file it is the circuit
 abbrev pub BeforeIsCircuit : Type 0
-BeforeIsCircuit = (file : List ℕ) (c : Circuit) → readingOf file ≡ accepted c → readBefore file ≡ c
+BeforeIsCircuit = (wanted : Bool) (file : List ℕ) (c : Circuit) → readingWith wanted file ≡ accepted c → readBefore file ≡ c
 
 -- the promise of `read` is met by one answer only
 abbrev pub AnswersUnique : Type 0

@@ -1,7 +1,7 @@
 -- A file's circuit or refusal. 01, "Refusal numbers": number 1 is looked at first; then fields in file order; at the end of the file 9 and
--- then 14.
+-- then 14. 01 wants a vector of every file; a reading that wants none differs in that alone.
 use Prim.Native.Nat.{ℕ}
-use mathlib.Core.Bool.{cond}
+use mathlib.Core.Bool.{Bool, true, cond}
 use mathlib.Core.List.{List}
 use lib.Dec.{ltb}
 use lib.ListN.{length}
@@ -19,13 +19,17 @@ unfoldable pub unless : Verdict → Reading → Reading
 unless passes reading = reading
 unless (refusedAt number place) reading = refusal number place
 
--- the fields that are left, after what is known from those before them, in a file of this size
-unfoldable pub readFrom : ℕ → Known → Cut → Reading
-readFrom size known clean = unless (firstOf (endTests known size)) (accepted (known .circuit))
-readFrom size known (broken at) = refusal 2 at
-readFrom size known (field f rest) =
-    let later = readFrom size (knownAfter known f) rest in unless (firstOf (fieldTests known f)) later
+-- the fields that are left, after what is known from those before them, in a file of this size, of which a vector is wanted or not
+unfoldable pub readFrom : Bool → ℕ → Known → Cut → Reading
+readFrom wanted size known clean = unless (firstOf (endTests wanted known size)) (accepted (known .circuit))
+readFrom wanted size known (broken at) = refusal 2 at
+readFrom wanted size known (field f rest) =
+    let later = readFrom wanted size (knownAfter known f) rest in unless (firstOf (fieldTests known f)) later
 
-unfoldable pub readingOf : List ℕ → Reading
-readingOf file =
-    let whole = readFrom (length file) start (cutFrom file 0) in cond (ltb mostBytes (length file)) (refusal 1 0) whole
+unfoldable pub readingWith : Bool → List ℕ → Reading
+readingWith wanted file =
+    let whole = readFrom wanted (length file) start (cutFrom file 0) in cond (ltb mostBytes (length file)) (refusal 1 0) whole
+
+-- what 01 says of a file
+abbrev pub readingOf : List ℕ → Reading
+readingOf file = readingWith true file

@@ -1,7 +1,7 @@
 -- How the code reads: types with their edges, then bridges, instances and vectors, a stage each, and then the ending.
 -- That this order of work gives what Reading and Before say is proved in proofs/StageLaws and proofs/GatheredLaws.
 use Prim.Native.Nat.{ℕ}
-use mathlib.Core.Bool.{cond, not, _&&_}
+use mathlib.Core.Bool.{Bool, cond, not, _&&_}
 use mathlib.Core.List.{List, [], _∷_, _++_}
 use lib.Dec.{eqb, ltb}
 use lib.ListN.{length}
@@ -109,41 +109,43 @@ typeStage types from (field f rest) =
 
 -- ---- the ending, and the whole
 
--- after all stages nothing may stand but the end, and an instance and a vector must have been there
-unfoldable pub endedVerdict : ℕ → ℕ → ℕ → Verdict
-endedVerdict size instances vectors = cond (eqb instances 0) (refusedAt 14 size) (cond (eqb vectors 0) (refusedAt 14 size) passes)
+-- after all stages nothing may stand but the end, and an instance and, where it is wanted, a vector must have been there
+unfoldable pub endedVerdict : Bool → ℕ → ℕ → ℕ → Verdict
+endedVerdict wanted size instances vectors =
+    cond (eqb instances 0) (refusedAt 14 size) (cond (wanted && eqb vectors 0) (refusedAt 14 size) passes)
 
 unfoldable pub pastVerdict : Tag → ℕ → Verdict
 pastVerdict tag at = cond (isUnknown tag) (refusedAt 3 at) (refusedAt 4 at)
 
-unfoldable pub endingVerdict : ℕ → ℕ → ℕ → Cut → Verdict
-endingVerdict size instances vectors clean = endedVerdict size instances vectors
-endingVerdict size instances vectors (broken at) = refusedAt 2 at
-endingVerdict size instances vectors (field f rest) = pastVerdict (tagOf (f .tag)) (f .at)
+unfoldable pub endingVerdict : Bool → ℕ → ℕ → ℕ → Cut → Verdict
+endingVerdict wanted size instances vectors clean = endedVerdict wanted size instances vectors
+endingVerdict wanted size instances vectors (broken at) = refusedAt 2 at
+endingVerdict wanted size instances vectors (field f rest) = pastVerdict (tagOf (f .tag)) (f .at)
 
 unfoldable pub afterStage : {A : Type 0} → Stage A → (A → Cut → Reading) → Reading
 afterStage s next = unless (s .verdict) (next (s .gathered) (s .rest))
 
-unfoldable pub afterInputs : ℕ → ℕ → Cut → Reading
-afterInputs size P cut =
+unfoldable pub afterInputs : Bool → ℕ → ℕ → Cut → Reading
+afterInputs wanted size P cut =
     afterStage (typeStage [] clean cut) λ (types : List ModuleType) (cut₂ : Cut).
     afterStage (bridgeStage [] cut₂) λ (bridges : List Listed) (cut₃ : Cut).
     afterStage (instanceStage P types bridges [] cut₃) λ (instances : List Instance) (cut₄ : Cut).
     afterStage (vectorStage P [] cut₄) λ (vectors : List (List Value)) (cut₅ : Cut).
-    unless (endingVerdict size (length instances) (length vectors) cut₅)
+    unless (endingVerdict wanted size (length instances) (length vectors) cut₅)
     (accepted (record { inputs = P; types = types; bridges = bridges; instances = instances; vectors = vectors }))
 
 -- the first field is tag 1, or the file ends before it begins
-unfoldable pub fromStart : ℕ → Cut → Reading
-fromStart size clean = unless (endingVerdict size 0 0 clean) (accepted emptyCircuit)
-fromStart size (broken at) = unless (endingVerdict size 0 0 (broken at)) (accepted emptyCircuit)
-fromStart size (field f rest) =
-    let first = unless (firstOf (inputsTests (f .at) (f .body))) (afterInputs size (twoBytes (f .body) 0) rest) in
+unfoldable pub fromStart : Bool → ℕ → Cut → Reading
+fromStart wanted size clean = unless (endingVerdict wanted size 0 0 clean) (accepted emptyCircuit)
+fromStart wanted size (broken at) = unless (endingVerdict wanted size 0 0 (broken at)) (accepted emptyCircuit)
+fromStart wanted size (field f rest) =
+    let first = unless (firstOf (inputsTests (f .at) (f .body))) (afterInputs wanted size (twoBytes (f .body) 0) rest) in
     let other = unless (pastVerdict (tagOf (f .tag)) (f .at)) (accepted emptyCircuit) in
     cond (isKind inputs-tag (tagOf (f .tag))) first other
 
-unfoldable pub staged : List ℕ → Reading
-staged file = let whole = fromStart (length file) (cutFrom file 0) in cond (ltb mostBytes (length file)) (refusal 1 0) whole
+unfoldable pub staged : Bool → List ℕ → Reading
+staged wanted file =
+    let whole = fromStart wanted (length file) (cutFrom file 0) in cond (ltb mostBytes (length file)) (refusal 1 0) whole
 
 -- ---- what was read, also where the file is refused
 

@@ -160,12 +160,12 @@ fieldTests known f =
     ∷ test 9 (cond (unjudged (known .previous) && not (isEdge tag)) failing false) (known .typeAt)
     ∷ bodyTests tag (known .circuit) (f .at) (f .body)
 
--- file ended with no tag 1, no instance or no vector
-unfoldable pub endTests : Known → ℕ → List Test
-endTests known size =
+-- file ended with no tag 1, no instance or, where a vector is wanted, no vector
+unfoldable pub endTests : Bool → Known → ℕ → List Test
+endTests wanted known size =
     let failing = notComplementary (known .circuit .types) in
     test 9 (cond (unjudged (known .previous)) failing false) (known .typeAt)
     ∷ test 14 (atStart (known .previous)) size
     ∷ test 14 (isEmpty (known .circuit .instances)) size
-    ∷ test 14 (isEmpty (known .circuit .vectors)) size
+    ∷ test 14 (wanted && isEmpty (known .circuit .vectors)) size
     ∷ []

@@ -139,7 +139,7 @@ accepts-one = tt
 
 taken : (r : Reading) → readingOf inverter ≡ r → T (isAccepted r) → (c : CircuitRecord) × CircuitGiven c
 unfolding isAccepted
-taken (accepted c) e so = (circuitRecord c, record { circuit = c; is = refl; good = accepted-is-good inverter c e })
+taken (accepted c) e so = (circuitRecord c, record { circuit = c; is = refl; good = accepted-is-good true inverter c e })
 taken (refusal number place) e so = absurd so
 
 pub circuit-given : (c : CircuitRecord) × CircuitGiven c

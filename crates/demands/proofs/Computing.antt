@@ -16,7 +16,7 @@ use Rattle.circuit.specs.Order.{tagOf, isKind, mayFollow}
 use Rattle.circuit.specs.Known.{typeIn, edgeIn, bridgeOf, listedIn, referencesIn, instanceIn, letterOf, vectorIn, latest, withEdge, edgeAdded, taken, typeAtAfter, knownAfter}
 use Rattle.circuit.specs.Records.{choiceByte}
 use Rattle.circuit.specs.Table.{firstOf, unjudged, notComplementary, bridgeInRange, bridgeSuits, isEmpty, listUnsuited, listEmpty, isLetter, inputsTests, typeTests, edgeTestsOf, edgeTests, bridgeTests, instanceTests, vectorTests, bodyTests, fieldTests, endTests}
-use Rattle.circuit.specs.Reading.{unless, readFrom, readingOf}
+use Rattle.circuit.specs.Reading.{unless, readFrom, readingWith}
 use Rattle.grading.specs.Buffers.{Buffers, buffersOf}
 use Rattle.grading.specs.Values.{valueAt, labelValues, outputsAfter, outputsOf}
 use Rattle.grading.specs.Rows.{rowsOfInstance, rowsFrom, rowsOf, rowValues, cell, markOf, rowWords, matrixOf}
@@ -36,7 +36,7 @@ unfolding bit pack word sumTo table upTo rowOf choiceByte
     tagOf isKind mayFollow typeIn edgeIn bridgeOf listedIn referencesIn instanceIn letterOf vectorIn latest withEdge edgeAdded taken typeAtAfter knownAfter
     firstOf unjudged notComplementary bridgeInRange bridgeSuits isEmpty listUnsuited listEmpty isLetter
     inputsTests typeTests edgeTestsOf edgeTests bridgeTests instanceTests vectorTests bodyTests fieldTests endTests
-    unless readFrom readingOf valueAt labelValues outputsAfter outputsOf rowsOfInstance rowsFrom rowsOf rowValues cell markOf rowWords matrixOf
+    unless readFrom readingWith valueAt labelValues outputsAfter outputsOf rowsOfInstance rowsFrom rowsOf rowValues cell markOf rowWords matrixOf
     sameReference sameLabel sameBridge sameClass classAmongBy largest classesAfterBy classesBy hasMarkBy classFoundBy foundBy foundCount
     countsOfCircuit gradingOfCircuit afterReading gradingOf countsIn numberIn placeIn over buffersAfter
 computing = tt

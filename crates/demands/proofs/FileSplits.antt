@@ -124,7 +124,7 @@ module _ (file : List ℕ) (small : (i : ℕ) → getD file i 0 < 256) where
 
   -- `most` bounds the number of fields
   whole-fields : (most size : ℕ) (known : Known) (at : ℕ) (c : Circuit) → at ≤ length file → length file < at + most
-      → readFrom size known (cutFrom file at) ≡ accepted c → (fs : List TagAndBody) × (drop at file ≡ fieldsOf fs)
+      → readFrom true size known (cutFrom file at) ≡ accepted c → (fs : List TagAndBody) × (drop at file ≡ fieldsOf fs)
   unfolding readFrom joinLists
   whole-fields zero size known at c h enough e = absurd (omega arith)
   whole-fields (suc most) size known at c h enough e =
@@ -132,17 +132,17 @@ module _ (file : List ℕ) (small : (i : ℕ) → getD file i 0 < 256) where
       (λ whole read. whole-fields most size (knownAfter known (standing file at)) (behind file at) c whole (omega arith) read)
     where
       go : Dec (length file ≡ at) → Dec (length file < behind file at)
-          → (behind file at ≤ length file → readFrom size (knownAfter known (standing file at)) (cutFrom file (behind file at)) ≡ accepted c
+          → (behind file at ≤ length file → readFrom true size (knownAfter known (standing file at)) (cutFrom file (behind file at)) ≡ accepted c
           → (fs : List TagAndBody) × (drop (behind file at) file ≡ fieldsOf fs))
           → (fs : List TagAndBody) × (drop at file ≡ fieldsOf fs)
       go (yes end) b later = ([], ap (λ (k : ℕ). drop k file) (sym end) ∙ drop-length file)
       go (no more) (yes short) later =
-          let q = ap (readFrom size known) (sym (cut-broken file at (omega arith) short)) ∙ e in
+          let q = ap (readFrom true size known) (sym (cut-broken file at (omega arith) short)) ∙ e in
           let z : _≡_ {A = ℕ} 0 1 = cc in
           absurd (omega arith)
       go (no more) (no whole) later =
           let inside : behind file at ≤ length file = omega arith in
-          let read = ap (readFrom size known) (sym (cut-field file at inside)) ∙ e in
+          let read = ap (readFrom true size known) (sym (cut-field file at inside)) ∙ e in
           let fs = later inside (after-verdict (firstOf (fieldTests known (standing file at))) _ c read) in (
             record { tag = getD file at 0; body = standing file at .body } ∷ fs .0,
             field-bytes at inside ∙ ap (λ (l : List ℕ). bytesOfField (getD file at 0) (standing file at .body) ++ l) (fs .1),
@@ -179,7 +179,7 @@ unfolding tagOf
 behind-a-vector tag e = ap (λ (n : ℕ). after-tag (tagOf n)) e
 
 all-vectors : (size : ℕ) (known : Known) (at : ℕ) (fs : List TagAndBody) (c : Circuit) → known .previous ≡ after-tag vector-tag
-    → readFrom size known (cutOf at fs) ≡ accepted c → (bodies : List (List ℕ)) × (fs ≡ map vectorField bodies)
+    → readFrom true size known (cutOf at fs) ≡ accepted c → (bodies : List (List ℕ)) × (fs ≡ map vectorField bodies)
 unfolding readFrom cutOf knownAfter fieldTests
 all-vectors size known at [] c previous e = ([], refl)
 all-vectors size known at (f ∷ fs) c previous e =
@@ -197,13 +197,13 @@ abbrev VectorsLast : List TagAndBody → Type 0
 VectorsLast fs = (head : List TagAndBody) × (bodies : List (List ℕ)) × T (allOf notVector head) × (fs ≡ head ++ map vectorField bodies)
 
 vectors-last : (size : ℕ) (known : Known) (at : ℕ) (fs : List TagAndBody) (c : Circuit)
-    → readFrom size known (cutOf at fs) ≡ accepted c → VectorsLast fs
+    → readFrom true size known (cutOf at fs) ≡ accepted c → VectorsLast fs
 unfolding readFrom cutOf knownAfter allOf
 vectors-last size known at [] c e = ([], [], tt, refl)
 vectors-last size known at (f ∷ fs) c e =
     go (eqb (f .tag) 6) refl (vectors-last size (knownAfter known (fieldAt at f)) (at + 3 + length (f .body)) fs c read)
   where
-    read : readFrom size (knownAfter known (fieldAt at f)) (cutOf (at + 3 + length (f .body)) fs) ≡ accepted c
+    read : readFrom true size (knownAfter known (fieldAt at f)) (cutOf (at + 3 + length (f .body)) fs) ≡ accepted c
     read = after-verdict (firstOf (fieldTests known (fieldAt at f))) _ c e
 
     go : (six : Bool) → eqb (f .tag) 6 ≡ six → VectorsLast fs → VectorsLast (f ∷ fs)
@@ -228,5 +228,5 @@ accepted-is-split file c small accepts =
     let fields = whole-fields file small (suc (length file)) (length file) start 0 c (omega arith) (omega arith) read in
     let fs = fields .0 in
     let cut = ap (λ (bytes : List ℕ). cutFrom bytes 0) (fields .1) ∙ cut-whole [] fs in
-    let last = vectors-last (length file) start 0 fs c (ap (readFrom (length file) start) (sym cut) ∙ read) in
+    let last = vectors-last (length file) start 0 fs c (ap (readFrom true (length file) start) (sym cut) ∙ read) in
     (last .0, last .1, record { no-vector = last .2; is = fields .1 ∙ ap fieldsOf (last .3) ∙ sym (whole-file (last .0) (last .1)) })

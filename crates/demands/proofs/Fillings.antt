@@ -17,8 +17,8 @@ use Rattle.circuit.specs.Circuit.{Circuit, joinLists}
 use Rattle.circuit.specs.Order.{tagOf}
 use Rattle.circuit.specs.Known.{Known, start, letterOf, vectorIn, knownAfter}
 use Rattle.circuit.specs.Table.{firstOf, isLetter, vectorTests, bodyTests, fieldTests}
-use Rattle.circuit.specs.Reading.{Reading, accepted, refusal, readFrom, readingOf}
-use Rattle.circuit.proofs.CircuitLaws.{accepted-is-good}
+use Rattle.circuit.specs.Reading.{Reading, accepted, refusal, readFrom, readingWith}
+use Rattle.circuit.proofs.CircuitLaws.{accepted-is-good, accepted-is-whole}
 use Rattle.circuit.proofs.Tested.{holds, and-T}
 use Rattle.circuit.proofs.Verdicts.{first-passes}
 use Rattle.demands.specs.Calls.{Call, Accepts}
@@ -34,7 +34,7 @@ use Rattle.demands.proofs.OtherVectors.{knownBehind, placeBehind, vecto
 
 -- a vector that was accepted has letters only
 letters-there : (size : ℕ) (known : Known) (at : ℕ) (bodies : List (List ℕ)) (c : Circuit)
-    → readFrom size known (cutOf at (map vectorField bodies)) ≡ accepted c
+    → readFrom true size known (cutOf at (map vectorField bodies)) ≡ accepted c
     → (v : ℕ) → v < length bodies → T (allOf isLetter (getD bodies v []))
 unfolding readFrom cutOf fieldTests tagOf bodyTests vectorTests
 letters-there size known at [] c e v h = absurd (omega arith)
@@ -106,7 +106,7 @@ filled-is-finer bodies filled f = record { no-fewer = omega (arith, f .as-many);
 -- ---- the file
 
 not-too-long : (file : List ℕ) (c : Circuit) → Accepts file c → length file ≤ mostBytes
-unfolding readingOf
+unfolding readingWith
 not-too-long file c e = go (ltb mostBytes (length file)) refl _ e
   where
     go : (long : Bool) → ltb mostBytes (length file) ≡ long → (whole : Reading) → cond long (refusal 1 0) whole ≡ accepted c
@@ -122,17 +122,18 @@ module _ (file : List ℕ) (head : List TagAndBody) (bodies : List (List ℕ)) (
       let e = ap (λ (x : Circuit). x .vectors) (split-tells file head bodies split c accepts) in
       sym (length-map (getD bodies v []) letterOf)
       ∙ ap length (sym (List·getD-map vectorIn bodies v []) ∙ ap (λ (vectors : List (List Value)). getD vectors v []) e)
-      ∙ accepted-is-good file c accepts .vectors v [] (omega (arith, as-many file head bodies split c accepts))
+      ∙ accepted-is-good true file c accepts .vectors v [] (omega (arith, as-many file head bodies split c accepts))
 
   accepts-fillings : (other : List ℕ) (filled : List (List ℕ)) → Split other head filled → FilledBodies bodies filled
       → (d : Circuit) × Accepts other d
   accepts-fillings other filled split′ f =
-      let good = accepted-is-good file c accepts in
+      let good = accepted-is-good true file c accepts in
+      let some = accepted-is-whole true file c accepts .some-vector refl in
       let many = as-many file head bodies split c accepts in
       let size = same-size bodies filled (f .as-many) (λ v h. f .each v h .as-long) in
       accepts-others file head bodies split c accepts other filled split′
       (record {
-        some = omega (arith, f .as-many, good .some-vector);
+        some = omega (arith, f .as-many, some);
         few = omega (arith, f .as-many, good .few-vectors);
         long = λ v h. f .each v (omega (arith, f .as-many)) .as-long ∙ as-long v (omega (arith, f .as-many));
         letters = λ v h.
@@ -184,7 +185,7 @@ refinements-are-graded one other bodies finer calls more good short =
     graded-too one other bodies finer calls more (λ c accepts.
     let split = calls .files .one-split in
     let head = calls .files .head in
-    let vectors = accepted-is-good (one .file) c accepts .some-vector in
+    let vectors = accepted-is-whole true (one .file) c accepts .some-vector refl in
     let some : 0 < length bodies = omega (arith, as-many (one .file) head bodies split c accepts) in
     let long = as-long (one .file) head bodies split c accepts 0 some in
     accepts-others (one .file) head bodies split c accepts (other .file) finer (calls .files .other-split)

@@ -61,7 +61,7 @@ gave call c given =
     go true b p q kept = absurd (omega (arith, kept .number, no-number (call .answer) (given .graded)))
     go false true p q kept = absurd (omega (arith, kept .number, no-number (call .answer) (given .graded)))
     go false false p q kept = record {
-      good = accepted-is-good (call .file) c (given .accepts);
+      good = accepted-is-good true (call .file) c (given .accepts);
       room = record { words = ltb-false words (4 * faults) p; entries = ltb-false entries faults q };
       counts-are = kept .counts;
       matrix-is = matrix-at-exit _ _ _ _ kept;

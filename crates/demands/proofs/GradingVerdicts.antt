@@ -11,7 +11,7 @@ use Rattle.circuit.specs.Fields.{Cut, clean, broken, field, cutFrom}
 use Rattle.circuit.specs.Circuit.{Circuit}
 use Rattle.circuit.specs.Known.{Known, start, knownAfter}
 use Rattle.circuit.specs.Table.{Verdict, passes, refusedAt, firstOf, fieldTests, endTests}
-use Rattle.circuit.specs.Reading.{Reading, accepted, refusal, unless, readFrom, readingOf}
+use Rattle.circuit.specs.Reading.{Reading, accepted, refusal, unless, readFrom, readingWith}
 use Rattle.circuit.specs.Refusals.{refusalNumber, refusalPlace}
 use Rattle.circuit.proofs.Tested.{never-passes}
 use Rattle.grading.specs.Buffers.{Buffers, Room, roomOf}
@@ -52,23 +52,23 @@ module _ (size : ℕ) (room : Room) where
       go false false = refl
 
   rest-tells : (known : Known) (cut : Cut)
-      → firstOf (testsFrom size room known cut) ≡ verdictIn (afterReading (readFrom size known cut) room)
+      → firstOf (testsFrom size room known cut) ≡ verdictIn (afterReading (readFrom true size known cut) room)
   unfolding testsFrom readFrom afterReading verdictIn firstOf
   rest-tells known clean =
-      first-append (endTests known size) (bufferTests (known .circuit) room)
-      ∙ later-is (firstOf (endTests known size)) (firstOf (bufferTests (known .circuit) room)) (accepted (known .circuit)) (buffers-tell (known .circuit))
+      first-append (endTests true known size) (bufferTests (known .circuit) room)
+      ∙ later-is (firstOf (endTests true known size)) (firstOf (bufferTests (known .circuit) room)) (accepted (known .circuit)) (buffers-tell (known .circuit))
   rest-tells known (broken at) = refl
   rest-tells known (field f rest) =
       first-append (fieldTests known f) (testsFrom size room (knownAfter known f) rest)
-      ∙ later-is (firstOf (fieldTests known f)) (firstOf (testsFrom size room (knownAfter known f) rest)) (readFrom size (knownAfter known f) rest)
+      ∙ later-is (firstOf (fieldTests known f)) (firstOf (testsFrom size room (knownAfter known f) rest)) (readFrom true size (knownAfter known f) rest)
       (rest-tells (knownAfter known f) rest)
 
 pub table-tells : (file : List ℕ) (room : Room) → firstOf (tableOf file room) ≡ verdictIn (gradingOf file room)
-unfolding tableOf gradingOf readingOf afterReading verdictIn firstOf
+unfolding tableOf gradingOf readingWith afterReading verdictIn firstOf
 table-tells file room = go (ltb mostBytes (length file))
   where
     go : (long : Bool) → cond long (refusedAt 1 0) (firstOf (testsFrom (length file) room start (cutFrom file 0)))
-        ≡ verdictIn (afterReading (cond long (refusal 1 0) (readFrom (length file) start (cutFrom file 0))) room)
+        ≡ verdictIn (afterReading (cond long (refusal 1 0) (readFrom true (length file) start (cutFrom file 0))) room)
     go true = refl
     go false = rest-tells (length file) room start (cutFrom file 0)
 

@@ -53,7 +53,7 @@ rightly-meets-all = record {
   three = λ file before file′ before′ c d e g e′ g′.
       three-holds (called rightly file before) (called rightly file′ before′) c d
       (right-as file before c e g) (right-as file′ before′ d e′ g′);
-  three-by-paths = marks-above markOf mark-le-one (λ file c d e. mark-stands c d (accepted-is-good file c e));
+  three-by-paths = marks-above markOf mark-le-one (λ file c d e. mark-stands c d (accepted-is-good true file c e));
   fillings = marks-below markOf mark-le-one (λ c row v. omega arith);
 }
 
@@ -150,7 +150,7 @@ meet-demand-three = record {
   first-word-only = by-marks-that-stand _ (record {
     bits = first-le-one;
     stand = λ file c d e alike refined row v h.
-        cut-grows (ltb v 64) (markOf c row v) (markOf d row v) (mark-stands c d (accepted-is-good file c e) alike refined row v h);
+        cut-grows (ltb v 64) (markOf c row v) (markOf d row v) (mark-stands c d (accepted-is-good true file c e) alike refined row v h);
   });
   marks-all-by-paths = marks-above _ (λ c row v. omega arith) (λ file c d e alike refined row v h. mark-le-one c row v);
   marks-never-fillings = marks-below _ (λ c row v. omega arith) (λ c row v. omega arith);

@@ -16,9 +16,9 @@ use Rattle.circuit.specs.Circuit.{Circuit}
 use Rattle.circuit.specs.Order.{vector-tag, tagOf, isKind, Previous, reached, atStart, mayFollow}
 use Rattle.circuit.specs.Known.{Known, start, vectorIn, taken, knownAfter}
 use Rattle.circuit.specs.Table.{passes, firstOf, unjudged, notComplementary, isEmpty, isLetter, vectorTests, bodyTests, fieldTests, endTests}
-use Rattle.circuit.specs.Reading.{accepted, unless, readFrom, readingOf}
+use Rattle.circuit.specs.Reading.{accepted, unless, readFrom, readingWith}
 use Rattle.circuit.proofs.RangeLaws.{in-between}
-use Rattle.circuit.proofs.CircuitLaws.{accepted-is-good}
+use Rattle.circuit.proofs.CircuitLaws.{accepted-is-whole}
 use Rattle.circuit.proofs.Tested.{length-snoc}
 use Rattle.circuit.proofs.Verdicts.{first-passes}
 use Rattle.demands.specs.Calls.{Accepts}
@@ -40,8 +40,8 @@ placeBehind at (f ∷ fs) = placeBehind (at + 3 + length (f .body)) fs
 
 -- fields that were accepted before some others pass before any others
 head-passes : (size : ℕ) (known : Known) (at : ℕ) (head gs : List TagAndBody) (c : Circuit)
-    → readFrom size known (cutOf at (head ++ gs)) ≡ accepted c → (size′ : ℕ) (hs : List TagAndBody)
-    → readFrom size′ known (cutOf at (head ++ hs)) ≡ readFrom size′ (knownBehind known at head) (cutOf (placeBehind at head) hs)
+    → readFrom true size known (cutOf at (head ++ gs)) ≡ accepted c → (size′ : ℕ) (hs : List TagAndBody)
+    → readFrom true size′ known (cutOf at (head ++ hs)) ≡ readFrom true size′ (knownBehind known at head) (cutOf (placeBehind at head) hs)
 unfolding readFrom cutOf knownBehind placeBehind unless
 head-passes size known at [] gs c e size′ hs = refl
 head-passes size known at (f ∷ fs) gs c e size′ hs =
@@ -91,7 +91,7 @@ module _ (P : ℕ) (known : Known) (ready : Ready P known) (at : ℕ) (body : Li
 vectors-read : (size P : ℕ) (bodies : List (List ℕ)) (known : Known) (at : ℕ) → Ready P known
     → ((v : ℕ) → v < length bodies → (length (getD bodies v []) ≡ P) × T (allOf isLetter (getD bodies v [])))
     → length (known .circuit .vectors) + length bodies ≤ mostVectors → 1 ≤ length (known .circuit .vectors) + length bodies
-    → (d : Circuit) × (readFrom size known (cutOf at (map vectorField bodies)) ≡ accepted d)
+    → (d : Circuit) × (readFrom true size known (cutOf at (map vectorField bodies)) ≡ accepted d)
 unfolding readFrom cutOf unless endTests firstOf knownAfter taken tagOf
 vectors-read size P [] known at ready each few some =
     (known .circuit, rw (ready .judged, not-at-start (known .previous) (ready .in-place), ready .instance, some-is (known .circuit .vectors) (omega arith)))
@@ -106,7 +106,7 @@ vectors-read size P (body ∷ bodies) known at ready each few some =
 
 -- where a vector was accepted, with what stood behind it
 ready-there : (size : ℕ) (known : Known) (at : ℕ) (bodies : List (List ℕ)) (c : Circuit)
-    → readFrom size known (cutOf at (map vectorField bodies)) ≡ accepted c → 1 ≤ length bodies → 1 ≤ length (c .instances)
+    → readFrom true size known (cutOf at (map vectorField bodies)) ≡ accepted c → 1 ≤ length bodies → 1 ≤ length (c .instances)
     → Ready (c .inputs) known
 unfolding readFrom cutOf fieldTests tagOf isKind
 ready-there size known at [] c e some instances = absurd (omega arith)
@@ -136,13 +136,13 @@ module _ (file : List ℕ) (head : List TagAndBody) (bodies : List (List ℕ)) (
   abbrev pub place : ℕ
   place = placeBehind 0 head
 
-  read : readFrom (length file) start (cutOf 0 (head ++ map vectorField bodies)) ≡ accepted c
-  read = ap (readFrom (length file) start) (sym (split-cut file head bodies split)) ∙ read-from-start file c accepts
+  read : readFrom true (length file) start (cutOf 0 (head ++ map vectorField bodies)) ≡ accepted c
+  read = ap (readFrom true (length file) start) (sym (split-cut file head bodies split)) ∙ read-from-start file c accepts
 
-  passes-on : (size : ℕ) (hs : List TagAndBody) → readFrom size start (cutOf 0 (head ++ hs)) ≡ readFrom size known (cutOf place hs)
+  passes-on : (size : ℕ) (hs : List TagAndBody) → readFrom true size start (cutOf 0 (head ++ hs)) ≡ readFrom true size known (cutOf place hs)
   passes-on = head-passes (length file) start 0 head (map vectorField bodies) c read
 
-  pub vectors-accepted : readFrom (length file) known (cutOf place (map vectorField bodies)) ≡ accepted c
+  pub vectors-accepted : readFrom true (length file) known (cutOf place (map vectorField bodies)) ≡ accepted c
   vectors-accepted = sym (passes-on (length file) (map vectorField bodies)) ∙ read
 
   pub as-many : length (c .vectors) ≡ length bodies
@@ -161,12 +161,12 @@ module _ (file : List ℕ) (head : List TagAndBody) (bodies : List (List ℕ)) (
 
   ready : Ready (c .inputs) known
   ready =
-      let good = accepted-is-good file c accepts in
-      ready-there (length file) known place bodies c vectors-accepted (omega (arith, as-many, good .some-vector)) (good .some-instance)
+      let whole = accepted-is-whole true file c accepts in
+      ready-there (length file) known place bodies c vectors-accepted (omega (arith, as-many, whole .some-vector refl)) (whole .some-instance)
 
   pub accepts-others : (other : List ℕ) (otherBodies : List (List ℕ)) → Split other head otherBodies
       → GoodBodies (c .inputs) otherBodies → length other ≤ mostBytes → (d : Circuit) × Accepts other d
-  unfolding readingOf
+  unfolding readingWith
   accepts-others other otherBodies split′ good short =
       let some = good .some in
       let few = good .few in

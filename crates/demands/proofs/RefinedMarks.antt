@@ -73,7 +73,7 @@ module _ (marks : Circuit → Row → ℕ → ℕ) (bits : (c : Circuit) (row : 
         → cellAt (marking marks file before .after .matrix) r v ≡ marks c (rowAt c r) v
     unfolding cellAt outcomeOf workBy over markAt
     cell-is r v h k =
-        let few = accepted-is-good file c accepts .few-vectors in
+        let few = accepted-is-good true file c accepts .few-vectors in
         rw (
           outcome-is (workBy rowOf marks sameClass) before file c accepts t,
           word-in packed packed-long noRow (rowsOf c) (drop (length (joinLists (map packed (rowsOf c)))) (before .matrix)) r (v / 64) h (omega arith),
@@ -167,7 +167,7 @@ module _ (marks : Circuit → Row → ℕ → ℕ) (bits : (c : Circuit) (row : 
       let marked = cell-is marks bits file before c accepts t (at .row) v (at .is-row) (at .is-vector) in
       let here : ofBool (cell c (vectorOf c v) row) ≡ 1 =
       omega (arith, mark, marked, below c row v, ofBool-le-one (cell c (vectorOf c v) row)) in
-      path-stays (vectorOf c v) filling (fills .keeps) c (accepted-is-good file c accepts) row
+      path-stays (vectorOf c v) filling (fills .keeps) c (accepted-is-good true file c accepts) row
       (cell-decides c (vectorOf c v) row .1 (set-bit (cell c (vectorOf c v) row) here))
 
 pub by-marks-that-stand : (marks : Circuit → Row → ℕ → ℕ) → MarksThatStand marks → MeetsThree (marking marks)

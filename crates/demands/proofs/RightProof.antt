@@ -73,7 +73,7 @@ unfolding AllTold refusing refusalOf numberOf placeOf countsOf refusalNumber ref
 told-field known f =
     ((refl, refl, refl), ((refl, refl, refl), ((refl, refl, refl), told-body (tagOf (f .tag)) (known .circuit) (f .at) (f .body))))
 
-told-end : (known : Known) (size : ℕ) → AllTold (endTests known size)
+told-end : (known : Known) (size : ℕ) → AllTold (endTests true known size)
 unfolding AllTold refusing refusalOf numberOf placeOf countsOf refusalNumber refusalPlace endTests
 told-end known size = ((refl, refl, refl), ((refl, refl, refl), ((refl, refl, refl), ((refl, refl, refl), tt))))
 
@@ -85,7 +85,7 @@ module _ (size : ℕ) (room : Room) where
   told-rest : (known : Known) (cut : Cut) → AllTold (testsFrom size room known cut)
   unfolding AllTold refusing refusalOf numberOf placeOf countsOf refusalNumber refusalPlace testsFrom
   told-rest known clean =
-      told-append (endTests known size) (bufferTests (known .circuit) room) (told-end known size) (told-buffers (known .circuit))
+      told-append (endTests true known size) (bufferTests (known .circuit) room) (told-end known size) (told-buffers (known .circuit))
   told-rest known (broken at) = ((refl, refl, refl), tt)
   told-rest known (field f rest) =
       told-append (fieldTests known f) (testsFrom size room (knownAfter known f) rest) (told-field known f)

@@ -2,6 +2,7 @@
 -- the same values in any two lists of outputs that agree before it.
 use Prim.Native.Nat.{ℕ, zero, suc, _+_, _≤_, _<_}
 use mathlib.Core.Path.{_≡_, refl, sym, ap, subst, _∙_}
+use mathlib.Core.Bool.{true}
 use mathlib.Core.List.{List, [], _∷_, _++_, map}
 use native.Mathlib.Nat.{zero-add, add-zero, not-suc-le-zero}
 use native.Mathlib.Decide.{decLt}
@@ -170,7 +171,7 @@ module _ (c : Circuit) (good : CircuitGood c) (vector : List Value) where
 pub values-are-paths : ValuesArePaths
 unfolding theirs
 values-are-paths file c accepts vector =
-    let good = accepted-is-good file c accepts in
+    let good = accepted-is-good true file c accepts in
     record {
       settled = settled c good vector;
       only = λ outputs is. same-outputs c good vector outputs (theirs c good vector) is (settled c good vector);

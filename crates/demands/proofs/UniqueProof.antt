@@ -107,7 +107,7 @@ unique = record {
   };
   read-vectors-no-vector = record { asks-nothing = λ κs a. tt; one-outcome = λ κs a asked one other p q. both (p ∙ sym q) refl };
   read-vectors-read-vectors = record { can-be-met = λ κs. ((lent [], (0, (0, tt))), (omega arith, omega arith)); one-outcome = λ κs a asked one other p q. both (vectors-once (now (a .0)) (a .1 .0) (a .1 .1 .0) (one .0) (other .0) p q) refl };
-  read-file-read-stages = record { asks-nothing = λ κs a. tt; one-outcome = λ κs a asked one other p q. both (stages-once (now (a .0)) (one .0) (other .0) p q) refl };
+  read-file-read-stages = record { asks-nothing = λ κs a. tt; one-outcome = λ κs a asked one other p q. both (stages-once (a .1 .0) (now (a .0)) (one .0) (other .0) p q) refl };
   read-file-read = record { asks-nothing = λ κs a. tt; one-outcome = λ κs a asked one other p q. both (answers-unique (readingOf (now (a .0))) (one .0) (other .0) p q) refl };
   grading-number-of = record { asks-nothing = λ κs a. tt; one-outcome = λ κs a asked one other p q. both (p ∙ sym q) refl };
   grading-place-of = record { asks-nothing = λ κs a. tt; one-outcome = λ κs a asked one other p q. both (p ∙ sym q) refl };

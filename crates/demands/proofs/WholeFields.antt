@@ -14,7 +14,7 @@ use Rattle.circuit.specs.Circuit.{Circuit, joinLists}
 use Rattle.circuit.specs.Order.{tagOf}
 use Rattle.circuit.specs.Known.{Known, start, taken, knownAfter}
 use Rattle.circuit.specs.Table.{Verdict, passes, refusedAt, firstOf, fieldTests, endTests}
-use Rattle.circuit.specs.Reading.{Reading, accepted, refusal, unless, readFrom, readingOf}
+use Rattle.circuit.specs.Reading.{Reading, accepted, refusal, unless, readFrom, readingOf, readingWith}
 use Rattle.read_fields.proofs.Cuts.{behind, standing, cut-clean, cut-field}
 use Rattle.demands.specs.Files.{fieldBytes as bytesOfField}
 use Rattle.demands.specs.AlikeFiles.{TagAndBody, fieldsOf}
@@ -96,16 +96,16 @@ after-verdict passes r c e = e
 after-verdict (refusedAt number place) r c e = cc
 
 pub read-whole : (size : ℕ) (known : Known) (at : ℕ) (fs : List TagAndBody) (c : Circuit)
-    → readFrom size known (cutOf at fs) ≡ accepted c → takenAll (known .circuit) fs ≡ c
+    → readFrom true size known (cutOf at fs) ≡ accepted c → takenAll (known .circuit) fs ≡ c
 unfolding readFrom cutOf takenAll knownAfter
-read-whole size known at [] c e = let z = after-verdict (firstOf (endTests known size)) (accepted (known .circuit)) c e in cc
+read-whole size known at [] c e = let z = after-verdict (firstOf (endTests true known size)) (accepted (known .circuit)) c e in cc
 read-whole size known at (f ∷ fs) c e =
     read-whole size (knownAfter known (fieldAt at f)) (at + 3 + length (f .body)) fs c
     (after-verdict (firstOf (fieldTests known (fieldAt at f))) _ c e)
 
 -- number 1 lets an accepted file through
-pub read-from-start : (file : List ℕ) (c : Circuit) → readingOf file ≡ accepted c → readFrom (length file) start (cutFrom file 0) ≡ accepted c
-unfolding readingOf
+pub read-from-start : (file : List ℕ) (c : Circuit) → readingOf file ≡ accepted c → readFrom true (length file) start (cutFrom file 0) ≡ accepted c
+unfolding readingWith
 read-from-start file c e = go (ltb mostBytes (length file)) _ e
   where
     go : (long : Bool) (whole : Reading) → cond long (refusal 1 0) whole ≡ accepted c → whole ≡ accepted c
@@ -116,4 +116,4 @@ read-from-start file c e = go (ltb mostBytes (length file)) _ e
 pub accepted-adds-up : (fs : List TagAndBody) (c : Circuit) → readingOf (fieldsOf fs) ≡ accepted c → takenAll (start .circuit) fs ≡ c
 accepted-adds-up fs c e =
     read-whole (length (fieldsOf fs)) start 0 fs c
-    (ap (readFrom (length (fieldsOf fs)) start) (sym (cut-whole [] fs)) ∙ read-from-start (fieldsOf fs) c e)
+    (ap (readFrom true (length (fieldsOf fs)) start) (sym (cut-whole [] fs)) ∙ read-from-start (fieldsOf fs) c e)

@@ -29,7 +29,7 @@ bufferTests c room =
 
 -- fields in file order, each with its tests; where no whole field stands, number 2, and nothing is looked at after it
 unfoldable pub testsFrom : ℕ → Room → Known → Cut → List Test
-testsFrom size room known clean = endTests known size ++ bufferTests (known .circuit) room
+testsFrom size room known clean = endTests true known size ++ bufferTests (known .circuit) room
 testsFrom size room known (broken at) = test 2 true at ∷ []
 testsFrom size room known (field f rest) = fieldTests known f ++ testsFrom size room (knownAfter known f) rest
 

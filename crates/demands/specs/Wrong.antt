@@ -53,7 +53,7 @@ without n [] = []
 without n (t ∷ ts) = let rest = without n ts in cond (eqb (t .number) n) rest (t ∷ rest)
 
 unfoldable pub readWithout : ℕ → ℕ → Known → Cut → Reading
-readWithout n size known clean = unless (firstOf (without n (endTests known size))) (accepted (known .circuit))
+readWithout n size known clean = unless (firstOf (without n (endTests true known size))) (accepted (known .circuit))
 readWithout n size known (broken at) = refusal 2 at
 readWithout n size known (field f rest) =
     let later = readWithout n size (knownAfter known f) rest in unless (firstOf (without n (fieldTests known f))) later

@@ -231,7 +231,7 @@ module _ (c : Circuit) (good : CircuitGood c) (m : CircuitRecord) (is : m ≡ ci
               let is-at : getD (referencesOf inst) l unusedReference ≡ referenceRecord (getD (inst .references) l (primary 0))
               = getD-padded unusedReference 12 (map referenceRecord (inst .references)) unusedReference l (omega (arith, few))
               ∙ getD-map referenceRecord (inst .references) l (primary 0) unusedReference here in
-              rw is-at (number-range (c .inputs) i (getD (inst .references) l (primary 0)) (good .inputs .1) place-few tied)
+              rw is-at (number-range (c .inputs) i (getD (inst .references) l (primary 0)) (good .few-inputs) place-few tied)
 
       -- ---- one turn
 

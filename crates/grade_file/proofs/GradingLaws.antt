@@ -81,7 +81,7 @@ accepted-here file r tells e = go (readingOf file) refl tells
 
 module _ (file : List ℕ) (m : CircuitRecord) (here : Accepted file m) where
   pub good-here : CircuitGood (here .circuit)
-  good-here = accepted-is-good file (here .circuit) (here .reads)
+  good-here = accepted-is-good true file (here .circuit) (here .reads)
 
   pub given : CircuitGiven m
   given = record { circuit = here .circuit; is = here .is; good = good-here }

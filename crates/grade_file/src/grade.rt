@@ -106,5 +106,5 @@ pub fn grade_read(reading: Reading, matrix: &mut [u64], classes: &mut [u16]) -> 
 pub fn grade(file: &[u8], matrix: &mut [u64], classes: &mut [u16]) -> Answer
     ensures { λ r. ⌜ Promise (now (file .entry)) (buffersOf (now (matrix .entry)) (now (classes .entry))) r (buffersOf (now (matrix .exit)) (now (classes .exit))) ⌝ }
 {
-    grade_read(read_stages(file), matrix, classes)
+    grade_read(read_stages(file, true), matrix, classes)
 }

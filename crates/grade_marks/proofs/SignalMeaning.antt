@@ -220,10 +220,10 @@ module _ (plane : Value → ℕ) (small : (x : Value) → plane x ≤ 1) (off : 
         go : Dec (l < k) → bit (getD (table 12 (upTo k from)) l 0) v ≡ plane (labelValues (vectorAt c u) (outputsAt c i u) inst l)
         go (yes h) =
             let tied = all-of (referenceGood (c .inputs) i) (primary 0) (inst .references) .0 (g .references) l (omega (arith, g .count)) in
-            let inside = signal-place (c .inputs) i r (at .good .inputs .1) (omega (arith, at .within, at .good .few-instances)) tied in
+            let inside = signal-place (c .inputs) i r (at .good .few-inputs) (omega (arith, at .within, at .good .few-instances)) tied in
             let place : l < 12 = omega (arith, few) in
             rw (getD-table 12 (upTo k from) 0 l place, up-below k from l h, reference-at l place, signal-bit i (signalOf (referenceRecord r)) w v inside hw hv)
-            (ap plane (signal-value (c .inputs) i u r (at .good .inputs .1) tied ∙ sym (label-value (vectorAt c u) (outputsAt c i u) inst l)))
+            (ap plane (signal-value (c .inputs) i u r (at .good .few-inputs) tied ∙ sym (label-value (vectorAt c u) (outputsAt c i u) inst l)))
         go (no h) =
             ap (λ (x : ℕ). bit x v) (past (omega arith))
             ∙ bit-zero v

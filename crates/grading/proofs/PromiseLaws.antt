@@ -1,5 +1,6 @@
 -- The promise of a circuit and of a file that is read as it; and what a kept promise says of each buffer.
 use mathlib.Core.Path.{_≡_, refl, sym, ap, subst}
+use mathlib.Core.Bool.{true}
 use Rattle.circuit.specs.Reading.{Reading}
 use Rattle.circuit.proofs.CircuitLaws.{accepted-is-good}
 use Rattle.grading.specs.Buffers.{Buffers, roomOf}
@@ -12,7 +13,7 @@ pub circuit-promise-is-files : CircuitPromiseIsFiles
 unfolding gradingOf afterReading
 circuit-promise-is-files file c reads before after answer promise =
     subst (λ (read : Reading). AnswersAs (afterReading read (roomOf before)) answer before after) (sym reads)
-    (promise c refl (accepted-is-good file c reads))
+    (promise c refl (accepted-is-good true file c reads))
 
 -- ---- buffer by buffer
 

@@ -1,7 +1,7 @@
 -- The record that reading gives of a file tells what the file says, and its listing: each array's used places are the list that it was made from. Assumes nothing.
 use Prim.Native.Nat.{ℕ, zero, suc, _-_, _≤_, _<_, min}
 use mathlib.Core.Path.{_≡_, refl, sym, ap, _∙_}
-use mathlib.Core.Bool.{_&&_}
+use mathlib.Core.Bool.{true, _&&_}
 use mathlib.Core.List.{List, [], _∷_, map, append-nil}
 use native.Mathlib.Omega.{arith}
 use borrow.Author.Tests.{ne-eqb}
@@ -25,7 +25,7 @@ use Rattle.circuit.specs.Table.{Verdict, passes, refusedAt}
 use Rattle.circuit.specs.Refusals.{verdictOf}
 use Rattle.circuit.specs.Answers.{Tells}
 use Rattle.circuit.specs.Before.{readBefore}
-use Rattle.circuit.specs.Laws.{choiceGood, TypeGood, InstanceGood, GoodWithLeast}
+use Rattle.circuit.specs.Laws.{choiceGood, TypeGood, InstanceGood, CircuitGood}
 use Rattle.circuit.specs.declared.Reading.{Reading as ReadingRecord}
 use Rattle.circuit.proofs.BeforeLaws.{before-is-good}
 use Rattle.circuit.proofs.CircuitLaws.{accepted-is-good}
@@ -89,7 +89,7 @@ labels-few t good =
     let labels = both (between 2 (mostNodes - 1) (t .highest) && between 2 (t .highest) (t .output)) (between 1 mostLabels (t .labels)) ranges .1 in
     in-between 1 12 (t .labels) labels .1
 
-module _ {least : ℕ} (c : Circuit) (good : GoodWithLeast least c) where
+module _ (c : Circuit) (good : CircuitGood c) where
   instance-type : (i : Instance) → T (between 1 (length (c .types)) (i .type)) → TypeGood (typeOfInstance (c .types) i)
   unfolding numbered
   instance-type i t = go (i .type) (in-between 1 (length (c .types)) (i .type) t)
@@ -158,7 +158,7 @@ vector-back inputs v size few =
 
 -- ---- the circuit
 
-module _ {least : ℕ} (c : Circuit) (good : GoodWithLeast least c) where
+module _ (c : Circuit) (good : CircuitGood c) where
   types-back : typesTold (circuitRecord c) ≡ c .types
   unfolding typesTold circuitRecord
   types-back =
@@ -182,7 +182,7 @@ module _ {least : ℕ} (c : Circuit) (good : GoodWithLeast least c) where
   unfolding circuitRecord
   vectors-back =
       used-back (vectorTold (c .inputs)) vectorRecord unusedVector mostVectors (c .vectors) (good .few-vectors)
-      (λ (i : ℕ) (none : List Value) (h : i < length (c .vectors)). vector-back (c .inputs) (getD (c .vectors) i none) (good .vectors i none h) (good .inputs .1))
+      (λ (i : ℕ) (none : List Value) (h : i < length (c .vectors)). vector-back (c .inputs) (getD (c .vectors) i none) (good .vectors i none h) (good .few-inputs))
 
   instances-told : map (instanceTold (typesTold (circuitRecord c))) (take (circuitRecord c .«instance_count») (circuitRecord c .instances)) ≡ c .instances
   instances-told =
@@ -210,7 +210,7 @@ tells-same : (file : List ℕ) (r : ReadingRecord) (reading : Reading) → readi
 unfolding Tells unless
 tells-same file r (accepted c) e told =
     told-of r passes (told .0)
-    ∙ ap (λ (d : Circuit). accepted d) (ap circuitTold (told .1) ∙ circuit-back c (accepted-is-good file c e))
+    ∙ ap (λ (d : Circuit). accepted d) (ap circuitTold (told .1) ∙ circuit-back c (accepted-is-good true file c e))
 tells-same file r (refusal number place) e told = told-of r (refusedAt number place) told
 
 pub told-is-reading : ToldIsReading
@@ -228,5 +228,5 @@ pub accepted-listing : AcceptedListing
 unfolding listingOf refusalLines
 accepted-listing file c e =
     ap (λ (reading : Reading). listingOf (readBefore file) reading) e
-    ∙ ap (λ (d : Circuit). listingOf d (accepted c)) (before-is-circuit file c e)
+    ∙ ap (λ (d : Circuit). listingOf d (accepted c)) (before-is-circuit true file c e)
     ∙ append-nil (circuitLines c)

@@ -1,6 +1,7 @@
 -- What is held is the report: under an outcome of a file the held lines are the report's. Assumes nothing.
 use Prim.Native.Nat.{ℕ, zero, suc, _+_, _*_, _/_, _%_, _≤_, _<_, min}
 use mathlib.Core.Path.{_≡_, refl, sym, ap, subst, _∙_}
+use mathlib.Core.Bool.{true}
 use mathlib.Core.List.{List, [], _∷_, _++_}
 use native.Mathlib.Omega.{arith}
 use lib.ListN.{length, getD, drop, length-append, List·getD-append}
@@ -151,7 +152,7 @@ module _
       (length-lines c (rowsOf c) (classesOf (rowsOf c)) each)
       (λ (r : ℕ) (h : r < length (rowsOf c)).
       line-at c (rowsOf c) (classesOf (rowsOf c)) r each h
-      ∙ sym (row-is c (accepted-is-good file c reads) codes matrix classes (before .matrix) (before .classes) (listed c reads) matrix-is classes-are r h))))
+      ∙ sym (row-is c (accepted-is-good true file c reads) codes matrix classes (before .matrix) (before .classes) (listed c reads) matrix-is classes-are r h))))
   told-are (refused zero place) low matrix-is classes-are = absurd (omega (arith, low))
   told-are (refused (suc number) place) low matrix-is classes-are = refl
 
@@ -159,7 +160,7 @@ module _
       → (countsIn g .faults ≤ length codes) × (4 * countsIn g .faults ≤ length matrix) × (countsIn g .faults ≤ length classes)
   unfolding GradingSound buffersAfter countsIn countsOfCircuit over matrixOf padded
   rows-in (graded c) reads matrix-is classes-are = (
-    omega (arith, few-rows c (accepted-is-good file c reads), ap length (listed c reads), length-table 2048 (λ (i : ℕ). getD (codesOf (rowsOf c)) i 0)),
+    omega (arith, few-rows c (accepted-is-good true file c reads), ap length (listed c reads), length-table 2048 (λ (i : ℕ). getD (codesOf (rowsOf c)) i 0)),
     omega (
       arith,
       ap length matrix-is,

@@ -60,7 +60,7 @@ grading-sound file room = go (readingOf file) refl
 
     go : (r : Reading) → readingOf file ≡ r → GradingSound file (afterReading r room)
     go (accepted c) e = by c e (ltb (room .words) (4 * length (rowsOf c))) (ltb (room .entries) (length (rowsOf c)))
-    go (refusal number place) e = refusal-is-good file number place e .low
+    go (refusal number place) e = refusal-is-good true file number place e .low
 
 rows-sized : (c : Circuit) → length (c .vectors) ≤ 256 → (rows : List Row) (classes : List ℕ) → EachLine Sized (rowLines c rows classes)
 unfolding rowLines lineOf
@@ -73,7 +73,7 @@ rows-sized c few (row ∷ rows) (class ∷ classes) =
 lines-sized : (file : List ℕ) (g : Grading) → GradingSound file g → EachLine Sized (reportLines g)
 unfolding GradingSound reportLines
 lines-sized file (graded c) reads =
-    (counts-sized (countsOfCircuit c), rows-sized c (accepted-is-good file c reads .few-vectors) (rowsOf c) (classesOf (rowsOf c)))
+    (counts-sized (countsOfCircuit c), rows-sized c (accepted-is-good true file c reads .few-vectors) (rowsOf c) (classesOf (rowsOf c)))
 lines-sized file (refused number place) low = (refusal-sized number place, tt)
 
 pub lines-fit : LinesFit

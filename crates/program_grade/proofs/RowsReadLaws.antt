@@ -35,5 +35,5 @@ module _ (reading : ReadingRecord) where
   unfolding Tells padded
   all-read codes given are = record {
     many = ap length (are (given .circuit) (given .is) (given .good)) ∙ length-table 2048 (λ (i : ℕ). getD (codesOf (rowsOf (given .circuit))) i 0);
-    listed = λ file c tells reads. are c (told file c tells reads .1) (accepted-is-good file c reads);
+    listed = λ file c tells reads. are c (told file c tells reads .1) (accepted-is-good true file c reads);
   }

@@ -51,7 +51,7 @@ fn grade_file(
     requires { ⌜ (length (now matrix) ≡ 8192) × (length (now classes) ≡ 2048) ⌝ }
     ensures { λ r. ⌜ AllHanded (now (file .entry)) (r .lines) ⌝ }
 {
-    let reading = read_stages(file);
+    let reading = read_stages(file, true);
     let answer = grade_read(reading, matrix, classes);
     let codes = rows_read(reading);
     let mut handed = none_handed(output);

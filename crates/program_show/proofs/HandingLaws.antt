@@ -1,6 +1,7 @@
 -- A file's listing as it is handed over: a piece of the listing of what was read of a file is one of the file's. Assumes nothing.
 use Prim.Native.Nat.{ℕ}
 use mathlib.Core.Path.{subst}
+use mathlib.Core.Bool.{true}
 use mathlib.Core.List.{List}
 use Rattle.print_lines.specs.declared.Piece.{Piece}
 use Rattle.circuit.specs.declared.Reading.{Reading as ReadingRecord}
@@ -14,6 +15,6 @@ module _ (file : List ℕ) (from : ℕ) (buffer : List ℕ) (piece : Piece) (aft
   abbrev pub PieceOfFile : Type 0
   PieceOfFile = LinesPiece (listingOfFile file) from buffer piece after
 
-  pub piece-of-file : (r : ReadingRecord) → ReadByStages file r → ListingPiece r from buffer piece after → PieceOfFile
+  pub piece-of-file : (r : ReadingRecord) → ReadByStages true file r → ListingPiece r from buffer piece after → PieceOfFile
   piece-of-file r read given =
       subst (λ (lines : List (List ℕ)). LinesPiece lines from buffer piece after) (told-is-listing file r (read .tells) (read .circuit)) given

@@ -24,7 +24,7 @@ fn show_file(out: &mut [u8], output: Output, file: &[u8]) -> Handed
     requires { ⌜ 512 ≤ length (now out) ⌝ }
     ensures { λ r. ⌜ ListingHanded (now (file .entry)) (r .lines) ⌝ }
 {
-    let reading = read_stages(file);
+    let reading = read_stages(file, true);
     let mut handed = none_handed(output);
     let mut next: usize = 0;
     loop {

@@ -16,7 +16,7 @@ use Rattle.circuit.specs.Fields.{Cut, clean, broken, field, cutFrom, twoBytes}
 use Rattle.circuit.specs.Circuit.{Circuit, Instance, Listed, faultCount}
 use Rattle.circuit.specs.Order.{inputs-tag, tagOf, isUnknown}
 use Rattle.circuit.specs.Table.{Verdict, passes, refusedAt, firstOf, test, isEmpty, inputsTests}
-use Rattle.circuit.specs.Reading.{Reading, accepted, refusal, unless, readingOf}
+use Rattle.circuit.specs.Reading.{Reading, accepted, refusal, unless, readingWith}
 use Rattle.circuit.specs.Records.{unusedType, unusedBridge, unusedInstance, unusedVector, circuitRecord, emptyCircuit}
 use Rattle.circuit.specs.Refusals.{verdictOf}
 use Rattle.circuit.specs.Verdicts.{isRefused, orIf}
@@ -126,19 +126,19 @@ told c (refusedAt n p) r same is = same
 
 -- ---- the stages one after the other, with P inputs in a file of this size
 
-abbrev thenEnding : ℕ → ℕ → List ModuleType → List Listed → List Instance → List (List Value) → Cut → Reading
-thenEnding size P types bridges instances vectors cut =
-    unless (endingVerdict size (length instances) (length vectors) cut)
+abbrev thenEnding : Bool → ℕ → ℕ → List ModuleType → List Listed → List Instance → List (List Value) → Cut → Reading
+thenEnding wanted size P types bridges instances vectors cut =
+    unless (endingVerdict wanted size (length instances) (length vectors) cut)
     (accepted (record { inputs = P; types = types; bridges = bridges; instances = instances; vectors = vectors }))
 
-abbrev thenVectors : ℕ → ℕ → List ModuleType → List Listed → List Instance → Cut → Reading
-thenVectors size P types bridges instances cut = afterStage (vectorStage P [] cut) (thenEnding size P types bridges instances)
+abbrev thenVectors : Bool → ℕ → ℕ → List ModuleType → List Listed → List Instance → Cut → Reading
+thenVectors wanted size P types bridges instances cut = afterStage (vectorStage P [] cut) (thenEnding wanted size P types bridges instances)
 
-abbrev thenInstances : ℕ → ℕ → List ModuleType → List Listed → Cut → Reading
-thenInstances size P types bridges cut = afterStage (instanceStage P types bridges [] cut) (thenVectors size P types bridges)
+abbrev thenInstances : Bool → ℕ → ℕ → List ModuleType → List Listed → Cut → Reading
+thenInstances wanted size P types bridges cut = afterStage (instanceStage P types bridges [] cut) (thenVectors wanted size P types bridges)
 
-abbrev thenBridges : ℕ → ℕ → List ModuleType → Cut → Reading
-thenBridges size P types cut = afterStage (bridgeStage [] cut) (thenInstances size P types)
+abbrev thenBridges : Bool → ℕ → ℕ → List ModuleType → Cut → Reading
+thenBridges wanted size P types cut = afterStage (bridgeStage [] cut) (thenInstances wanted size P types)
 
 -- the types and lists that the instances are held to
 pub held-to : {file : List ℕ} {from : ℕ} {t : Types} {b : Bridges} (types : TypesRead file from t) (bridges : BridgesRead file (t .at) b) (lists : Lists)
@@ -153,12 +153,12 @@ held-to types bridges lists summed = record {
   ranges = bridges .ranges;
 }
 
-module _ {file : List ℕ} {s : Start} (start : StartRead file s)
+module _ (wanted : Bool) {file : List ℕ} {s : Start} (start : StartRead wanted file s)
     {t : Types} (types : TypesRead file (s .at) t)
     {b : Bridges} (bridges : BridgesRead file (t .at) b)
     {i : Instances} (instances : InstancesRead file (b .at) (s .inputs) (types .types) (bridges .bridges) i)
     {v : Vectors} (vectors : VectorsRead file (i .at) (s .inputs) v)
-    (last : Refusal) (end : verdictOf last ≡ endingVerdict (length file) (i .count) (v .count) (cutFrom file (v .at))) where
+    (last : Refusal) (end : verdictOf last ≡ endingVerdict wanted (length file) (i .count) (v .count) (cutFrom file (v .at))) where
   -- the circuit that was read
   abbrev circuit : Circuit
   circuit = record {
@@ -197,15 +197,15 @@ module _ {file : List ℕ} {s : Start} (start : StartRead file s)
       → verdictOf r₃ ≡ orIf (verdictOf r₂) true (verdictOf (i .refusal))
       → verdictOf r₄ ≡ orIf (verdictOf r₃) true (verdictOf (v .refusal))
       → verdictOf r ≡ orIf (verdictOf r₄) true (verdictOf last)
-      → Tells (readingOf file) (wholeOf r (s .inputs) t b i v)
+      → Tells (readingWith wanted file) (wholeOf r (s .inputs) t b i v)
   unfolding afterInputs
   stages-tell r₁ r₂ r₃ r₄ r e₁ e₂ e₃ e₄ e =
       let size = length file in
       let P = s .inputs in
-      let at-bridges = behind (thenBridges size P) _ _ _ _ _ (start .reads) (types .stage) e₁ in
-      let at-instances = behind (thenInstances size P (types .types)) _ _ _ _ _ at-bridges (bridges .stage) e₂ in
-      let at-vectors = behind (thenVectors size P (types .types) (bridges .bridges)) _ _ _ _ _ at-instances (instances .stage) e₃ in
-      let at-end = behind (thenEnding size P (types .types) (bridges .bridges) (instances .instances)) _ _ _ _ _ at-vectors (vectors .stage) e₄ in
+      let at-bridges = behind (thenBridges wanted size P) _ _ _ _ _ (start .reads) (types .stage) e₁ in
+      let at-instances = behind (thenInstances wanted size P (types .types)) _ _ _ _ _ at-bridges (bridges .stage) e₂ in
+      let at-vectors = behind (thenVectors wanted size P (types .types) (bridges .bridges)) _ _ _ _ _ at-instances (instances .stage) e₃ in
+      let at-end = behind (thenEnding wanted size P (types .types) (bridges .bridges) (instances .instances)) _ _ _ _ _ at-vectors (vectors .stage) e₄ in
       let ended = rw (instances .count, vectors .count) at end in
       rw (at-end, ← ended, unless-both (verdictOf r₄) (verdictOf last) (accepted circuit), ← e)
       (told circuit (verdictOf r) (wholeOf r P t b i v) refl (record-is r))
@@ -225,28 +225,28 @@ told-accepted (refusal n p) r tells e = (tells, cc (e, ap isRefused tells))
 
 -- ---- how a file begins
 
-pub start-field : (file : List ℕ) (f : FieldRecord) → FieldAt file 0 f → tagOf (f .tag) ≡ inputs-tag
-    → fromStart (length file) (cutFrom file 0)
-    ≡ unless (firstOf (inputsTests (f .at) (bodyOf file f))) (afterInputs (length file) (twoBytes (bodyOf file f) 0) (cutFrom file (f .body + f .len)))
+pub start-field : (wanted : Bool) (file : List ℕ) (f : FieldRecord) → FieldAt file 0 f → tagOf (f .tag) ≡ inputs-tag
+    → fromStart wanted (length file) (cutFrom file 0)
+    ≡ unless (firstOf (inputsTests (f .at) (bodyOf file f))) (afterInputs wanted (length file) (twoBytes (bodyOf file f) 0) (cutFrom file (f .body + f .len)))
 unfolding fromStart fieldIn
-start-field file f here own = rw (here .cut, is-kind inputs-tag (tagOf (f .tag)) own)
+start-field wanted file f here own = rw (here .cut, is-kind inputs-tag (tagOf (f .tag)) own)
 
-pub start-other : (file : List ℕ) → NextIs file 0 inputs-tag Other
-    → fromStart (length file) (cutFrom file 0) ≡ unless (endingVerdict (length file) 0 0 (cutFrom file 0)) (accepted emptyCircuit)
+pub start-other : (wanted : Bool) (file : List ℕ) → NextIs file 0 inputs-tag Other
+    → fromStart wanted (length file) (cutFrom file 0) ≡ unless (endingVerdict wanted (length file) 0 0 (cutFrom file 0)) (accepted emptyCircuit)
 unfolding NextIs fromStart endingVerdict
-start-other file other = go (cutFrom file 0) refl
+start-other wanted file other = go (cutFrom file 0) refl
   where
-    go : (cut : Cut) → cutFrom file 0 ≡ cut → fromStart (length file) cut ≡ unless (endingVerdict (length file) 0 0 cut) (accepted emptyCircuit)
+    go : (cut : Cut) → cutFrom file 0 ≡ cut → fromStart wanted (length file) cut ≡ unless (endingVerdict wanted (length file) 0 0 cut) (accepted emptyCircuit)
     go clean e = refl
     go (broken place) e = refl
     go (field f rest) e = rw (not-kind inputs-tag (tagOf (f .tag)) (other f rest e))
 
 -- with no instance and no vector there is always a refusal
-pub start-refused : (size : ℕ) (cut : Cut) → isRefused (endingVerdict size 0 0 cut) ≡ true
+pub start-refused : (wanted : Bool) (size : ℕ) (cut : Cut) → isRefused (endingVerdict wanted size 0 0 cut) ≡ true
 unfolding endingVerdict endedVerdict pastVerdict isRefused
-start-refused size clean = refl
-start-refused size (broken place) = refl
-start-refused size (field f rest) = go (isUnknown (tagOf (f .tag)))
+start-refused wanted size clean = refl
+start-refused wanted size (broken place) = refl
+start-refused wanted size (field f rest) = go (isUnknown (tagOf (f .tag)))
   where
     go : (b : Bool) → isRefused (cond b (refusedAt 3 (f .at)) (refusedAt 4 (f .at))) ≡ true
     go true = refl
@@ -258,9 +258,9 @@ unfolding gatheredFrom typeStage judged isEmpty ifPasses section
 gathered-at-end file = rw (cut-clean file (length file) refl)
 
 -- what the code says of a file that is refused there
-pub refused-start : (file : List ℕ) (x : Reading) (r : Refusal) (s : Start) → readingOf file ≡ unless (verdictOf r) x
-    → gatheredOf file ≡ emptyCircuit → isRefused (verdictOf r) ≡ true → s ≡ record { refusal = r; at = length file; inputs = 0 } → StartRead file s
-refused-start file x r s is none e made =
+pub refused-start : (wanted : Bool) (file : List ℕ) (x : Reading) (r : Refusal) (s : Start) → readingWith wanted file ≡ unless (verdictOf r) x
+    → gatheredOf file ≡ emptyCircuit → isRefused (verdictOf r) ≡ true → s ≡ record { refusal = r; at = length file; inputs = 0 } → StartRead wanted file s
+refused-start wanted file x r s is none e made =
     rw made record {
       reads = is ∙ unless-refused (verdictOf r) x _ e;
       gathered = none ∙ sym (gathered-at-end file);
@@ -268,13 +268,13 @@ refused-start file x r s is none e made =
       few = omega arith;
     }
 
-pub staged-short : (file : List ℕ) → length file ≤ mostBytes → staged file ≡ fromStart (length file) (cutFrom file 0)
+pub staged-short : (wanted : Bool) (file : List ℕ) → length file ≤ mostBytes → staged wanted file ≡ fromStart wanted (length file) (cutFrom file 0)
 unfolding staged
-staged-short file h = rw (le-ltb mostBytes (length file) h)
+staged-short wanted file h = rw (le-ltb mostBytes (length file) h)
 
-pub staged-long : (file : List ℕ) → mostBytes < length file → staged file ≡ refusal 1 0
+pub staged-long : (wanted : Bool) (file : List ℕ) → mostBytes < length file → staged wanted file ≡ refusal 1 0
 unfolding staged
-staged-long file h = rw (lt-ltb mostBytes (length file) h)
+staged-long wanted file h = rw (lt-ltb mostBytes (length file) h)
 
 -- ---- what is gathered of a file, by how it begins
 

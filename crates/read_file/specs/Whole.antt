@@ -1,10 +1,11 @@
 -- How a file begins, and the answer of reading put together from what the stages have read.
 use Prim.Native.Nat.{ℕ, _≤_}
 use mathlib.Core.Path.{_≡_}
+use mathlib.Core.Bool.{Bool}
 use mathlib.Core.List.{List}
 use lib.ListN.{length}
 use Rattle.circuit.specs.Fields.{cutFrom}
-use Rattle.circuit.specs.Reading.{readingOf, unless}
+use Rattle.circuit.specs.Reading.{readingWith, unless}
 use Rattle.circuit.specs.Refusals.{verdictOf}
 use Rattle.circuit.specs.Stages.{afterInputs, gatheredFrom, gatheredOf}
 use Rattle.circuit.specs.declared.Reading.{Reading as ReadingRecord}
@@ -17,8 +18,8 @@ use Rattle.read_vectors.specs.declared.Vectors.{Vectors}
 
 -- what a file reads as: the refusal of its start, or, where that passes, what the rest reads as from this place on with this many inputs;
 -- and what the stages gather from there
-pub record StartRead (file : List ℕ) (r : Start) : Type 0 where
-  pub reads : readingOf file ≡ unless (verdictOf (r .refusal)) (afterInputs (length file) (r .inputs) (cutFrom file (r .at)))
+pub record StartRead (wanted : Bool) (file : List ℕ) (r : Start) : Type 0 where
+  pub reads : readingWith wanted file ≡ unless (verdictOf (r .refusal)) (afterInputs wanted (length file) (r .inputs) (cutFrom file (r .at)))
   pub gathered : gatheredOf file ≡ gatheredFrom (r .inputs) (cutFrom file (r .at))
   pub place : r .at ≤ length file
   pub few : r .inputs ≤ 64

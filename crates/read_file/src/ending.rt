@@ -1,4 +1,4 @@
-// The end of a file: after the last vector nothing may stand, and an instance and a vector must have been there.
+// The end of a file: after the last vector nothing may stand, and an instance and, where it is wanted, a vector must have been there.
 use circuit::order::Kind;
 use circuit::order::is_kind;
 use circuit::refusal::Refusal;
@@ -12,13 +12,16 @@ ghost use Rattle.circuit.specs.Order.{tagOf};
 ghost use Rattle.circuit.specs.Refusals.{verdictOf};
 ghost use Rattle.circuit.specs.Stages.{endedVerdict, pastVerdict, endingVerdict};
 
-fn at_end(size: usize, instances: usize, vectors: usize) -> Refusal
-    ensures { λ r. ⌜ verdictOf r ≡ endedVerdict size instances vectors ⌝ }
+fn at_end(size: usize, instances: usize, vectors: usize, vector_wanted: bool) -> Refusal
+    ensures { λ r. ⌜ verdictOf r ≡ endedVerdict «vector_wanted» size instances vectors ⌝ }
 {
     if instances == 0 {
         return Refusal::Unfinished(size);
     }
-    if vectors == 0 {
+    if vectors != 0 {
+        return Refusal::Nothing;
+    }
+    if vector_wanted {
         return Refusal::Unfinished(size);
     }
     Refusal::Nothing
@@ -33,12 +36,18 @@ fn at_field(tag: u8, at: usize) -> Refusal
     Refusal::Misplaced(at)
 }
 
-pub fn ending(file: &[u8], at: usize, instances: usize, vectors: usize) -> Refusal
+pub fn ending(
+    file: &[u8],
+    at: usize,
+    instances: usize,
+    vectors: usize,
+    vector_wanted: bool,
+) -> Refusal
     requires { ⌜ at ≤ length (now file) ⌝ }
-    ensures { λ r. ⌜ verdictOf r ≡ endingVerdict (length (now (file .entry))) instances vectors (cutFrom (now (file .entry)) at) ⌝ }
+    ensures { λ r. ⌜ verdictOf r ≡ endingVerdict «vector_wanted» (length (now (file .entry))) instances vectors (cutFrom (now (file .entry)) at) ⌝ }
 {
     match step_at(file, at) {
-        Step::End => at_end(file.len(), instances, vectors),
+        Step::End => at_end(file.len(), instances, vectors, vector_wanted),
         Step::Broken => Refusal::Broken(at),
         Step::Whole(f) => at_field(f.tag, at),
     }

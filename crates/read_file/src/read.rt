@@ -127,14 +127,14 @@ fn refused_at_start(file: &[u8], refusal: Refusal) -> Start
 }
 
 // The start of any file: its size, its first field, and the number of inputs there.
-fn read_start(file: &[u8]) -> Start
-    ensures { λ r. ⌜ StartRead (now (file .entry)) r ⌝ }
+fn read_start(file: &[u8], vector_wanted: bool) -> Start
+    ensures { λ r. ⌜ StartRead «vector_wanted» (now (file .entry)) r ⌝ }
 {
     if MOST_BYTES < file.len() {
         return refused_at_start(file, Refusal::TooLong);
     }
     let Next::Found(f) = field_of(file, 0, Kind::Inputs) else {
-        return refused_at_start(file, ending(file, 0, 0, 0));
+        return refused_at_start(file, ending(file, 0, 0, 0, vector_wanted));
     };
     let refusal = inputs_verdict(file, f);
     if refuses(refusal) {
@@ -147,12 +147,12 @@ fn read_start(file: &[u8]) -> Start
     }
 }
 
-// Any bytes at all; the first refusal counts, and beside it stands what was read before it.
+// Any bytes at all, of which a vector is wanted or not; the first refusal counts, and beside it stands what was read before it.
 // Every stage is called, also after a refusal: it then stands at a field that is not its own, and reads nothing. With a way out at each refusal the compiler would keep a place on the stack for the circuit at each.
-pub fn read_stages(file: &[u8]) -> Reading
-    ensures { λ r. ⌜ ReadByStages (now (file .entry)) r ⌝ }
+pub fn read_stages(file: &[u8], vector_wanted: bool) -> Reading
+    ensures { λ r. ⌜ ReadByStages «vector_wanted» (now (file .entry)) r ⌝ }
 {
-    let start = read_start(file);
+    let start = read_start(file, vector_wanted);
     let types = read_types(file, start.at);
     let bridges = read_bridges(file, types.at);
     let all_types = types.all;
@@ -161,7 +161,13 @@ pub fn read_stages(file: &[u8]) -> Reading
     let inputs = start.inputs;
     let instances = read_instances(file, bridges.at, inputs, types.count, all_types, lists);
     let vectors = read_vectors(file, instances.at, inputs);
-    let last = ending(file, vectors.at, instances.count, vectors.count);
+    let last = ending(
+        file,
+        vectors.at,
+        instances.count,
+        vectors.count,
+        vector_wanted,
+    );
     let at_start = start.refusal;
     let in_types = types.refusal;
     let in_bridges = bridges.refusal;
@@ -179,7 +185,7 @@ pub fn read_stages(file: &[u8]) -> Reading
 pub fn read(file: &[u8]) -> Reading
     ensures { λ r. ⌜ Answers (readingOf (now (file .entry))) r ⌝ }
 {
-    let reading = read_stages(file);
+    let reading = read_stages(file, true);
     let why = reading.refusal;
     if refuses(why) {
         return refused(why);

@@ -124,5 +124,5 @@ listed-as-graded file room enough = go (readingOf file) refl
     go : (read : Reading) → readingOf file ≡ read → rowsAfterReading read (room .entries) ≡ afterReading read room
     go (refusal number place) reads = refl
     go (accepted c) reads =
-        let few = few-rows c (accepted-is-good file c reads) in
+        let few = few-rows c (accepted-is-good true file c reads) in
         rw (le-ltb (room .words) (4 * length (rowsOf c)) (omega (arith, few, enough)))

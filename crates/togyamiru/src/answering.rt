@@ -63,7 +63,7 @@ pub fn answer_to(
 ) -> Answer
     ensures { λ r. ⌜ (lists ≡ true → RowsAnswer (now (file .entry)) (now (rows .entry)) r (now (rows .exit))) × (lists ≡ false → Promise (now (file .entry)) (buffersOf (now (matrix .entry)) (now (classes .entry))) r (buffersOf (now (matrix .exit)) (now (classes .exit)))) ⌝ }
 {
-    let reading = read_stages(file);
+    let reading = read_stages(file, true);
     if lists {
         return list_read(reading, rows);
     }

@@ -2,6 +2,7 @@
 -- Each turn hands over a line at least. Assumes nothing.
 use Prim.Native.Nat.{_-_, _≤_}
 use mathlib.Core.Path.{_≡_, refl, _∙_}
+use mathlib.Core.Bool.{true}
 use native.Mathlib.Omega.{arith}
 use borrow.Author.Needs.{needs}
 use lib.ListN.{length}
@@ -14,7 +15,7 @@ use Rattle.program_show.proofs.show_file.Tie as tie
 
 abbrev Inv-loop : tie.InvT-loop
 Inv-loop out₀ file reading handed₀ next₀ out handed next =
-    ReadByStages file reading × (handed .lines ≡ next) × (next ≤ length (listingOfFile file)) × (512 ≤ length out) × (length out ≡ length out₀)
+    ReadByStages true file reading × (handed .lines ≡ next) × (next ≤ length (listingOfFile file)) × (512 ≤ length out) × (length out ≡ length out₀)
 
 abbrev μ-loop : tie.MeasureT-loop
 μ-loop out₀ file reading handed₀ next₀ out handed next = length (listingOfFile file) - next

@@ -95,13 +95,13 @@ returns c =
     let v = z .before in
     let n = v .before in
     let l = n .before in
-    subst (ReadByStages _) (sym (c .whole .ensures)) record {
+    subst (ReadByStages _ _) (sym (c .whole .ensures)) record {
       tells =
-          stages-tell (start-of l .read-start .ensures) (types-of l .read-types .ensures) (bridges-of l .read-bridges .ensures) (instances-are n)
+          stages-tell _ (start-of l .read-start .ensures) (types-of l .read-types .ensures) (bridges-of l .read-bridges .ensures) (instances-are n)
           (v .read-vectors .ensures) (z .ending .result) (z .ending .ensures) _ _ _ _ _
           (v₁ .or-if .ensures) (v₂ .or-if2 .ensures) (v₃ .or-if3 .ensures) (v₄ .or-if4 .ensures) (v₅ .or-if5 .ensures);
       circuit =
-          stages-gather (start-of l .read-start .ensures) (types-of l .read-types .ensures) (bridges-of l .read-bridges .ensures) (instances-are n)
+          stages-gather _ (start-of l .read-start .ensures) (types-of l .read-types .ensures) (bridges-of l .read-bridges .ensures) (instances-are n)
           (v .read-vectors .ensures) (z .ending .result) (z .ending .ensures) (v₅ .or-if5 .result);
     }
 

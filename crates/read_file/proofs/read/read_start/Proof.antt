@@ -2,7 +2,7 @@
 -- Assumes nothing.
 use Prim.Native.Nat.{ℕ, _+_}
 use mathlib.Core.Path.{_≡_, refl, sym, _∙_}
-use mathlib.Core.Bool.{true, false, cond}
+use mathlib.Core.Bool.{Bool, true, false, cond}
 use mathlib.Core.List.{List}
 use native.Mathlib.Omega.{arith}
 use borrow.Author.Needs.{needs}
@@ -13,7 +13,7 @@ use Rattle.circuit.specs.Refusals.{verdictOf, refusalNumber, refusalPlace, numb
 use Rattle.circuit.specs.Verdicts.{isRefused}
 use Rattle.circuit.specs.Stages.{afterInputs, gatheredFrom, gatheredOf}
 use Rattle.read_fields.specs.Steps.{bodyOf, FieldAt, NextIs}
-use Rattle.circuit.specs.Reading.{unless, readingOf, accepted}
+use Rattle.circuit.specs.Reading.{unless, readingWith, accepted}
 use Rattle.circuit.specs.Records.{emptyCircuit}
 use Rattle.read_fields.specs.declared.Field.{Field as FieldRecord}
 use Rattle.read_fields.specs.declared.Next.the-variants.{Other}
@@ -30,9 +30,11 @@ refused-at-start-requires c κs = search needs
 returns : tie.Need-returns
 unfolding unless isRefused verdictOf refusalNumber refusalPlace numberedVerdict
 returns c =
-    let file = c .before .before .before .args .file .now in
-    refused-start file (accepted emptyCircuit) TooLong (c .refused-at-start .result)
-    (sym (staged-is-reading file) ∙ staged-long file (c .before .if1 .taken)) (gathered-long file (c .before .if1 .taken)) refl
+    let a = c .before .before .before .args in
+    let file = a .file .now in
+    let wanted = a .vector-wanted in
+    refused-start wanted file (accepted emptyCircuit) TooLong (c .refused-at-start .result)
+    (sym (staged-is-reading wanted file) ∙ staged-long wanted file (c .before .if1 .taken)) (gathered-long file (c .before .if1 .taken)) refl
     (c .refused-at-start .ensures)
 
 field-of-requires : tie.Need-field-of-requires
@@ -54,18 +56,23 @@ returns-2 : tie.Need-returns-2
 returns-2 c =
     let x = c .before in
     let m = x .before .before .before in
-    let file = m .before .before .before .args .file .now in
+    let a = m .before .before .before .args in
+    let file = a .file .now in
+    let wanted = a .vector-wanted in
     let other : NextIs file 0 inputs-tag Other = rw (x .before .enum-told .given .1) at (m .field-of .ensures) in
-    refused-start file (accepted emptyCircuit) (x .ending .result) (c .refused-at-start2 .result)
-    (sym (staged-is-reading file) ∙ staged-short file (m .before .if1 .left) ∙ start-other file other ∙ rw (x .ending .ensures))
+    refused-start wanted file (accepted emptyCircuit) (x .ending .result) (c .refused-at-start2 .result)
+    (sym (staged-is-reading wanted file) ∙ staged-short wanted file (m .before .if1 .left) ∙ start-other wanted file other ∙ rw (x .ending .ensures))
     (gathered-other file (m .before .if1 .left) other)
-    (rw (x .ending .ensures) (start-refused (length file) (cutFrom file 0)))
+    (rw (x .ending .ensures) (start-refused wanted (length file) (cutFrom file 0)))
     (c .refused-at-start2 .ensures)
 
 -- ---- the inputs' field
 
 abbrev file-at : tie.After-f → List ℕ
 file-at c = c .before .before .before .before .before .args .file .now
+
+abbrev wanted-at : tie.After-f → Bool
+wanted-at c = c .before .before .before .before .before .args .vector-wanted
 
 abbrev field-at : tie.After-f → FieldRecord
 field-at c = c .f .given .0 .0
@@ -79,15 +86,16 @@ inputs-verdict-requires c κs = here (c .before) .0 .inside
 
 -- the reading from the inputs' field on
 begun : (c : tie.After-inputs-verdict)
-    → readingOf (file-at (c .before .before))
+    → readingWith (wanted-at (c .before .before)) (file-at (c .before .before))
     ≡ unless (verdictOf (c .inputs-verdict .result))
-    (afterInputs (length (file-at (c .before .before))) (twoBytes (bodyOf (file-at (c .before .before)) (field-at (c .before .before))) 0)
+    (afterInputs (wanted-at (c .before .before)) (length (file-at (c .before .before))) (twoBytes (bodyOf (file-at (c .before .before)) (field-at (c .before .before))) 0)
     (cutFrom (file-at (c .before .before)) (field-at (c .before .before) .body + field-at (c .before .before) .len)))
 begun c =
     let g = c .before .before in
     let s = g .before .before .before in
     let file = file-at g in
-    sym (staged-is-reading file) ∙ staged-short file (s .if1 .left) ∙ start-field file (field-at g) (here g .0) (here g .1)
+    let wanted = wanted-at g in
+    sym (staged-is-reading wanted file) ∙ staged-short wanted file (s .if1 .left) ∙ start-field wanted file (field-at g) (here g .0) (here g .1)
     ∙ rw (c .inputs-verdict .ensures)
 
 -- what is gathered from the inputs' field on
@@ -111,11 +119,11 @@ returns-3 c =
     let x = c .before .before in
     let v = x .before in
     let refuses : isRefused (verdictOf (v .inputs-verdict .result)) ≡ true = sym (x .refuses .ensures) ∙ c .before .if2 .taken in
-    refused-start _ _ (v .inputs-verdict .result) (c .refused-at-start3 .result) (begun v) (begun-gathered v ∙ rw refuses) refuses
+    refused-start _ _ _ (v .inputs-verdict .result) (c .refused-at-start3 .result) (begun v) (begun-gathered v ∙ rw refuses) refuses
     (c .refused-at-start3 .ensures)
 
-add-t4 : tie.Need-add-t4
-add-t4 c = omega (arith, here (c .before .before .before .before .before) .0 .inside)
+add-t5 : tie.Need-add-t5
+add-t5 c = omega (arith, here (c .before .before .before .before .before) .0 .inside)
 
 two-bytes-requires : tie.Need-two-bytes-requires
 two-bytes-requires c κs = (here (c .before .before .before .before .before) .0 .inside, omega arith)
@@ -150,6 +158,6 @@ read-start-spec =
     refuses-requires
     refused-at-start-requires-3
     returns-3
-    add-t4
+    add-t5
     two-bytes-requires
     returns-4)

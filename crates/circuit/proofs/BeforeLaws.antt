@@ -1,6 +1,6 @@
 -- What was read before a refusal keeps the rules of its fields: a stage adds a field only where the field's tests pass, and leaves a type that is not finished out.
 use Prim.Native.Nat.{ℕ, _-_, _<_, _≤_}
-use mathlib.Core.Path.{_≡_, refl, subst}
+use mathlib.Core.Path.{_≡_, refl, ap, subst}
 use mathlib.Core.Bool.{Bool, true, false, cond, not, _&&_}
 use mathlib.Core.List.{List, [], _∷_, _++_}
 use native.Mathlib.Omega.{arith}
@@ -17,7 +17,7 @@ use Rattle.circuit.specs.Table.{Test, Verdict, passes, refusedAt, firstO
 use Rattle.circuit.specs.Records.{emptyCircuit}
 use Rattle.circuit.specs.Verdicts.{isRefused}
 use Rattle.circuit.specs.Before.{typesBefore}
-use Rattle.circuit.specs.Stages.{Stage, stopped, ifPasses, section, bridgeStage, instanceStage, judged, fieldPlace, typeStage, gatheredFrom, gatheredAtStart, gatheredOf}
+use Rattle.circuit.specs.Stages.{Stage, stageOf, stopped, ifPasses, section, bridgeStage, instanceStage, judged, fieldPlace, typeStage, gatheredFrom, gatheredAtStart, gatheredOf}
 use Rattle.circuit.specs.Laws.{CircuitGood, BeforeIsGood}
 use Rattle.circuit.proofs.CircuitLaws.{TypesGood, TypesSound, no-types, latest-sound, edge-keeps, type-keeps, judged-types, BridgesGood, InstancesGood, VectorsGood, bridge-keeps, instance-keeps, vector-keeps}
 use Rattle.circuit.proofs.GatheredLaws.{gathered-is-before}
@@ -113,6 +113,10 @@ types-keep types from (field f rest) s =
         (edge-pass (latest types) (f .at) (f .body) e (latest-sound types em s))))
     go false em em′ edges types′ = other types′
 
+-- the types that the code's stage has read
+pub stage-types : (cut : Cut) (v : Verdict) (types : List ModuleType) (rest : Cut) → typeStage [] clean cut ≡ stageOf v types rest → TypesGood types
+stage-types cut v types rest e = subst TypesGood (ap (λ (s : Stage (List ModuleType)). s .gathered) e) (types-keep [] clean cut no-types)
+
 -- ---- the whole
 
 nothing-good : CircuitGood emptyCircuit
@@ -147,10 +151,10 @@ gathered-good P cut few =
       types = t .each;
       few-bridges = b .few;
       bridges = b .each;
-          few-instances = i .few;
+      few-instances = i .few;
       instances = i .each;
       few-faults = i .faults;
-          few-vectors = v .few;
+      few-vectors = v .few;
       vectors = v .each;
     }
 

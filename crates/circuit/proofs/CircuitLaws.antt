@@ -19,13 +19,15 @@ use Rattle.circuit.specs.Fields.{Cut, clean, broken, field, cutIn, cutFr
 use Rattle.circuit.specs.Circuit.{Instance, Listed, noType, faultCount}
 use Rattle.circuit.specs.Order.{Tag, inputs-tag, type-tag, edge-tag, bridge-tag, instance-tag, vector-tag, tagOf, isKind, isEdge, isUnknown, after-tag}
 use Rattle.circuit.specs.Known.{typeIn, edgeIn, listedIn, instanceIn, vectorIn, latest, withEdge, edgeAdded}
-use Rattle.circuit.specs.Table.{Test, Verdict, passes, refusedAt, firstOf, misplaced, notComplementary, isEmpty, inputsTests, typeTests, edgeTests, bridgeTests, instanceTests, vectorTests}
+use Rattle.circuit.specs.Table.{Test, Verdict, passes, refusedAt, firstOf, misplaced, notComplementary, listedGood, isEmpty, inputsTests, typeTests, edgeTests, bridgeTests, instanceTests, vectorTests}
 use Rattle.circuit.specs.Reading.{Reading, accepted, refusal, unless, readingWith}
 use Rattle.circuit.specs.Records.{emptyCircuit}
 use Rattle.circuit.specs.Stages.{Stage, stopped, ifPasses, section, failingBefore, failingVerdict, judged, typeStage, readTo, endedVerdict, pastVerdict, endingVerdict, afterStage, afterInputs, fromStart, staged, fieldPlace}
 use Rattle.circuit.specs.Before.{typesBefore}
-use Rattle.circuit.specs.Laws.{Each, TypeSound, TypeGood, ListedGood, InstanceGood, CircuitGood, Whole, RefusalGood, AcceptedIsGood, AcceptedIsWhole, RefusalIsGood}
+use Rattle.circuit.specs.Laws.{Each, TypeSound, TypeGood, InstanceGood, CircuitGood, Whole, RefusalGood, AcceptedIsGood, AcceptedIsWhole, RefusalIsGood}
 use Rattle.circuit.proofs.StageLaws.{staged-is-reading}
+use Rattle.circuit.proofs.GatheredLaws.{failing-refuses}
+use Rattle.circuit.proofs.Verdicts.{refused-passes}
 use Rattle.circuit.proofs.Tested.{VerdictGood, TestsGood, first-good, inputs-refuse, types-refuse, edges-refuse, bridges-refuse, instances-refuse, vectors-refuse, inputs-pass, type-pass, edge-pass, bridge-pass, faults-snoc, instance-pass, vector-pass, holds, length-snoc, each-none, each-snoc, never-passes}
 
 -- ---- offsets
@@ -149,17 +151,6 @@ type-keeps types t g room new =
           rw (List·getD-append types (t ∷ []) none i q) (g .each i none q .complementary);
     }
 
-failing-refuses : (typeAt : ℕ) (cut : Cut) → failingVerdict typeAt cut ≡ passes → ⊥
-unfolding failingVerdict failingBefore
-failing-refuses typeAt clean e = never-passes e
-failing-refuses typeAt (broken at) e = never-passes e
-failing-refuses typeAt (field f rest) e = go (isUnknown (tagOf (f .tag))) (misplaced (after-tag type-tag) (tagOf (f .tag))) e
-  where
-    go : (a b : Bool) → cond a (refusedAt 3 (f .at)) (cond b (refusedAt 4 (f .at)) (refusedAt 9 typeAt)) ≡ passes → ⊥
-    go true b q = never-passes q
-    go false true q = never-passes q
-    go false false q = never-passes q
-
 -- types that were judged are complementary, the latest too
 pub judged-types : (types : List ModuleType) (typeAt : ℕ) (cut : Cut) → TypesSound types → judged types typeAt cut ≡ passes → TypesGood types
 unfolding judged notComplementary latest
@@ -174,7 +165,7 @@ judged-types types typeAt cut s e =
         → cond em passes (cond (not co) (failingVerdict typeAt cut) passes) ≡ passes
         → (i : ℕ) (none : ModuleType) → i < length types → T (isComplementary (getD types i none))
     go true co em co′ q i none h = absurd (omega (arith, no-length types em))
-    go false false em co q i none h = absurd (failing-refuses typeAt cut q)
+    go false false em co q i none h = absurd (refused-passes (failingVerdict typeAt cut) (failing-refuses typeAt cut) q)
     go false true em co q i none h = at (decLt (suc i) (length types))
       where
         at : Dec (suc i < length types) → T (isComplementary (getD types i none))
@@ -263,7 +254,7 @@ module _ (wanted : Bool) (size : ℕ) (next : List ModuleType → Cut → Readin
 
 pub record BridgesGood (bridges : List Listed) : Type 0 where
   pub few : length bridges ≤ mostBridges
-  pub each : Each (λ (i : ℕ) (b : Listed). ListedGood b) bridges
+  pub each : Each (λ (i : ℕ) (b : Listed). T (listedGood b)) bridges
 
 pub record InstancesGood (P : ℕ) (types : List ModuleType) (bridges : List Listed) (instances : List Instance) : Type 0 where
   pub few : length instances ≤ mostInstances
@@ -281,7 +272,7 @@ bridge-keeps bs at body g e =
     let room = new .0 in
     record {
       few = omega (arith, length-snoc bs (listedIn body));
-      each = each-snoc (λ (i : ℕ) (b : Listed). ListedGood b) bs (listedIn body) (g .each) (new .1);
+      each = each-snoc (λ (i : ℕ) (b : Listed). T (listedGood b)) bs (listedIn body) (g .each) (new .1 .1);
     }
 
 pub instance-keeps : (P : ℕ) (types : List ModuleType) (bridges : List Listed) (is : List Instance) (at : ℕ) (body : List ℕ)
@@ -370,19 +361,21 @@ after-inputs-good wanted size P cut some p =
     (λ instances cut₄ i p₄.
     section-good wanted size vector-tag _ _ (VectorsGood P) (λ vs at body h. vectors-refuse size at h body P (length vs)) (vector-keeps P) _ (λ vectors cut₅ v p₅.
     unless-good wanted size (endingVerdict wanted size (length instances) (length vectors) cut₅) _ (ending-good wanted size (length instances) (length vectors) cut₅ p₅)
-    (λ e. let there = ending-some wanted size (length instances) (length vectors) cut₅ e in
-    (record {
-      few-inputs = some .1;
-      few-types = t .few;
-      types = t .each;
-      few-bridges = b .few;
-      bridges = b .each;
-      few-instances = i .few;
-      instances = i .each;
-      few-faults = i .faults;
-      few-vectors = v .few;
-      vectors = v .each;
-    }, record { some-input = some .0; some-instance = there .0; some-vector = there .1 })))
+    (λ e. let there = ending-some wanted size (length instances) (length vectors) cut₅ e in (
+      record {
+        few-inputs = some .1;
+        few-types = t .few;
+        types = t .each;
+        few-bridges = b .few;
+        bridges = b .each;
+        few-instances = i .few;
+        instances = i .each;
+        few-faults = i .faults;
+        few-vectors = v .few;
+        vectors = v .each;
+      },
+      record { some-input = some .0; some-instance = there .0; some-vector = there .1 },
+    )))
     [] cut₄ (record { few = omega arith; each = each-none _ }) p₄)
     [] cut₃ (record { few = omega arith; each = each-none _; faults = omega arith }) p₃)
     [] cut₂ (record { few = omega arith; each = each-none _ }) p₂)

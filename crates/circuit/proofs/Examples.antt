@@ -13,7 +13,7 @@ use Rattle.circuit.specs.Circuit.{primary, outputOf, exhaustive, no-faul
 use Rattle.circuit.specs.Numbers.{signed, choiceOf, choiceInRange, referenceOf, referenceGood}
 use Rattle.circuit.specs.Order.{tagOf, isKind, mayFollow}
 use Rattle.circuit.specs.Known.{typeIn, edgeIn, referencesIn, instanceIn, letterOf, vectorIn, latest, withEdge, edgeAdded, taken, typeAtAfter, knownAfter}
-use Rattle.circuit.specs.Table.{firstOf, unjudged, notComplementary, isEmpty, listUnsuited, listEmpty, isLetter, inputsTests, typeTests, edgeTests, edgeTestsOf, bridgeTests, instanceTests, vectorTests, bodyTests, fieldTests, endTests}
+use Rattle.circuit.specs.Table.{firstOf, unjudged, notComplementary, isEmpty, listUnsuited, listEmpty, isLetter, inputsTests, typeTests, edgeTests, edgeTestsOf, bridgeTests, instanceTests, instanceTestsOf, vectorTests, bodyTests, fieldTests, endTests}
 use Rattle.circuit.specs.Reading.{accepted, refusal, unless, readFrom, readingWith, readingOf}
 
 inverter : List ℕ
@@ -30,7 +30,7 @@ read-inverter : readingOf inverter ≡ accepted (record {
   instances = record { type = 1; choice = exhaustive; references = primary 1 ∷ [] } ∷ [];
   vectors = (at0 ∷ []) ∷ (at1 ∷ []) ∷ (atX ∷ []) ∷ [];
 })
-unfolding inverter nEnd nEnds badEnds readingWith readFrom unless fieldTests endTests firstOf bodyTests inputsTests typeTests edgeTests edgeTestsOf bridgeTests instanceTests vectorTests isKind mayFollow unjudged notComplementary isEmpty listUnsuited listEmpty isLetter tagOf typeIn edgeIn referencesIn instanceIn letterOf vectorIn latest withEdge edgeAdded taken typeAtAfter knownAfter signed choiceOf choiceInRange referenceOf referenceGood twoBytes cutIn cutFrom numbered exhaustiveSize chosenSize faultCount userList bit table joins renamings partIn rename allBelow oneRail isComplementary allOf inRange typeInRange edgeInRange linksOf settingOf valueOfBit transistorOn channelOf pEnds edgeOn anyOf between links
+unfolding inverter nEnd nEnds badEnds readingWith readFrom unless fieldTests endTests firstOf bodyTests inputsTests typeTests edgeTests edgeTestsOf bridgeTests instanceTests instanceTestsOf vectorTests isKind mayFollow unjudged notComplementary isEmpty listUnsuited listEmpty isLetter tagOf typeIn edgeIn referencesIn instanceIn letterOf vectorIn latest withEdge edgeAdded taken typeAtAfter knownAfter signed choiceOf choiceInRange referenceOf referenceGood twoBytes cutIn cutFrom numbered exhaustiveSize chosenSize faultCount userList bit table joins renamings partIn rename allBelow oneRail isComplementary allOf inRange typeInRange edgeInRange linksOf settingOf valueOfBit transistorOn channelOf pEnds edgeOn anyOf between links
 read-inverter = refl
 
 read-empty : readingOf [] ≡ refusal 14 0
@@ -69,5 +69,5 @@ read-references : (readingOf (withSecond 255 255) ≡ accepted (record {
     × ((readingOf (withSecond 255 254) ≡ refusal 10 30)
     × ((readingOf (withSecond 0 0) ≡ refusal 10 30)
     × (readingOf (begin ++ instanceWith 255 255 ++ vector) ≡ refusal 10 23)))
-unfolding begin instanceWith vector withSecond nEnd nEnds badEnds readingWith readFrom unless fieldTests endTests firstOf bodyTests inputsTests typeTests edgeTests edgeTestsOf bridgeTests instanceTests vectorTests isKind mayFollow unjudged notComplementary isEmpty listUnsuited listEmpty isLetter tagOf typeIn edgeIn referencesIn instanceIn letterOf vectorIn latest withEdge edgeAdded taken typeAtAfter knownAfter signed choiceOf choiceInRange referenceOf referenceGood twoBytes cutIn cutFrom numbered exhaustiveSize chosenSize faultCount userList bit table joins renamings partIn rename allBelow oneRail isComplementary allOf inRange typeInRange edgeInRange linksOf settingOf valueOfBit transistorOn channelOf pEnds edgeOn anyOf between links
+unfolding begin instanceWith vector withSecond nEnd nEnds badEnds readingWith readFrom unless fieldTests endTests firstOf bodyTests inputsTests typeTests edgeTests edgeTestsOf bridgeTests instanceTests instanceTestsOf vectorTests isKind mayFollow unjudged notComplementary isEmpty listUnsuited listEmpty isLetter tagOf typeIn edgeIn referencesIn instanceIn letterOf vectorIn latest withEdge edgeAdded taken typeAtAfter knownAfter signed choiceOf choiceInRange referenceOf referenceGood twoBytes cutIn cutFrom numbered exhaustiveSize chosenSize faultCount userList bit table joins renamings partIn rename allBelow oneRail isComplementary allOf inRange typeInRange edgeInRange linksOf settingOf valueOfBit transistorOn channelOf pEnds edgeOn anyOf between links
 read-references = (refl, (refl, (refl, refl)))

@@ -185,7 +185,7 @@ module _ (P : ℕ) (types : List ModuleType) where
 
 -- ---- the ending
 
-empty-count : {A : Type 0} (as′ : List A) → isEmpty as′ ≡ eqb (length as′) 0
+pub empty-count : {A : Type 0} (as′ : List A) → isEmpty as′ ≡ eqb (length as′) 0
 unfolding isEmpty
 empty-count [] = refl
 empty-count (a ∷ as′) = sym (eqb·suc-zero (length as′))

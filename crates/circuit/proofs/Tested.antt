@@ -2,41 +2,34 @@
 -- And what the tests of a field can refuse with: a number of the table, and the field's place.
 use Prim.Native.Nat.{ℕ, zero, suc, _+_, _-_, _*_, _≤_, _<_}
 use mathlib.Core.Path.{_≡_, refl, sym, ap, subst, _∙_}
-use mathlib.Core.Bool.{Bool, true, false, cond, not, _&&_, _||_, or-false}
+use mathlib.Core.Bool.{Bool, true, false, cond, not, _&&_}
 use mathlib.Core.List.{List, [], _∷_, _++_}
 use native.Mathlib.Nat.{not-suc-le-zero}
 use native.Mathlib.Decide.{decLt}
 use native.Mathlib.Omega.{arith}
-use borrow.Author.Tests.{ltb-true, ltb-false, leb-false, not-false}
+use borrow.Author.Tests.{ltb-true, ltb-false, leb-false}
 use lib.Dec.{T, eqb, leb, ltb, leb→le, le→leb, eqb→eq, eqb·suc-zero}
 use lib.ListN.{length, getD, length-append, length-map, List·getD-append}
 use lib.Seq.{getD-append-seam}
 use Rattle.switch.specs.Conduction.{between}
 use Rattle.switch.specs.Modules.{ModuleType, allOf, typeInRange, edgeInRange, inRange}
 use Rattle.switch.proofs.Paths.{both}
+use Rattle.switch.proofs.Deciding.{and-both}
 use Rattle.circuit.specs.Limits.{mostTypes, mostEdges, mostBridges, mostInstances, mostVectors, mostFaults}
 use Rattle.circuit.specs.Fields.{twoBytes}
 use Rattle.circuit.specs.Circuit.{Circuit, Instance, Listed, typeOfInstance, chosenSize, faultCount}
 use Rattle.circuit.specs.Numbers.{plus, minus, signed, choiceOf, choiceInRange, referenceGood}
-use Rattle.circuit.specs.Known.{typeIn, edgeIn, bridgeOf, listedIn, instanceIn, letterOf, vectorIn, withEdge}
-use Rattle.circuit.specs.Table.{Test, Verdict, passes, refusedAt, firstOf, bridgeInRange, inputsTests, typeTests, edgeTests, edgeTestsOf, bridgeTests, instanceTests, vectorTests}
-use Rattle.circuit.specs.Laws.{Each, endsGood, TypeSound, bridgeGood, ListedGood, choiceGood, InstanceGood, RefusalGood}
+use Rattle.circuit.specs.Known.{typeIn, edgeIn, listedIn, instanceIn, letterOf, vectorIn, withEdge}
+use Rattle.circuit.specs.Table.{Test, Verdict, passes, refusedAt, firstOf, listedGood, bridgeInRange, inputsTests, typeTests, edgeTests, edgeTestsOf, bridgeTests, instanceTests, instanceTestsOf, vectorTests}
+use Rattle.circuit.specs.Laws.{Each, endsGood, TypeSound, choiceGood, InstanceGood, RefusalGood}
+use Rattle.circuit.proofs.RangeLaws.{in-between}
+use Rattle.circuit.proofs.TypeLaws.{accepts, all-snoc}
 use Rattle.circuit.proofs.Verdicts.{first-passes}
 
 -- ---- tests and lists
 
 pub holds : (b : Bool) → b ≡ true → T b
 holds b e = subst T (sym e) tt
-
-pub and-T : (a b : Bool) → T a → T b → T (a && b)
-and-T true b s t = t
-and-T false b s t = s
-
-all-snoc : {A : Type 0} (test : A → Bool) (as′ : List A) (a : A) → T (allOf test as′) → T (test a) → T (allOf test (as′ ++ (a ∷ [])))
-unfolding allOf
-all-snoc test [] a s t = and-T (test a) true t tt
-all-snoc test (b ∷ as′) a s t =
-    let parts = both (test b) (allOf test as′) s in and-T (test b) (allOf test (as′ ++ (a ∷ []))) (parts .0) (all-snoc test as′ a (parts .1) t)
 
 pub length-snoc : {A : Type 0} (as′ : List A) (a : A) → length (as′ ++ (a ∷ [])) ≡ suc (length as′)
 length-snoc as′ a = omega (arith, length-append as′ (a ∷ []))
@@ -93,7 +86,7 @@ module _ (size at : ℕ) (inside : at ≤ size) (body : List ℕ) where
   bridges-refuse count = omega arith
 
   pub instances-refuse : (c : Circuit) → TestsGood size (instanceTests c at body)
-  unfolding instanceTests
+  unfolding instanceTests instanceTestsOf
   instances-refuse c = omega arith
 
   pub vectors-refuse : (P count : ℕ) → TestsGood size (vectorTests P count at body)
@@ -102,20 +95,12 @@ module _ (size at : ℕ) (inside : at ≤ size) (body : List ℕ) where
 
 -- ---- what a field that was not refused gives
 
-pub in-between : (low high m : ℕ) → T (between low high m) → (low ≤ m) × (m ≤ high)
-unfolding between
-in-between low high m t = let parts = both (leb low m) (leb m high) t in (leb→le low m (parts .0), leb→le m high (parts .1))
-
--- a test that refuses by `not b` and did not refuse
-passed : (b : Bool) → not b ≡ false → T b
-passed b e = holds b (not-false b e)
-
 pub inputs-pass : (at : ℕ) (body : List ℕ) → firstOf (inputsTests at body) ≡ passes → (1 ≤ twoBytes body 0) × (twoBytes body 0 ≤ 64)
 unfolding inputsTests
 inputs-pass at body e =
     let five = first-passes _ _ e in
     let seven = first-passes _ _ (five .1) in
-    in-between 1 64 (twoBytes body 0) (passed (between 1 64 (twoBytes body 0)) (seven .0))
+    in-between 1 64 (twoBytes body 0) (accepts (between 1 64 (twoBytes body 0)) (seven .0))
 
 pub type-pass : (count at : ℕ) (body : List ℕ) → firstOf (typeTests count at body) ≡ passes → (count < mostTypes) × TypeSound (typeIn body)
 unfolding typeTests typeIn inRange allOf
@@ -124,7 +109,7 @@ type-pass count at body e =
     let six = first-passes _ _ (five .1) in
     let seven = first-passes _ _ (six .1) in
     let ranges = typeInRange (getD body 0 0) (getD body 1 0) (getD body 2 0) in
-    (leb-false mostTypes count (six .0), record { ranges = and-T ranges true (passed ranges (seven .0)) tt; few = omega arith; ends = tt })
+    (leb-false mostTypes count (six .0), record { ranges = and-both ranges true (accepts ranges (seven .0)) tt; few = omega arith; ends = tt })
 
 pub edge-pass : (t : ModuleType) (at : ℕ) (body : List ℕ) → firstOf (edgeTests t at body) ≡ passes → TypeSound t → TypeSound (withEdge t (edgeIn body))
 unfolding edgeTests edgeTestsOf withEdge inRange endsGood edgeIn
@@ -137,38 +122,24 @@ edge-pass t at body e sound =
     let parts = both (typeInRange (t .highest) (t .output) (t .labels)) (allOf new (t .edges)) (sound .ranges) in
     let few = leb-false mostEdges (length (t .edges)) (six .0) in
     record {
-      ranges = and-T (typeInRange (t .highest) (t .output) (t .labels)) (allOf new (t .edges ++ (edgeIn body ∷ []))) (parts .0)
-          (all-snoc new (t .edges) (edgeIn body) (parts .1) (passed (new (edgeIn body)) (seven .0)));
+      ranges = and-both (typeInRange (t .highest) (t .output) (t .labels)) (allOf new (t .edges ++ (edgeIn body ∷ []))) (parts .0)
+          (all-snoc new (t .edges) (edgeIn body) (parts .1) (accepts (new (edgeIn body)) (seven .0)));
       few = omega (arith, length-snoc (t .edges) (edgeIn body));
       ends = all-snoc (endsGood (t .highest) (t .output)) (t .edges) (edgeIn body) (sound .ends)
           (holds (endsGood (t .highest) (t .output) (edgeIn body)) (ap not (eight .0)));
     }
 
--- a kind that is in range tells a bridge that is
-bridge-good : (kind first second : ℕ) → T (leb first 31)
-    → T (eqb kind 0 && leb second 31 && not (eqb first second) || eqb kind 1 && leb second 11) → T (bridgeGood (bridgeOf kind first second))
-unfolding bridgeGood bridgeOf
-bridge-good zero first second low t =
-    let u : T (leb second 31 && not (eqb first second)) = (rw or-false at t) in
-    let parts = both (leb second 31) (not (eqb first second)) u in
-    and-T (leb first 31 && leb second 31) (not (eqb first second)) (and-T (leb first 31) (leb second 31) low (parts .0)) (parts .1)
-bridge-good (suc kind) first second low t =
-    let u : T (eqb (suc kind) 1 && leb second 11) = (rw (eqb·suc-zero kind) at t) in
-    and-T (leb first 31) (leb second 11) low (both (eqb (suc kind) 1) (leb second 11) u .1)
-
-pub bridge-pass : (count at : ℕ) (body : List ℕ) → firstOf (bridgeTests count at body) ≡ passes → (count < mostBridges) × ListedGood (listedIn body)
+pub bridge-pass : (count at : ℕ) (body : List ℕ) → firstOf (bridgeTests count at body) ≡ passes
+    → (count < mostBridges) × ((getD body 1 0 ≤ 1) × T (listedGood (listedIn body)))
 unfolding bridgeTests bridgeInRange listedIn
 bridge-pass count at body e =
     let five = first-passes _ _ e in
     let six = first-passes _ _ (five .1) in
     let seven = first-passes _ _ (six .1) in
-    let a = getD body 2 0 in
-    let b = getD body 3 0 in
-    let listed = between 1 127 (getD body 0 0) in
-    let rest = eqb (getD body 1 0) 0 && leb b 31 && not (eqb a b) || eqb (getD body 1 0) 1 && leb b 11 in
-    let parts = both (listed && leb a 31) rest (passed (listed && leb a 31 && rest) (seven .0)) in
-    let front = both listed (leb a 31) (parts .0) in
-    (leb-false mostBridges count (six .0), record { list = front .0; bridge = bridge-good (getD body 1 0) a b (front .1) (parts .1) })
+    let kinds = leb (getD body 1 0) 1 in
+    let good = listedGood (listedIn body) in
+    let parts = both kinds good (accepts (kinds && good) (seven .0)) in
+    (leb-false mostBridges count (six .0), (leb→le (getD body 1 0) 1 (parts .0), parts .1))
 
 choice-good : (byte : ℕ) → T (choiceGood (choiceOf (signed 128 byte)))
 unfolding choiceGood choiceOf signed between
@@ -176,7 +147,7 @@ choice-good byte = go (ltb byte 128) refl
   where
     listed : (n : ℕ) → n < 128 → T (choiceGood (choiceOf (plus n)))
     listed zero h = tt
-    listed (suc n) h = and-T (leb 1 (suc n)) (leb (suc n) 127) (le→leb 1 (suc n) (omega arith)) (le→leb (suc n) 127 (omega arith))
+    listed (suc n) h = and-both (leb 1 (suc n)) (leb (suc n) 127) (le→leb 1 (suc n) (omega arith)) (le→leb (suc n) 127 (omega arith))
 
     go : (b : Bool) → ltb byte 128 ≡ b → T (choiceGood (choiceOf (cond b (plus byte) (minus (2 * 128 - byte)))))
     go true e = listed byte (ltb-true byte 128 e)
@@ -192,7 +163,7 @@ module _ (c : Circuit) where
   pub instance-pass : (at : ℕ) (body : List ℕ) → firstOf (instanceTests c at body) ≡ passes
       → (length (c .instances) < mostInstances) × InstanceGood (c .inputs) (c .types) (c .bridges) (length (c .instances)) (instanceIn body)
       × (faultCount (c .types) (c .bridges) (c .instances) + chosenSize (typeOfInstance (c .types) (instanceIn body)) (c .bridges) (instanceIn body .choice) ≤ mostFaults)
-  unfolding instanceTests instanceIn
+  unfolding instanceTests instanceTestsOf instanceIn
   instance-pass at body e =
       let i = instanceIn body in
       let t = typeOfInstance (c .types) i in
@@ -209,10 +180,10 @@ module _ (c : Circuit) where
       let chosen = choiceInRange (signed 128 (getD body 1 0)) in
       let counted = eqb (length (i .references)) (t .labels) in
       let tied = allOf (referenceGood (c .inputs) count) (i .references) in
-      let refs = both counted tied (passed (counted && tied) (ten .0)) in (
+      let refs = both counted tied (accepts (counted && tied) (ten .0)) in (
         leb-false mostInstances count (six .0),
         record {
-          type = both typed chosen (passed (typed && chosen) (seven .0)) .0;
+          type = both typed chosen (accepts (typed && chosen) (seven .0)) .0;
           choice = choice-good (getD body 1 0);
           count = eqb→eq (length (i .references)) (t .labels) (refs .0);
           references = refs .1;
@@ -227,4 +198,4 @@ unfolding vectorTests vectorIn
 vector-pass P count at body e =
     let five = first-passes _ _ e in
     let six = first-passes _ _ (five .1) in
-    (leb-false mostVectors count (six .0), length-map body letterOf ∙ eqb→eq (length body) P (passed (eqb (length body) P) (five .0)))
+    (leb-false mostVectors count (six .0), length-map body letterOf ∙ eqb→eq (length body) P (accepts (eqb (length body) P) (five .0)))

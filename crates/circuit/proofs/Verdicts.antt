@@ -38,6 +38,11 @@ unfolding isRefused
 passes-is passes e = refl
 passes-is (refusedAt n p) e = cc
 
+pub refused-passes : (v : Verdict) → isRefused v ≡ true → v ≡ passes → ⊥
+unfolding isRefused
+refused-passes passes e p = let z : _≡_ {A = ℕ} 0 1 = cc in omega arith
+refused-passes (refusedAt n p) e q = let z : _≡_ {A = ℕ} 0 1 = cc in omega arith
+
 -- where no test refuses, the first does not, and none of the others does
 pub first-passes : (t : Test) (ts : List Test) → firstOf (t ∷ ts) ≡ passes → (t .refuses ≡ false) × (firstOf ts ≡ passes)
 unfolding firstOf

@@ -2,19 +2,18 @@
 -- Their proofs are in proofs/: StageLaws, GatheredLaws, CircuitLaws, BeforeLaws, FaultLaws, AnswerLaws.
 use Prim.Native.Nat.{ℕ, _≤_, _<_}
 use mathlib.Core.Path.{_≡_}
-use mathlib.Core.Bool.{Bool, true, false, not, _&&_}
+use mathlib.Core.Bool.{Bool, true, false, not}
 use mathlib.Core.List.{List, map}
-use lib.Dec.{T, eqb, leb}
+use lib.Dec.{T}
 use lib.ListN.{length, getD}
 use Rattle.switch.specs.Conduction.{Value, Edge, between, badEnds}
 use Rattle.switch.specs.Modules.{ModuleType, allOf, inRange}
-use Rattle.switch.specs.Bridges.{Bridge, nodes, input}
 use Rattle.switch.specs.Deciding.{isComplementary}
 use Rattle.circuit.specs.Limits.{mostTypes, mostEdges, mostBridges, mostInstances, mostVectors, mostFaults}
 use Rattle.circuit.specs.Circuit.{Circuit, Instance, Listed, Choice, exhaustive, no-faults, list, typeOfInstance, joinLists}
 use Rattle.circuit.specs.Circuit.{chosenSize, faultsOf, faultCount}
 use Rattle.circuit.specs.Numbers.{referenceGood}
-use Rattle.circuit.specs.Table.{listUnsuited, listEmpty}
+use Rattle.circuit.specs.Table.{listedGood, listUnsuited, listEmpty}
 use Rattle.circuit.specs.Reading.{Reading, accepted, refusal, readingWith}
 use Rattle.circuit.specs.Answers.{Answers}
 use Rattle.circuit.specs.Before.{readBefore}
@@ -42,15 +41,6 @@ pub record TypeGood (t : ModuleType) : Type 0 where
   pub sound : TypeSound t
   pub complementary : T (isComplementary t)
 
--- two different nodes 0 to 31, or a node 0 to 31 and a label 0 to 11
-unfoldable pub bridgeGood : Bridge → Bool
-bridgeGood (nodes a b) = leb a 31 && leb b 31 && not (eqb a b)
-bridgeGood (input m l) = leb m 31 && leb l 11
-
-pub record ListedGood (b : Listed) : Type 0 where
-  pub list : T (between 1 127 (b .list))
-  pub bridge : T (bridgeGood (b .bridge))
-
 -- a user list has a number 1 to 127
 unfoldable pub choiceGood : Choice → Bool
 choiceGood exhaustive = true
@@ -72,7 +62,7 @@ pub record CircuitGood (c : Circuit) : Type 0 where
   pub few-types : length (c .types) ≤ mostTypes
   pub types : Each (λ (i : ℕ) (t : ModuleType). TypeGood t) (c .types)
   pub few-bridges : length (c .bridges) ≤ mostBridges
-  pub bridges : Each (λ (i : ℕ) (b : Listed). ListedGood b) (c .bridges)
+  pub bridges : Each (λ (i : ℕ) (b : Listed). T (listedGood b)) (c .bridges)
   pub few-instances : length (c .instances) ≤ mostInstances
   pub instances : Each (InstanceGood (c .inputs) (c .types) (c .bridges)) (c .instances)
   pub few-faults : faultCount (c .types) (c .bridges) (c .instances) ≤ mostFaults

@@ -16,7 +16,7 @@ use Rattle.circuit.specs.Circuit.{faultCount}
 use Rattle.circuit.specs.Numbers.{signed, choiceInRange, referenceGood}
 use Rattle.circuit.specs.Order.{Tag, inputs-tag, type-tag, edge-tag, bridge-tag, instance-tag, vector-tag, no-tag, tagOf, isEdge}
 use Rattle.circuit.specs.Order.{isUnknown, Previous, atStart, inType, mayFollow}
-use Rattle.circuit.specs.Known.{Known, edgeIn, instanceIn, latest}
+use Rattle.circuit.specs.Known.{Known, edgeIn, bridgeOf, instanceIn, latest}
 
 -- a test of the table: its number, whether it refuses, and the place that it gives
 pub record Test : Type 0 where
@@ -53,11 +53,19 @@ notComplementary types = not (isComplementary (latest types))
 
 -- ---- ranges and rules of one field
 
--- list number 1 to 127; kind 0 joins two different nodes 0 to 31, kind 1 a node 0 to 31 and a label 0 to 11
+-- kind 0 joins two different nodes 0 to 31, kind 1 a node 0 to 31 and a label 0 to 11
+unfoldable pub bridgeGood : Bridge → Bool
+bridgeGood (nodes a b) = leb a 31 && leb b 31 && not (eqb a b)
+bridgeGood (input m l) = leb m 31 && leb l 11
+
+-- a bridge of a user list, whose number is 1 to 127
+unfoldable pub listedGood : Listed → Bool
+listedGood b = between 1 127 (b .list) && bridgeGood (b .bridge)
+
+-- the four bytes of a bridge, of which there are two kinds
 unfoldable pub bridgeInRange : ℕ → ℕ → ℕ → ℕ → Bool
 bridgeInRange listNumber kind first second =
-    between 1 127 listNumber && leb first 31
-    && (eqb kind 0 && leb second 31 && not (eqb first second) || eqb kind 1 && leb second 11)
+    leb kind 1 && listedGood (record { list = listNumber; bridge = bridgeOf kind first second })
 
 -- a bridge suits a type: its nodes are 0 to h, its label 0 to k - 1
 unfoldable pub bridgeSuits : ModuleType → Bridge → Bool
@@ -116,21 +124,27 @@ bridgeTests count at body =
     ∷ test 7 (not (bridgeInRange (getD body 0 0) (getD body 1 0) (getD body 2 0) (getD body 3 0))) at
     ∷ []
 
+-- with P inputs and `typeCount` types, of a type with k labels, after `count` instances that have `faults` faults; of the chosen list,
+-- whether it is unsuited, whether it is empty, and how many faults it gives
+unfoldable pub instanceTestsOf : ℕ → ℕ → ℕ → ℕ → ℕ → Bool → Bool → ℕ → ℕ → List ℕ → List Test
+instanceTestsOf P typeCount k count faults unsuited empty given at body =
+    let i = instanceIn body in
+    test 5 (not (eqb (length body % 2) 0 && between 4 26 (length body))) at
+    ∷ test 6 (leb mostInstances count) at
+    ∷ test 7 (not (between 1 typeCount (i .type) && choiceInRange (signed 128 (getD body 1 0)))) at
+    ∷ test 10 (not (eqb (length (i .references)) k && allOf (referenceGood P count) (i .references))) at
+    ∷ test 11 unsuited at
+    ∷ test 12 empty at
+    ∷ test 13 (ltb mostFaults (faults + given)) at
+    ∷ []
+
 -- in a circuit as far as it is read
 unfoldable pub instanceTests : Circuit → ℕ → List ℕ → List Test
 instanceTests c at body =
-    let i = instanceIn body in
-    let t = typeOfInstance (c .types) i in
-    let count = length (c .instances) in
-    let faults = faultCount (c .types) (c .bridges) (c .instances) in
-    test 5 (not (eqb (length body % 2) 0 && between 4 26 (length body))) at
-    ∷ test 6 (leb mostInstances count) at
-    ∷ test 7 (not (between 1 (length (c .types)) (i .type) && choiceInRange (signed 128 (getD body 1 0)))) at
-    ∷ test 10 (not (eqb (length (i .references)) (t .labels) && allOf (referenceGood (c .inputs) count) (i .references))) at
-    ∷ test 11 (listUnsuited t (c .bridges) (i .choice)) at
-    ∷ test 12 (listEmpty (c .bridges) (i .choice)) at
-    ∷ test 13 (ltb mostFaults (faults + chosenSize t (c .bridges) (i .choice))) at
-    ∷ []
+    let choice = instanceIn body .choice in
+    let t = typeOfInstance (c .types) (instanceIn body) in
+    instanceTestsOf (c .inputs) (length (c .types)) (t .labels) (length (c .instances)) (faultCount (c .types) (c .bridges) (c .instances))
+    (listUnsuited t (c .bridges) choice) (listEmpty (c .bridges) choice) (chosenSize t (c .bridges) choice) at body
 
 -- with P inputs, after `count` vectors
 unfoldable pub vectorTests : ℕ → ℕ → ℕ → List ℕ → List Test

@@ -21,6 +21,7 @@ use Rattle.circuit.specs.declared.Reading.{Reading as ReadingRecord}
 use Rattle.circuit.specs.declared.Reference.{Reference}
 use Rattle.circuit.specs.declared.refusal.Refusal.the-variants.{Unfinished}
 use Rattle.circuit.proofs.CircuitLaws.{accepted-is-good}
+use Rattle.circuit.proofs.Tested.{each-none}
 use Rattle.read_fields.specs.declared.Field.{Field}
 use Rattle.read_bridges.specs.ListSums.{listsOf, ListedBridges}
 use Rattle.read_bridges.specs.declared.lists.Lists.{Lists}
@@ -80,7 +81,7 @@ unfolding computing
 held-to-none = record {
   types = [];
   bridges = [];
-  held = record { within = omega arith; counted = refl; is = refl; good = tt; few = omega arith; summed = refl; ranges = tt };
+  held = record { within = omega arith; counted = refl; is = refl; good = each-none _; few = omega arith; summed = refl; ranges = tt };
 }
 
 -- the codes of no rows

@@ -15,7 +15,7 @@ use Rattle.circuit.specs.Numbers.{signed, choiceOf, choiceInRange, referenceOf,
 use Rattle.circuit.specs.Order.{tagOf, isKind, mayFollow}
 use Rattle.circuit.specs.Known.{typeIn, edgeIn, bridgeOf, listedIn, referencesIn, instanceIn, letterOf, vectorIn, latest, withEdge, edgeAdded, taken, typeAtAfter, knownAfter}
 use Rattle.circuit.specs.Records.{choiceByte}
-use Rattle.circuit.specs.Table.{firstOf, unjudged, notComplementary, bridgeInRange, bridgeSuits, isEmpty, listUnsuited, listEmpty, isLetter, inputsTests, typeTests, edgeTestsOf, edgeTests, bridgeTests, instanceTests, vectorTests, bodyTests, fieldTests, endTests}
+use Rattle.circuit.specs.Table.{firstOf, unjudged, notComplementary, bridgeGood, listedGood, bridgeInRange, bridgeSuits, isEmpty, listUnsuited, listEmpty, isLetter, inputsTests, typeTests, edgeTestsOf, edgeTests, bridgeTests, instanceTests, instanceTestsOf, vectorTests, bodyTests, fieldTests, endTests}
 use Rattle.circuit.specs.Reading.{unless, readFrom, readingWith}
 use Rattle.grading.specs.Buffers.{Buffers, buffersOf}
 use Rattle.grading.specs.Values.{valueAt, labelValues, outputsAfter, outputsOf}
@@ -34,8 +34,8 @@ unfolding bit pack word sumTo table upTo rowOf choiceByte
     twoBytes cutIn cutFrom numbered joinLists nodePairs nodeInputs exhaustiveList exhaustiveSize userList chosen chosenSize faultsOf faultCount
     signed choiceOf choiceInRange referenceOf referenceGood
     tagOf isKind mayFollow typeIn edgeIn bridgeOf listedIn referencesIn instanceIn letterOf vectorIn latest withEdge edgeAdded taken typeAtAfter knownAfter
-    firstOf unjudged notComplementary bridgeInRange bridgeSuits isEmpty listUnsuited listEmpty isLetter
-    inputsTests typeTests edgeTestsOf edgeTests bridgeTests instanceTests vectorTests bodyTests fieldTests endTests
+    firstOf unjudged notComplementary bridgeGood listedGood bridgeInRange bridgeSuits isEmpty listUnsuited listEmpty isLetter
+    inputsTests typeTests edgeTestsOf edgeTests bridgeTests instanceTests instanceTestsOf vectorTests bodyTests fieldTests endTests
     unless readFrom readingWith valueAt labelValues outputsAfter outputsOf rowsOfInstance rowsFrom rowsOf rowValues cell markOf rowWords matrixOf
     sameReference sameLabel sameBridge sameClass classAmongBy largest classesAfterBy classesBy hasMarkBy classFoundBy foundBy foundCount
     countsOfCircuit gradingOfCircuit afterReading gradingOf countsIn numberIn placeIn over buffersAfter

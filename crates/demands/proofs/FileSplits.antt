@@ -19,7 +19,8 @@ use Rattle.circuit.specs.Known.{Known, start, knownAfter}
 use Rattle.circuit.specs.Table.{Verdict, passes, refusedAt, firstOf, misplaced, fieldTests}
 use Rattle.circuit.specs.Reading.{Reading, accepted, unless, readFrom}
 use Rattle.circuit.proofs.Verdicts.{first-passes}
-use Rattle.circuit.proofs.Tested.{holds, and-T}
+use Rattle.switch.proofs.Deciding.{and-both}
+use Rattle.circuit.proofs.Tested.{holds}
 use Rattle.read_fields.proofs.Cuts.{behind, standing, cut-broken, cut-field}
 use Rattle.demands.specs.Files.{fieldBytes as bytesOfField}
 use Rattle.demands.specs.AlikeFiles.{TagAndBody, fieldsOf, notVector}
@@ -218,7 +219,7 @@ vectors-last size known at (f ∷ fs) c e =
     go false p later = (
       f ∷ later .0,
       later .1,
-      and-T (notVector f) (allOf notVector (later .0)) (holds (notVector f) (ap not p)) (later .2),
+      and-both (notVector f) (allOf notVector (later .0)) (holds (notVector f) (ap not p)) (later .2),
       ap (λ (gs : List TagAndBody). f ∷ gs) (later .3),
     )
 

@@ -19,7 +19,8 @@ use Rattle.circuit.specs.Known.{Known, start, letterOf, vectorIn, knownAfter}
 use Rattle.circuit.specs.Table.{firstOf, isLetter, vectorTests, bodyTests, fieldTests}
 use Rattle.circuit.specs.Reading.{Reading, accepted, refusal, readFrom, readingWith}
 use Rattle.circuit.proofs.CircuitLaws.{accepted-is-good, accepted-is-whole}
-use Rattle.circuit.proofs.Tested.{holds, and-T}
+use Rattle.switch.proofs.Deciding.{and-both}
+use Rattle.circuit.proofs.Tested.{holds}
 use Rattle.circuit.proofs.Verdicts.{first-passes}
 use Rattle.demands.specs.Calls.{Call, Accepts}
 use Rattle.demands.specs.AlikeFiles.{TagAndBody, fieldsOf, vectorFieldsOf, Split, KeepsLetters, FinerBodies, FilledByte, FilledBody, FilledBodies, GradedAlike, GradedToo, CalledAlike, FillingsAreGraded, RefinementsAreGraded}
@@ -67,7 +68,7 @@ filled-letters [] (b ∷ bs) long each t = absurd (omega arith)
 filled-letters (a ∷ as′) [] long each t = absurd (omega arith)
 filled-letters (a ∷ as′) (b ∷ bs) long each t =
     let parts = both (isLetter a) (allOf isLetter as′) t in
-    and-T (isLetter b) (allOf isLetter bs) (filled-letter a b (each 0 (omega arith)) (parts .0))
+    and-both (isLetter b) (allOf isLetter bs) (filled-letter a b (each 0 (omega arith)) (parts .0))
     (filled-letters as′ bs (omega arith) (λ i h. each (suc i) (omega arith)) (parts .1))
 
 same-size : (bodies filled : List (List ℕ)) → length filled ≡ length bodies

@@ -11,7 +11,7 @@ use Rattle.circuit.specs.Circuit.{Circuit}
 use Rattle.circuit.specs.Known.{Known, start, knownAfter}
 use Rattle.circuit.specs.Order.{Tag, inputs-tag, type-tag, edge-tag, bridge-tag, instance-tag, vector-tag, no-tag, tagOf}
 use Rattle.circuit.specs.Table.{Test, Verdict, passes, refusedAt, firstOf, bodyTests, fieldTests, endTests}
-use Rattle.circuit.specs.Table.{inputsTests, typeTests, edgeTests, edgeTestsOf, bridgeTests, instanceTests, vectorTests}
+use Rattle.circuit.specs.Table.{inputsTests, typeTests, edgeTests, edgeTestsOf, bridgeTests, instanceTests, instanceTestsOf, vectorTests}
 use Rattle.circuit.specs.Refusals.{refusalNumber, refusalPlace}
 use Rattle.grading.specs.Buffers.{Buffers, Room, roomOf}
 use Rattle.grading.specs.Rows.{rowWords, matrixOf}
@@ -56,7 +56,7 @@ told-first (t ∷ ts) a = go (t .refuses) (told-first ts (a .1))
 
 told-body : (tag : Tag) (c : Circuit) (at : ℕ) (body : List ℕ) → AllTold (bodyTests tag c at body)
 unfolding AllTold refusing refusalOf numberOf placeOf countsOf refusalNumber refusalPlace
-    bodyTests inputsTests typeTests edgeTests edgeTestsOf bridgeTests instanceTests vectorTests
+    bodyTests inputsTests typeTests edgeTests edgeTestsOf bridgeTests instanceTests instanceTestsOf vectorTests
 told-body inputs-tag c at body = ((refl, refl, refl), ((refl, refl, refl), tt))
 told-body type-tag c at body = ((refl, refl, refl), ((refl, refl, refl), ((refl, refl, refl), tt)))
 told-body edge-tag c at body = ((refl, refl, refl), ((refl, refl, refl), ((refl, refl, refl), ((refl, refl, refl), tt))))

@@ -8,12 +8,14 @@ use native.Mathlib.Omega.{arith}
 use lib.Dec.{T, eqb, leb, leb→le}
 use lib.ListN.{length, getD}
 use Rattle.words.specs.Tables.{table}
+use Rattle.switch.specs.Conduction.{between}
 use Rattle.switch.specs.Modules.{ModuleType}
 use Rattle.switch.specs.Bridges.{Bridge, nodes, input}
 use Rattle.switch.proofs.Paths.{both}
 use Rattle.circuit.specs.Circuit.{Circuit, Instance, Listed, Choice, exhaustive, no-faults, list, typeOfInstance, nodePairs, nodeInputs, exhaustiveList}
 use Rattle.circuit.specs.Circuit.{userList, chosen, faultsOf}
-use Rattle.circuit.specs.Laws.{bridgeGood, Each, ListedGood, CircuitGood}
+use Rattle.circuit.specs.Table.{bridgeGood, listedGood}
+use Rattle.circuit.specs.Laws.{Each, CircuitGood}
 use Rattle.grading.proofs.Everywhere.{Every, every-nil, every-cons, every-append, every-table, every-join}
 use Rattle.grading.proofs.ValueLaws.{type-ranges, type-good}
 
@@ -62,14 +64,14 @@ bridge-fits (nodes a b) t =
 bridge-fits (input m l) t =
     let ends = both (leb m 31) (leb l 11) t in (omega (arith, leb→le m 31 (ends .0)), omega (arith, leb→le l 11 (ends .1)))
 
-list-fits : (n : ℕ) (bs : List Listed) → Each (λ (i : ℕ) (b : Listed). ListedGood b) bs → Every BridgeFits (userList n bs)
-unfolding userList
+list-fits : (n : ℕ) (bs : List Listed) → Each (λ (i : ℕ) (b : Listed). T (listedGood b)) bs → Every BridgeFits (userList n bs)
+unfolding userList listedGood
 list-fits n [] good = every-nil BridgeFits
 list-fits n (b ∷ bs) good =
     go (eqb (b .list) n) (list-fits n bs (λ i none h. good (suc i) none (omega arith)))
   where
     go : (own : Bool) → Every BridgeFits (userList n bs) → Every BridgeFits (cond own (b .bridge ∷ userList n bs) (userList n bs))
-    go true rest = every-cons BridgeFits (b .bridge) (userList n bs) (bridge-fits (b .bridge) (good 0 b (omega arith) .bridge)) rest
+    go true rest = every-cons BridgeFits (b .bridge) (userList n bs) (bridge-fits (b .bridge) (both (between 1 127 (b .list)) (bridgeGood (b .bridge)) (good 0 b (omega arith)) .1)) rest
     go false rest = rest
 
 pub faults-fit : (c : Circuit) → CircuitGood c → (i : ℕ) (none : Instance) → i < length (c .instances)

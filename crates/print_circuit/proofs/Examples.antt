@@ -16,7 +16,7 @@ use Rattle.circuit.specs.Circuit.{Circuit, primary, outputOf, exhaustive, no-fa
 use Rattle.circuit.specs.Numbers.{signed, choiceOf, choiceInRange, referenceOf, referenceGood}
 use Rattle.circuit.specs.Order.{tagOf, isKind, mayFollow}
 use Rattle.circuit.specs.Known.{typeIn, edgeIn, referencesIn, instanceIn, letterOf, vectorIn, latest, withEdge, edgeAdded, taken, typeAtAfter, knownAfter}
-use Rattle.circuit.specs.Table.{firstOf, unjudged, notComplementary, isEmpty, listUnsuited, listEmpty, isLetter, inputsTests, typeTests, edgeTests, edgeTestsOf, bridgeTests, instanceTests, vectorTests, bodyTests, fieldTests, endTests}
+use Rattle.circuit.specs.Table.{firstOf, unjudged, notComplementary, isEmpty, listUnsuited, listEmpty, isLetter, inputsTests, typeTests, edgeTests, edgeTestsOf, bridgeTests, instanceTests, instanceTestsOf, vectorTests, bodyTests, fieldTests, endTests}
 use Rattle.circuit.specs.Reading.{accepted, unless, readFrom, readingWith}
 use Rattle.circuit.specs.Verdicts.{isRefused}
 use Rattle.circuit.specs.Before.{typesBefore, finished, beforeFrom, readBefore}
@@ -67,5 +67,5 @@ refused-listings :
     ≡ linesOf ("inputs 1\n" ∷ "type 1 2 2 1\n" ∷ "edge 1 2 0\n" ∷ "edge 0 2 0\n" ∷ "refused 10 at 23\n" ∷ []))
     × (listingOfFile (begin ++ edges ++ (3 ∷ 0 ∷ 3 ∷ 0 ∷ 2 ∷ 1 ∷ [])) ≡ linesOf ("inputs 1\n" ∷ "refused 7 at 23\n" ∷ []))
     × (listingOfFile [] ≡ linesOf ("refused 14 at 0\n" ∷ []))
-unfolding begin edges linesOf listingOf refusalLines circuitLines inputsLines allTypeLines typeLines numberedLines inputsLine typeLine edgeLine refusalLine spaced joinLists decimal digitsOf lengthIn isRefused typesBefore finished beforeFrom readBefore nEnd nEnds badEnds readingWith readFrom unless fieldTests endTests firstOf bodyTests inputsTests typeTests edgeTests edgeTestsOf bridgeTests instanceTests vectorTests isKind mayFollow unjudged notComplementary isEmpty listUnsuited listEmpty isLetter tagOf typeIn edgeIn referencesIn instanceIn letterOf vectorIn latest withEdge edgeAdded taken typeAtAfter knownAfter signed choiceOf choiceInRange referenceOf referenceGood twoBytes cutIn cutFrom numbered exhaustiveSize chosenSize faultCount userList bit table joins renamings partIn rename allBelow oneRail isComplementary allOf inRange typeInRange edgeInRange linksOf settingOf valueOfBit transistorOn channelOf pEnds edgeOn anyOf between links
+unfolding begin edges linesOf listingOf refusalLines circuitLines inputsLines allTypeLines typeLines numberedLines inputsLine typeLine edgeLine refusalLine spaced joinLists decimal digitsOf lengthIn isRefused typesBefore finished beforeFrom readBefore nEnd nEnds badEnds readingWith readFrom unless fieldTests endTests firstOf bodyTests inputsTests typeTests edgeTests edgeTestsOf bridgeTests instanceTests instanceTestsOf vectorTests isKind mayFollow unjudged notComplementary isEmpty listUnsuited listEmpty isLetter tagOf typeIn edgeIn referencesIn instanceIn letterOf vectorIn latest withEdge edgeAdded taken typeAtAfter knownAfter signed choiceOf choiceInRange referenceOf referenceGood twoBytes cutIn cutFrom numbered exhaustiveSize chosenSize faultCount userList bit table joins renamings partIn rename allBelow oneRail isComplementary allOf inRange typeInRange edgeInRange linksOf settingOf valueOfBit transistorOn channelOf pEnds edgeOn anyOf between links
 refused-listings = (refl, refl, refl)

@@ -1,34 +1,32 @@
 -- The laws of the bridge stage: what the tests of a bridge field leave, the record of a bridge, and what stands after each step of the stage.
 use Prim.Native.Nat.{ℕ, zero, suc, _+_, _<_, _≤_}
 use mathlib.Core.Path.{_≡_, refl, sym, ap, _∙_}
-use mathlib.Core.Bool.{Bool, true, false, not, _&&_, _||_}
+use mathlib.Core.Bool.{true, not}
 use mathlib.Core.List.{List, [], _∷_, _++_}
 use native.Mathlib.Omega.{arith}
-use borrow.Author.Tests.{leb-false, ne-eqb, not-false}
 use lib.Dec.{T, eqb, leb}
 use lib.ListN.{length, getD, set, replicate}
-use Rattle.switch.specs.Conduction.{between}
 use Rattle.switch.specs.Modules.{allOf}
-use Rattle.switch.proofs.Paths.{both}
-use Rattle.switch.proofs.Deciding.{and-both}
 use Rattle.circuit.specs.Limits.{mostBridges}
 use Rattle.circuit.specs.Fields.{cutFrom}
 use Rattle.circuit.specs.Order.{bridge-tag, tagOf}
 use Rattle.circuit.specs.Circuit.{Listed}
 use Rattle.circuit.specs.Known.{bridgeOf, listedIn}
-use Rattle.circuit.specs.Table.{Test, test, passes, refusedAt, firstOf, bridgeInRange, bridgeTests}
+use Rattle.circuit.specs.Table.{passes, refusedAt, firstOf, listedGood, bridgeInRange, bridgeTests}
 use Rattle.circuit.specs.Records.{unusedBridge, bridgeRecord, bridgeRecordIn}
 use Rattle.circuit.specs.Refusals.{verdictOf, refusalNumber, refusalPlace, numberedVerdict}
 use Rattle.circuit.specs.Verdicts.{isRefused, orIf}
 use Rattle.circuit.specs.Stages.{bridgeStage, stageOf}
 use Rattle.read_fields.specs.Steps.{bodyOf, FieldAt, NextIs}
-use Rattle.read_bridges.specs.ReadBridges.{bridgeBelow, listedInRange, BridgesRead}
+use Rattle.read_bridges.specs.ReadBridges.{BridgesRead}
 use Rattle.circuit.specs.declared.Bridge.{Bridge as BridgeRecord}
 use Rattle.read_fields.specs.declared.Field.{Field as FieldRecord}
 use Rattle.read_fields.specs.declared.Next.the-variants.{Other}
 use Rattle.circuit.specs.declared.refusal.Refusal.{Refusal}
 use Rattle.circuit.specs.declared.refusal.Refusal.the-variants.{Nothing}
-use Rattle.circuit.proofs.Verdicts.{firstAfter, chain, first-passes}
+use Rattle.circuit.proofs.Verdicts.{firstAfter, chain}
+use Rattle.circuit.proofs.Tested.{bridge-pass}
+use Rattle.circuit.proofs.TypeLaws.{all-snoc}
 use Rattle.read_fields.proofs.Gathering.{SoFar, none-yet, stops, fails, one-more}
 
 -- ---- a bridge field that passes its tests
@@ -37,47 +35,11 @@ use Rattle.read_fields.proofs.Gathering.{SoFar, none-yet, stops, fails, one-mor
 pub record BridgeFits (count : ℕ) (body : List ℕ) : Type 0 where
   pub room : count < mostBridges
   pub kind : getD body 1 0 ≤ 1
-  pub ranges : T (listedInRange (listedIn body))
-
--- of a bridge in range, the tests that later functions lean on
-pick : (a b c d : Bool) → (a && b && (c && d || false)) ≡ true → T (a && (b && c))
-pick true true true d e = tt
-pick true true false d e = let z : _≡_ {A = ℕ} 0 1 = cc in absurd (omega arith)
-pick true false c d e = let z : _≡_ {A = ℕ} 0 1 = cc in absurd (omega arith)
-pick false b c d e = let z : _≡_ {A = ℕ} 0 1 = cc in absurd (omega arith)
-
-pick-input : (a b c : Bool) → (a && b && c) ≡ true → T (a && (b && c))
-pick-input true true true e = tt
-pick-input true true false e = let z : _≡_ {A = ℕ} 0 1 = cc in absurd (omega arith)
-pick-input true false c e = let z : _≡_ {A = ℕ} 0 1 = cc in absurd (omega arith)
-pick-input false b c e = let z : _≡_ {A = ℕ} 0 1 = cc in absurd (omega arith)
-
-never : (a : Bool) → (a && false) ≡ true → ⊥
-never true e = let z : _≡_ {A = ℕ} 0 1 = cc in omega arith
-never false e = let z : _≡_ {A = ℕ} 0 1 = cc in omega arith
-
-in-range : (l k first second : ℕ) → bridgeInRange l k first second ≡ true
-    → (k ≤ 1) × T (listedInRange (record { list = l; bridge = bridgeOf k first second }))
-unfolding bridgeInRange bridgeOf listedInRange bridgeBelow
-in-range l zero first second e = (omega arith, pick (between 1 127 l) (leb first 31) (leb second 31) (not (eqb first second)) e)
-in-range l (suc zero) first second e = (omega arith, pick-input (between 1 127 l) (leb first 31) (leb second 11) e)
-in-range l (suc (suc k)) first second e =
-    absurd
-    (never (between 1 127 l && leb first 31)
-    (rw (ne-eqb (suc (suc k)) 0 (λ z. omega arith), ne-eqb (suc (suc k)) 1 (λ z. omega arith)) at e))
-
-all-pass : (a b c : Test) → firstOf (a ∷ b ∷ c ∷ []) ≡ passes → (a .refuses ≡ false) × (b .refuses ≡ false) × (c .refuses ≡ false)
-all-pass a b c e =
-    let one = first-passes a (b ∷ c ∷ []) e in
-    let two = first-passes b (c ∷ []) (one .1) in (one .0, two .0, first-passes c [] (two .1) .0)
+  pub ranges : T (listedGood (listedIn body))
 
 pub bridge-fits : (count at : ℕ) (body : List ℕ) → firstOf (bridgeTests count at body) ≡ passes → BridgeFits count body
-unfolding bridgeTests listedIn
 bridge-fits count at body e =
-    let ranges : Bool = bridgeInRange (getD body 0 0) (getD body 1 0) (getD body 2 0) (getD body 3 0) in
-    let none = all-pass (test 5 (not (eqb (length body) 4)) at) (test 6 (leb mostBridges count) at) (test 7 (not ranges) at) e in
-    let good = in-range (getD body 0 0) (getD body 1 0) (getD body 2 0) (getD body 3 0) (not-false ranges (none .2)) in
-    record { room = leb-false mostBridges count (none .1); kind = good .0; ranges = good .1 }
+    let passed = bridge-pass count at body e in record { room = passed .0; kind = passed .1 .0; ranges = passed .1 .1 }
 
 -- the same tests one after the other, where a field says how long its body is
 pub one-by-one : (count at len : ℕ) (body : List ℕ) → length body ≡ len
@@ -106,17 +68,11 @@ record-in body h = go (getD body 1 0) h
 
 -- ---- the stage, step by step
 
-pub all-more : {A : Type 0} (p : A → Bool) (as′ : List A) (a : A) → T (allOf p as′) → T (p a) → T (allOf p (as′ ++ (a ∷ [])))
-unfolding allOf
-all-more p [] a t q = and-both (p a) true q tt
-all-more p (b ∷ as′) a t q =
-    let parts = both (p b) (allOf p as′) t in and-both (p b) (allOf p (as′ ++ (a ∷ []))) (parts .0) (all-more p as′ a (parts .1) q)
-
 -- at the head of the loop: some bridges are read, they stand in the record, and the stage goes on from them
 pub record BridgesSoFar (file : List ℕ) (from : ℕ) (all : List BridgeRecord) (count at : ℕ) : Type 0 where
   pub bridges : List Listed
   pub so : SoFar bridge-tag mostBridges (λ (l : List Listed). bridgeTests (length l)) listedIn bridgeRecord unusedBridge file from bridges all count at
-  pub ranges : T (allOf listedInRange bridges)
+  pub ranges : T (allOf listedGood bridges)
 
 pub no-bridges : (file : List ℕ) (from : ℕ) (unused : BridgeRecord) → from ≤ length file → unused ≡ unusedBridge
     → BridgesSoFar file from (replicate mostBridges unused) 0 from
@@ -160,5 +116,5 @@ module _ {file : List ℕ} {from : ℕ} {all : List BridgeRecord} {count at : �
         record {
           bridges = sofar .bridges ++ (listedIn (bodyOf file f) ∷ []);
           so = one-more (sofar .so) f here own (verdictOf r) of-length e (fits .room);
-          ranges = all-more listedInRange (sofar .bridges) (listedIn (bodyOf file f)) (sofar .ranges) (fits .ranges);
+          ranges = all-snoc listedGood (sofar .bridges) (listedIn (bodyOf file f)) (sofar .ranges) (fits .ranges);
         }

@@ -6,7 +6,7 @@ use mathlib.Core.Bool.{Bool, true, false, cond, not, _&&_, _||_, and-true}
 use mathlib.Core.List.{List, [], _∷_, _++_, map}
 use native.Mathlib.Omega.{arith}
 use borrow.Author.Tests.{leb-true, leb-false, le-leb, lt-leb, lt-ltb, le-ltb, eq-eqb, ne-eqb}
-use lib.Dec.{T, eqb, leb, ltb, leb·zero, eqb·suc-zero, leb→le}
+use lib.Dec.{T, eqb, leb, ltb, leb·zero, leb→le}
 use lib.ListN.{length, getD, set, take, length-append, replicate, length-replicate, getD-replicate, List·getD-map}
 use lib.Seq.{take-suc}
 use Rattle.words.specs.Tables.{table}
@@ -18,10 +18,9 @@ use Rattle.switch.proofs.Paths.{both}
 use Rattle.switch.proofs.Deciding.{all-of}
 use Rattle.circuit.specs.Limits.{mostBridges}
 use Rattle.circuit.specs.Circuit.{Listed, userList}
-use Rattle.circuit.specs.Table.{bridgeSuits, isEmpty}
+use Rattle.circuit.specs.Table.{bridgeGood, listedGood, bridgeSuits}
 use Rattle.circuit.specs.Records.{padded, unusedBridge, bridgeRecord, bridgeRecordIn}
 use Rattle.read_bridges.specs.ListSums.{topNode, labelsNamed, most, listsOf, topOfRecord, labelsOfRecord}
-use Rattle.read_bridges.specs.ReadBridges.{bridgeBelow, listedInRange}
 use Rattle.circuit.specs.declared.Bridge.{Bridge as BridgeRecord}
 use Rattle.circuit.proofs.Padding.{getD-padded}
 
@@ -75,11 +74,6 @@ module _ (t : ModuleType) where
   unsuited bs =
       rw
       (all-suit, not-and (leb (most topNode bs) (t .highest)), not-leb (most topNode bs) (t .highest), not-leb (most labelsNamed bs) (t .labels))
-
-pub empty-length : {A : Type 0} (as′ : List A) → isEmpty as′ ≡ eqb (length as′) 0
-unfolding isEmpty
-empty-length [] = refl
-empty-length (a ∷ as′) = sym (eqb·suc-zero (length as′))
 
 -- ---- the columns of the sums
 
@@ -167,16 +161,16 @@ module _ (list : ℕ) where
   list-in (nodes a b) = refl
   list-in (input m l) = refl
 
-  second-in : (b : Bridge) → T (bridgeBelow b) → bridgeRecordIn list b .second ≤ 31
-  unfolding bridgeRecordIn bridgeBelow
-  second-in (nodes a b) t = leb→le b 31 (both (leb a 31) (leb b 31) t .1)
+  second-in : (b : Bridge) → T (bridgeGood b) → bridgeRecordIn list b .second ≤ 31
+  unfolding bridgeRecordIn bridgeGood
+  second-in (nodes a b) t = leb→le b 31 (both (leb a 31) (leb b 31) (both (leb a 31 && leb b 31) (not (eqb a b)) t .0) .1)
   second-in (input m l) t = let h = leb→le l 11 (both (leb m 31) (leb l 11) t .1) in omega arith
 
 -- the bridges that some records tell
 pub record ToldBy (all : List BridgeRecord) (count : ℕ) (bs : List Listed) : Type 0 where
   pub counted : count ≡ length bs
   pub within : length bs ≤ mostBridges
-  pub ranges : T (allOf listedInRange bs)
+  pub ranges : T (allOf listedGood bs)
   pub is : all ≡ padded mostBridges unusedBridge (map bridgeRecord bs)
 
 abbrev unlisted : Listed
@@ -208,12 +202,12 @@ module _ (all : List BridgeRecord) (count : ℕ) (bs : List Listed) (told : Told
       ∙ List·getD-map bridgeRecord bs i unlisted
 
   pub read-at : (d : BridgeRecord) → BridgeAt (getD all i d) bridge-at
-  unfolding listedInRange bridgeRecord bridge-at between
+  unfolding listedGood bridgeRecord bridge-at between
   read-at d =
       let counted = told .counted in
       let b : Listed = bridge-at in
-      let good : T (between 1 127 (b .list) && bridgeBelow (b .bridge)) = all-of listedInRange unlisted bs .0 (told .ranges) i (omega arith) in
-      let parts = both (between 1 127 (b .list)) (bridgeBelow (b .bridge)) good in
+      let good : T (between 1 127 (b .list) && bridgeGood (b .bridge)) = all-of listedGood unlisted bs .0 (told .ranges) i (omega arith) in
+      let parts = both (between 1 127 (b .list)) (bridgeGood (b .bridge)) good in
       let high = leb→le (b .list) 127 (both (leb 1 (b .list)) (leb (b .list) 127) (parts .0) .1) in
       rw record-at record {
         list = list-in (b .list) (b .bridge);

@@ -10,10 +10,10 @@ use Rattle.switch.specs.Bridges.{Bridge, nodes, input}
 use Rattle.switch.specs.Modules.{allOf}
 use Rattle.circuit.specs.Limits.{mostBridges}
 use Rattle.circuit.specs.Circuit.{Listed, userList}
+use Rattle.circuit.specs.Table.{listedGood}
 use Rattle.circuit.specs.Records.{padded, unusedBridge, bridgeRecord}
 use Rattle.circuit.specs.declared.Bridge.{Bridge as BridgeRecord}
 use Rattle.read_bridges.specs.declared.lists.Lists.{Lists}
-use Rattle.read_bridges.specs.ReadBridges.{listedInRange}
 
 unfoldable pub topNode : Bridge → ℕ
 topNode (nodes a b) = max a b
@@ -48,10 +48,10 @@ pub record ListedBridges (all : List BridgeRecord) (count : ℕ) : Type 0 where
   pub within : length bridges ≤ mostBridges
   pub counted : count ≡ length bridges
   pub is : all ≡ padded mostBridges unusedBridge (map bridgeRecord bridges)
-  pub ranges : T (allOf listedInRange bridges)
+  pub ranges : T (allOf listedGood bridges)
 
 -- their lists in sum
 abbrev pub SummedTo : List BridgeRecord → ℕ → Lists → Type 0
 SummedTo all count r =
-    (bridges : List Listed) → count ≡ length bridges → length bridges ≤ mostBridges → T (allOf listedInRange bridges)
+    (bridges : List Listed) → count ≡ length bridges → length bridges ≤ mostBridges → T (allOf listedGood bridges)
     → all ≡ padded mostBridges unusedBridge (map bridgeRecord bridges) → r ≡ listsOf bridges

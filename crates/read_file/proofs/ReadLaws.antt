@@ -47,6 +47,7 @@ use Rattle.read_file.specs.declared.read.Start.{Start}
 use Rattle.read_vectors.specs.declared.Vectors.{Vectors}
 use Rattle.circuit.proofs.Padding.{padded-nil}
 use Rattle.circuit.proofs.Verdicts.{first-passes}
+use Rattle.circuit.proofs.BeforeLaws.{stage-types}
 use Rattle.circuit.proofs.OrderLaws.{is-kind, not-kind}
 use Rattle.circuit.proofs.GatheredLaws.{gathered-is-before}
 use Rattle.read_fields.proofs.Cuts.{cut-clean}
@@ -147,7 +148,7 @@ held-to types bridges lists summed = record {
   within = types .within;
   counted = types .count;
   is = types .all;
-  good = types .good;
+  good = stage-types _ _ (types .types) _ (types .stage) .each;
   few = bridges .within;
   summed = summed (bridges .bridges) (bridges .count) (bridges .within) (bridges .ranges) (bridges .all);
   ranges = bridges .ranges;

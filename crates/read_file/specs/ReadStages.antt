@@ -1,5 +1,5 @@
--- The promise of `read_stages`, of which a vector is wanted or not: what it tells, and beside a refusal what was read before it. Of an accepted file that is its circuit
--- (`BeforeIsCircuit` in the crate `circuit`).
+-- The promise of `read_stages`, of which a vector is wanted or not: what it tells, and beside a refusal what was read before it. Of an
+-- accepted file that is its circuit (`BeforeIsCircuit` in the crate `circuit`).
 use Prim.Native.Nat.{ℕ}
 use mathlib.Core.Path.{_≡_}
 use mathlib.Core.Bool.{Bool}

@@ -19,7 +19,8 @@ use Rattle.read_vectors.specs.declared.Vectors.{Vectors}
 -- what a file reads as: the refusal of its start, or, where that passes, what the rest reads as from this place on with this many inputs;
 -- and what the stages gather from there
 pub record StartRead (wanted : Bool) (file : List ℕ) (r : Start) : Type 0 where
-  pub reads : readingWith wanted file ≡ unless (verdictOf (r .refusal)) (afterInputs wanted (length file) (r .inputs) (cutFrom file (r .at)))
+  pub reads : readingWith wanted file
+      ≡ unless (verdictOf (r .refusal)) (afterInputs wanted (length file) (r .inputs) (cutFrom file (r .at)))
   pub gathered : gatheredOf file ≡ gatheredFrom (r .inputs) (cutFrom file (r .at))
   pub place : r .at ≤ length file
   pub few : r .inputs ≤ 64

@@ -1,5 +1,5 @@
 -- The laws of an instance field: what its type and its list choice give, that the tests on what the code gathers are those of the table,
--- what holds of a field that passes them, and its faults.
+-- and what holds of a field that passes them.
 use Prim.Native.Nat.{ℕ, zero, suc, _+_, _%_, _<_, _≤_}
 use mathlib.Core.Path.{_≡_, refl, sym, ap, _∙_}
 use mathlib.Core.Bool.{Bool, true, false, cond, not, _&&_}
@@ -13,31 +13,32 @@ use lib.ListN.{length, getD, List·getD-eq-default, List·getD-map}
 use Rattle.words.specs.Tables.{table, upTo}
 use Rattle.words.proofs.Tables.{length-table, getD-table, up-past, getD-fill}
 use Rattle.switch.specs.Conduction.{between}
-use Rattle.switch.specs.Modules.{ModuleType, allOf, inRange, typeInRange, edgeInRange}
-use Rattle.switch.specs.Deciding.{isComplementary}
+use Rattle.switch.specs.Modules.{ModuleType, allOf, typeInRange}
 use Rattle.switch.specs.declared.ModuleType.{ModuleType as TypeRecord}
 use Rattle.switch.proofs.Paths.{both}
-use Rattle.switch.proofs.Deciding.{and-both, all-of}
+use Rattle.switch.proofs.Deciding.{and-both}
 use Rattle.circuit.specs.Limits.{mostTypes, mostEdges, mostBridges}
 use Rattle.circuit.specs.Circuit.{Reference, primary, outputOf, Choice, exhaustive, no-faults, list, Instance, Listed}
 use Rattle.circuit.specs.Circuit.{numbered, noType, typeOfInstance, userList, exhaustiveSize, chosenSize, faultCount}
 use Rattle.circuit.specs.Numbers.{signed, choiceOf, choiceInRange, referenceGood}
 use Rattle.circuit.specs.Known.{referencesIn, instanceIn}
 use Rattle.circuit.specs.Records.{padded, unusedEdge, unusedType, typeRecord}
-use Rattle.circuit.specs.Table.{Test, passes, firstOf, listUnsuited, listEmpty, instanceTests}
+use Rattle.circuit.specs.Table.{Test, passes, firstOf, listUnsuited, listEmpty, instanceTests, instanceTestsOf}
 use Rattle.circuit.specs.Stages.{readTo}
+use Rattle.circuit.specs.Laws.{Each, TypeGood}
 use Rattle.read_bridges.specs.ListSums.{topNode, labelsNamed, most, listsOf}
 use Rattle.read_instances.specs.Choices.{listNamed, chosenOf, givenBy}
 use Rattle.read_instances.specs.ReadInstances.{shapesOf, gatheredTests, InstanceFits, TypesAndLists}
-use Rattle.read_types.specs.ReadTypes.{goodType}
 use Rattle.read_instances.specs.declared.choices.Chosen.{Chosen}
 use Rattle.read_instances.specs.declared.shapes.Shapes.{Shapes}
 use Rattle.read_bridges.specs.declared.lists.Lists.{Lists}
+use Rattle.circuit.proofs.StageLaws.{empty-count}
+use Rattle.circuit.proofs.TypeLaws.{edges-ranges}
 use Rattle.circuit.proofs.Padding.{getD-padded, padded-nil}
 use Rattle.circuit.proofs.Verdicts.{first-passes}
 use Rattle.circuit.proofs.RangeLaws.{between-in, in-between}
 use Rattle.read_instances.proofs.ReferenceLaws.{length-references}
-use Rattle.read_bridges.proofs.ListLaws.{unsuited, empty-length, count-at, node-at, label-at, length-list}
+use Rattle.read_bridges.proofs.ListLaws.{unsuited, count-at, node-at, label-at, length-list}
 
 -- ---- what a list choice gives
 
@@ -70,7 +71,7 @@ given t bridges b = go b (ltb b 128) refl
     go c false e = rw (e, le-leb 128 c (ltb-false c 128 e))
     go zero true e = refl
     go (suc c) true e =
-        rw (e, lt-leb 128 (suc c) (ltb-true (suc c) 128 e), eqb·suc-zero c, unsuited t (userList (suc c) bridges), empty-length (userList (suc c) bridges))
+        rw (e, lt-leb 128 (suc c) (ltb-true (suc c) 128 e), eqb·suc-zero c, unsuited t (userList (suc c) bridges), empty-count (userList (suc c) bridges))
 
 -- a choice names a list with a place
 pub named-place : (b : ℕ) → listNamed b < 128
@@ -108,7 +109,7 @@ pub record ShapesAndLists (types : List ModuleType) (bridges : List Listed) (typ
   pub counted : typeCount ≡ length types
   pub nodes-of : (n : ℕ) → numbered nodes n 0 ≡ numbered types n noType .highest
   pub labels-of : (n : ℕ) → numbered labels n 0 ≡ numbered types n noType .labels
-  pub good : T (allOf goodType types)
+  pub good : Each (λ (i : ℕ) (t : ModuleType). TypeGood t) types
   pub few : length bridges ≤ mostBridges
   pub summed : lists ≡ listsOf bridges
 
@@ -165,7 +166,7 @@ module _ {types : List ModuleType} {bridges : List Listed} {typeCount : ℕ} {no
       → count ≡ length is → faults ≡ faultCount types bridges is → k ≡ typeOfInstance types (instanceIn body) .labels
       → gives ≡ meant (typeOfInstance types (instanceIn body)) bridges (instanceIn body .choice)
       → gatheredTests body at P typeCount k gives count faults ≡ instanceTests (readTo P types bridges is) at body
-  unfolding gatheredTests instanceTests instanceIn
+  unfolding instanceTestsOf instanceTests instanceIn
   gathered body at P k gives is count faults ec ef ek eg = rw (told .counted, ec, ef, ek, eg)
 
 -- ---- an instance field that passes its tests
@@ -205,7 +206,7 @@ pub record Passed (body : List ℕ) (given : Chosen) (count faults : ℕ) : Type
 
 pub passed : (body : List ℕ) (at P typeCount k : ℕ) (given : Chosen) (count faults : ℕ) → P ≤ 64
     → firstOf (gatheredTests body at P typeCount k given count faults) ≡ passes → Passed body given count faults
-unfolding gatheredTests NoneOf
+unfolding instanceTestsOf instanceIn NoneOf
 passed body at P typeCount k given count faults inputs e =
     let none = none-of (gatheredTests body at P typeCount k given count faults) e in
     let room = leb-false 128 count (none .1 .0) in
@@ -225,24 +226,23 @@ passed body at P typeCount k given count faults inputs e =
 
 -- ---- the faults of an instance are few
 
-good-small : (t : ModuleType) → T (goodType t) → (t .highest ≤ 31) × (t .labels ≤ 12)
-unfolding goodType inRange typeInRange
+good-small : (t : ModuleType) → TypeGood t → (t .highest ≤ 31) × (t .labels ≤ 12)
+unfolding typeInRange
 good-small t good =
-    let within = both (inRange t && leb (length (t .edges)) mostEdges) (isComplementary t) good .0 in
-    let ranges = both (typeInRange (t .highest) (t .output) (t .labels)) (allOf (edgeInRange (t .highest) (t .labels)) (t .edges))
-    (both (inRange t) (leb (length (t .edges)) mostEdges) within .0) .0 in
+    let ranges = edges-ranges t (good .sound .ranges) (good .sound .few) .0 in
     let parts = both (between 2 31 (t .highest) && between 2 (t .highest) (t .output)) (between 1 12 (t .labels)) ranges in (
       in-between 2 31 (t .highest) (both (between 2 31 (t .highest)) (between 2 (t .highest) (t .output)) (parts .0) .0) .1,
       in-between 1 12 (t .labels) (parts .1) .1,
     )
 
-type-small : (types : List ModuleType) → T (allOf goodType types) → (n : ℕ) → (numbered types n noType .highest ≤ 31) × (numbered types n noType .labels ≤ 12)
+type-small : (types : List ModuleType) → Each (λ (i : ℕ) (t : ModuleType). TypeGood t) types
+    → (n : ℕ) → (numbered types n noType .highest ≤ 31) × (numbered types n noType .labels ≤ 12)
 unfolding numbered
 type-small types good zero = (omega arith, omega arith)
 type-small types good (suc m) = go (decLt m (length types))
   where
     go : Dec (m < length types) → (getD types m noType .highest ≤ 31) × (getD types m noType .labels ≤ 12)
-    go (yes h) = good-small (getD types m noType) (all-of goodType noType types .0 good m h)
+    go (yes h) = good-small (getD types m noType) (good m noType h)
     go (no h) = rw (List·getD-eq-default types noType {n = m} (omega arith)) (omega arith, omega arith)
 
 pub given-small : {types : List ModuleType} {bridges : List Listed} {typeCount : ℕ} {nodes labels : List ℕ} {lists : Lists}
@@ -259,11 +259,3 @@ given-small {types} {bridges} told n exhaustive =
     omega arith
 given-small told n no-faults = omega arith
 given-small {types} {bridges} told n (list m) = let few = told .few in omega (arith, length-list m bridges)
-
--- ---- one instance more
-
-pub faults-more : (types : List ModuleType) (bridges : List Listed) (is : List Instance) (i : Instance)
-    → faultCount types bridges (is ++ (i ∷ [])) ≡ faultCount types bridges is + chosenSize (typeOfInstance types i) bridges (i .choice)
-unfolding faultCount
-faults-more types bridges [] i = omega arith
-faults-more types bridges (j ∷ is) i = omega (arith, faults-more types bridges is i)

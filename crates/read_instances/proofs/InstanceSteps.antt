@@ -25,7 +25,8 @@ use Rattle.read_fields.specs.declared.Next.the-variants.{Other}
 use Rattle.circuit.specs.declared.refusal.Refusal.{Refusal}
 use Rattle.circuit.specs.declared.refusal.Refusal.the-variants.{Nothing}
 use Rattle.read_fields.proofs.Gathering.{SoFar, none-yet, stops, fails, one-more}
-use Rattle.read_instances.proofs.InstanceLaws.{ShapesAndLists, faults-more}
+use Rattle.circuit.proofs.Tested.{faults-snoc}
+use Rattle.read_instances.proofs.InstanceLaws.{ShapesAndLists}
 
 abbrev testsAfter : ℕ → List ModuleType → List Listed → List Instance → ℕ → List ℕ → List Test
 testsAfter P types bridges is = instanceTests (readTo P types bridges is)
@@ -90,5 +91,5 @@ module _ {file : List ℕ} {from P : ℕ} {types : List ModuleType} {bridges : L
     one-instance-more e room made is more sum = record {
       instances = sofar .instances ++ (one ∷ []);
       so = rw is (one-more (sofar .so) f here own (verdictOf r) verdict e room);
-      summed = let summed = sofar .summed in omega (arith, faults-more types bridges (sofar .instances) one);
+      summed = let summed = sofar .summed in omega (arith, faults-snoc types bridges (sofar .instances) one);
     }

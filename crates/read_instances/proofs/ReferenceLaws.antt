@@ -6,6 +6,7 @@ use mathlib.Core.List.{List, [], _∷_, _++_, map, map-append}
 use native.Mathlib.Numerals.{add-one}
 use native.Mathlib.Omega.{arith}
 use lib.Dec.{T, ltb, eqb→eq}
+use lib.Ieee.Bits.{is-true}
 use lib.ListN.{length, getD, take, replicate, set, length-take, length-map}
 use lib.Seq.{take-suc, take-all}
 use Rattle.words.proofs.Tables.{length-table, getD-table}
@@ -38,10 +39,6 @@ length-references body = length-table ((length body - 2) / 2) (referenceAt body)
 at-references : (body : List ℕ) (i : ℕ) → i < (length body - 2) / 2 → getD (referencesIn body) i (primary 0) ≡ referenceAt body i
 unfolding referencesIn
 at-references body i h = getD-table ((length body - 2) / 2) (referenceAt body) (primary 0) i h
-
-is-true : (b : Bool) → T b → b ≡ true
-is-true true t = refl
-is-true false t = absurd t
 
 is-false : (b : Bool) → (T b → ⊥) → b ≡ false
 is-false true t = absurd (t tt)

@@ -1,29 +1,26 @@
 -- What the functions that read instances promise: their tests, the list that was read, and how it stands in the record.
-use Prim.Native.Nat.{ℕ, _+_, _%_, _≤_}
+use Prim.Native.Nat.{ℕ, _≤_}
 use mathlib.Core.Path.{_≡_}
-use mathlib.Core.Bool.{not, _&&_}
 use mathlib.Core.List.{List, [], _∷_, map}
-use lib.Dec.{T, leb, ltb, eqb}
+use lib.Dec.{T}
 use lib.ListN.{length, getD}
 use Rattle.words.specs.Tables.{table, upTo}
-use Rattle.switch.specs.Conduction.{between}
 use Rattle.switch.specs.Modules.{ModuleType, allOf}
 use Rattle.switch.specs.declared.ModuleType.{ModuleType as TypeRecord}
-use Rattle.circuit.specs.Limits.{mostTypes, mostBridges, mostInstances, mostFaults}
+use Rattle.circuit.specs.Limits.{mostTypes, mostBridges, mostInstances}
 use Rattle.circuit.specs.Fields.{cutFrom}
 use Rattle.circuit.specs.Circuit.{Instance, Listed, faultCount}
-use Rattle.circuit.specs.Table.{Test, test}
+use Rattle.circuit.specs.Table.{Test, listedGood, instanceTestsOf}
 use Rattle.circuit.specs.Records.{padded, unusedType, typeRecord, unusedInstance, instanceRecord}
 use Rattle.circuit.specs.Refusals.{verdictOf}
 use Rattle.circuit.specs.Known.{referencesIn}
 use Rattle.circuit.specs.Numbers.{signed, choiceInRange, referenceGood}
+use Rattle.circuit.specs.Laws.{Each, TypeGood}
 use Rattle.circuit.specs.Stages.{stageOf, instanceStage}
 use Rattle.read_bridges.specs.declared.lists.Lists.{Lists}
 use Rattle.read_instances.specs.declared.Instances.{Instances}
 use Rattle.read_instances.specs.declared.shapes.Shapes.{Shapes}
 use Rattle.read_instances.specs.declared.choices.Chosen.{Chosen}
-use Rattle.read_types.specs.ReadTypes.{goodType}
-use Rattle.read_bridges.specs.ReadBridges.{listedInRange}
 use Rattle.read_bridges.specs.ListSums.{listsOf}
 
 -- of each of the first n places for types, the highest node and the number of labels; 0 in the others
@@ -34,16 +31,9 @@ shapesOf all n = record {
 }
 
 -- the tests of an instance field, from what the code has gathered
-unfoldable pub gatheredTests : List ℕ → ℕ → ℕ → ℕ → ℕ → Chosen → ℕ → ℕ → List Test
+abbrev pub gatheredTests : List ℕ → ℕ → ℕ → ℕ → ℕ → Chosen → ℕ → ℕ → List Test
 gatheredTests body at P typeCount k given count faults =
-    test 5 (not (eqb (length body % 2) 0 && between 4 26 (length body))) at
-    ∷ test 6 (leb mostInstances count) at
-    ∷ test 7 (not (between 1 typeCount (getD body 0 0) && choiceInRange (signed 128 (getD body 1 0)))) at
-    ∷ test 10 (not (eqb (length (referencesIn body)) k && allOf (referenceGood P count) (referencesIn body))) at
-    ∷ test 11 (given .unsuited) at
-    ∷ test 12 (given .empty) at
-    ∷ test 13 (ltb mostFaults (faults + given .faults)) at
-    ∷ []
+    instanceTestsOf P typeCount k count faults (given .unsuited) (given .empty) (given .faults) at body
 
 -- an instance that has passed its tests
 pub record InstanceFits (body : List ℕ) : Type 0 where
@@ -57,10 +47,10 @@ pub record TypesAndLists (types : List ModuleType) (bridges : List Listed) (type
   pub within : length types ≤ mostTypes
   pub counted : typeCount ≡ length types
   pub is : all ≡ padded mostTypes unusedType (map typeRecord types)
-  pub good : T (allOf goodType types)
+  pub good : Each (λ (i : ℕ) (t : ModuleType). TypeGood t) types
   pub few : length bridges ≤ mostBridges
   pub summed : lists ≡ listsOf bridges
-  pub ranges : T (allOf listedInRange bridges)
+  pub ranges : T (allOf listedGood bridges)
 
 pub record HeldTo (typeCount : ℕ) (all : List TypeRecord) (lists : Lists) : Type 0 where
   pub types : List ModuleType

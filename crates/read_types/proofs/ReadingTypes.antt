@@ -1,11 +1,11 @@
 -- The loops that read types and edges: what holds of what was read so far, where each begins, and what each way through a turn makes of it.
 use Prim.Native.Nat.{ℕ, _+_, _<_, _≤_}
 use mathlib.Core.Path.{_≡_, refl, sym, ap, subst, _∙_}
-use mathlib.Core.Bool.{Bool, true, false, _&&_}
+use mathlib.Core.Bool.{Bool, true, false}
 use mathlib.Core.List.{List, [], _∷_, _++_, map, map-append}
 use native.Mathlib.Omega.{arith}
 use borrow.Author.Tests.{leb-false}
-use lib.Dec.{T, leb, le→leb}
+use lib.Dec.{T}
 use lib.ListN.{length, getD, set, replicate, length-append, length-map}
 use Rattle.switch.specs.Modules.{ModuleType, allOf, typeInRange, inRange}
 use Rattle.switch.specs.Deciding.{isComplementary}
@@ -23,7 +23,7 @@ use Rattle.circuit.specs.Refusals.{refusalNumber, refusalPlace, numberedVerdict
 use Rattle.circuit.specs.Verdicts.{isRefused}
 use Rattle.circuit.specs.Stages.{Stage, ifPasses, edgeStage, failingVerdict, fieldPlace, typeStage, stageOf}
 use Rattle.read_fields.specs.Steps.{bodyOf, fieldIn, NextIs}
-use Rattle.read_types.specs.ReadTypes.{goodType, bareOf, BareType, EdgesRead, TypeRead, TypesRead}
+use Rattle.read_types.specs.ReadTypes.{bareOf, BareType, EdgesRead, TypeRead, TypesRead}
 use Rattle.read_fields.specs.declared.Field.{Field as FieldRecord}
 use Rattle.read_fields.specs.declared.Next.the-variants.{Found, Other}
 use Rattle.circuit.specs.declared.refusal.Refusal.{Refusal}
@@ -33,7 +33,7 @@ use Rattle.circuit.proofs.Padding.{padded-nil, padded-snoc}
 use Rattle.circuit.proofs.Verdicts.{first-passes, passes-is}
 use Rattle.circuit.proofs.GatheredLaws.{failing-refuses}
 use Rattle.read_fields.proofs.Cuts.{section-step, section-stop}
-use Rattle.circuit.proofs.TypeLaws.{accepts, all-snoc, type-back, type-given, edge-passes, with-edge-ranges, with-edge-record}
+use Rattle.circuit.proofs.TypeLaws.{accepts, type-back, type-given, edge-passes, with-edge-ranges, with-edge-record}
 use Rattle.read_types.proofs.TypeStages.{afterEdges, edges-first, failing-stage, Settled, settled-none, settled-more, type-step, type-stop}
 
 -- ---- a stage that fails
@@ -175,8 +175,6 @@ module _ (file : List ℕ) (f : FieldRecord) (bare : TypeRecord) (told : bare �
   read-with p = record {
     type = read .type;
     place = read .place;
-    ranges = read .ranges;
-    within = read .within;
     is = read .is;
     stage = λ types from here. all-edges types from;
     complementary = p;
@@ -206,8 +204,6 @@ module _ (file : List ℕ) (f : FieldRecord) (bare : TypeRecord) (told : bare �
         record {
           type = read .type;
           place = read .place;
-          ranges = read .ranges;
-          within = read .within;
           is = read .is;
           stage = λ types from here.
               let later = typeStage (types ++ (read .type ∷ [])) from cut in
@@ -229,7 +225,6 @@ pub record TypesSoFar (file : List ℕ) (from : ℕ) (all : List TypeRecord) (co
   pub within : length types ≤ mostTypes
   pub counted : count ≡ length types
   pub is : all ≡ padded mostTypes unusedType (map typeRecord types)
-  pub good : T (allOf goodType types)
   pub settled : Settled types (cutFrom file at)
 
 module _ (file : List ℕ) (from : ℕ) where
@@ -243,7 +238,6 @@ module _ (file : List ℕ) (from : ℕ) where
     within = omega arith;
     counted = refl;
     is = e ∙ sym (padded-nil unusedType mostTypes);
-    good = tt;
     settled = settled-none (cutFrom file from);
   }
 
@@ -258,7 +252,6 @@ module _ (file : List ℕ) (from : ℕ) where
       within = sofar .within;
       count = sofar .counted;
       all = sofar .is;
-      good = sofar .good;
     }
 
     pub types-stop : NextIs file at type-tag Other → TypesRead file from (record { refusal = Nothing; at = at; count = count; all = all })
@@ -306,7 +299,6 @@ module _ (file : List ℕ) (from : ℕ) where
               ended (one .refusal) (one-read ∙ if-refused (verdictOf (one .refusal)) (verdictOf (one .refusal)) refl e _ (sofar .types) (cutFrom file at))
 
           pub types-more : isRefused (verdictOf (one .refusal)) ≡ false → TypesSoFar file from (set all count (one .«module_type»)) (count + 1) (one .at)
-          unfolding goodType
           types-more e =
               let types = sofar .types in
               let t = read .type in
@@ -326,9 +318,5 @@ module _ (file : List ℕ) (from : ℕ) where
                 is =
                     rw (sofar .is, read .is, counted, map-append typeRecord types (t ∷ []), ← same)
                     (padded-snoc unusedType mostTypes (map typeRecord types) (typeRecord t) (omega arith));
-                good =
-                    all-snoc goodType types t (sofar .good)
-                    (and-both (inRange t && leb (length (t .edges)) mostEdges) (isComplementary t)
-                    (and-both (inRange t) (leb (length (t .edges)) mostEdges) (read .ranges) (le→leb (length (t .edges)) mostEdges (read .within))) sound);
                 settled = settled-more types t (cutFrom file (one .at)) sound (λ g rest. read .next g rest passed);
               }

@@ -1,10 +1,11 @@
 -- Reading a type and its edges field by field is reading the type, then all its edges, then judging it; and judged types stop, or go on with the next type.
 use Prim.Native.Nat.{ℕ, _+_, _-_}
 use mathlib.Core.Path.{_≡_, refl, sym, ap, _∙_}
-use mathlib.Core.Bool.{Bool, true, false, cond, not, _&&_}
+use mathlib.Core.Bool.{Bool, true, false, cond, not, _&&_, and-false}
 use mathlib.Core.List.{List, [], _∷_, _++_}
 use native.Mathlib.Omega.{arith}
 use lib.Dec.{T}
+use lib.Ieee.Bits.{is-true}
 use lib.ListN.{length, length-append}
 use lib.Seq.{getD-append-seam, set-append-seam, take-append-seam}
 use Rattle.switch.specs.Conduction.{Edge}
@@ -19,17 +20,13 @@ use Rattle.circuit.specs.Verdicts.{isRefused}
 use Rattle.circuit.specs.Before.{typesBefore}
 use Rattle.circuit.specs.Stages.{Stage, stopped, ifPasses, section, edgeStage, failingVerdict, judged, fieldPlace, typeStage}
 use Rattle.circuit.proofs.OrderLaws.{is-kind, not-kind}
+use Rattle.circuit.proofs.StageLaws.{snoc-some}
 use Rattle.circuit.proofs.GatheredLaws.{failing-refuses}
 use Rattle.read_fields.specs.Steps.{bodyOf, fieldIn, FieldAt, NextIs}
 use Rattle.read_fields.specs.declared.Field.{Field as FieldRecord}
 use Rattle.read_fields.specs.declared.Next.the-variants.{Other}
 
 -- ---- a type, then its edges
-
-not-empty : {A : Type 0} (as′ : List A) (a : A) → isEmpty (as′ ++ (a ∷ [])) ≡ false
-unfolding isEmpty
-not-empty [] a = refl
-not-empty (b ∷ bs) a = refl
 
 last-place : {A : Type 0} (as′ : List A) (a : A) → length (as′ ++ (a ∷ [])) - 1 ≡ length as′
 last-place as′ a = omega (arith, length-append as′ (a ∷ []))
@@ -68,7 +65,7 @@ edges-first types t from (field f rest) = go (isEdge (tagOf (f .tag))) refl (edg
         → typeStage (types ++ (withEdge t (edgeIn (f .body)) ∷ [])) from rest ≡ afterEdges types from (edgeStage (withEdge t (edgeIn (f .body))) rest)
         → typeStage (types ++ (t ∷ [])) from (field f rest) ≡ afterEdges types from (edgeStage t (field f rest))
     go true e later =
-        rw (typeStage, e, not-empty types t, latest-snoc types t, before-snoc types t, edge-added-snoc types t (edgeIn (f .body)), later)
+        rw (typeStage, e, snoc-some types t, latest-snoc types t, before-snoc types t, edge-added-snoc types t (edgeIn (f .body)), later)
         (after-if types from (firstOf (edgeTests t (f .at) (f .body))) t (field f rest) (edgeStage (withEdge t (edgeIn (f .body))) rest))
     go false e later =
         let stays : edgeStage t (field f rest) ≡ stopped t (field f rest) = rw e in ap (afterEdges types from) (sym stays)
@@ -92,7 +89,7 @@ NoEdge cut = (f : Field) (rest : Cut) → cut ≡ field f rest → tagOf (f .tag
 judged-latest : (types : List ModuleType) (t : ModuleType) (typeAt : ℕ) (cut : Cut)
     → judged (types ++ (t ∷ [])) typeAt cut ≡ cond (not (isComplementary t)) (failingVerdict typeAt cut) passes
 unfolding judged notComplementary
-judged-latest types t typeAt cut = rw (not-empty types t, latest-snoc types t)
+judged-latest types t typeAt cut = rw (snoc-some types t, latest-snoc types t)
 
 -- a type that is not complementary is refused where its edges end
 pub failing-stage : (types : List ModuleType) (t : ModuleType) (from cut : Cut) → NoEdge cut → isComplementary t ≡ false → (s : Stage (List ModuleType))
@@ -115,21 +112,13 @@ pub record Settled (types : List ModuleType) (cut : Cut) : Type 0 where
 
 pub settled-none : (cut : Cut) → Settled [] cut
 unfolding judged isEmpty
-settled-none cut = record { sound = λ typeAt. refl; no-edge = λ f rest e. never (isEdge (tagOf (f .tag))) }
-  where
-    never : (b : Bool) → (b && false) ≡ false
-    never true = refl
-    never false = refl
+settled-none cut = record { sound = λ typeAt. refl; no-edge = λ f rest e. and-false (isEdge (tagOf (f .tag))) }
 
 pub settled-more : (types : List ModuleType) (t : ModuleType) (cut : Cut) → T (isComplementary t) → NoEdge cut → Settled (types ++ (t ∷ [])) cut
 settled-more types t cut p none = record {
   sound = λ typeAt. judged-latest types t typeAt cut ∙ rw (is-true (isComplementary t) p);
   no-edge = λ f rest e. rw (not-kind edge-tag (tagOf (f .tag)) (none f rest e));
 }
-  where
-    is-true : (b : Bool) → T b → b ≡ true
-    is-true true q = refl
-    is-true false q = absurd q
 
 module _ (types : List ModuleType) (from : Cut) (file : List ℕ) (at : ℕ) (settled : Settled types (cutFrom file at)) where
   -- at a type

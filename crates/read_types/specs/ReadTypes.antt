@@ -2,12 +2,11 @@
 -- there.
 use Prim.Native.Nat.{ℕ, _+_, _≤_}
 use mathlib.Core.Path.{_≡_}
-use mathlib.Core.Bool.{Bool, _&&_}
 use mathlib.Core.List.{List, [], _∷_, _++_, map}
-use lib.Dec.{T, leb}
+use lib.Dec.{T}
 use lib.ListN.{length}
 use Rattle.switch.specs.Conduction.{Edge}
-use Rattle.switch.specs.Modules.{ModuleType, allOf, typeInRange, inRange}
+use Rattle.switch.specs.Modules.{ModuleType, typeInRange, inRange}
 use Rattle.switch.specs.Deciding.{isComplementary}
 use Rattle.switch.specs.declared.ModuleType.{ModuleType as TypeRecord}
 use Rattle.circuit.specs.Limits.{mostTypes, mostEdges}
@@ -22,10 +21,6 @@ use Rattle.circuit.specs.Stages.{stageOf, ifPasses, edgeStage, fieldPlace, type
 use Rattle.read_fields.specs.Steps.{bodyOf}
 use Rattle.read_types.specs.declared.edges.OneType.{OneType}
 use Rattle.read_types.specs.declared.types.Types.{Types}
-
--- what holds of each type that was read: in range, with no more edges than there are places, complementary
-unfoldable pub goodType : ModuleType → Bool
-goodType t = inRange t && leb (length (t .edges)) mostEdges && isComplementary t
 
 -- an edge with these nodes, for its ends alone
 abbrev pub edgeBetween : ℕ → ℕ → Edge
@@ -55,8 +50,6 @@ pub record EdgesRead (file : List ℕ) (from : ℕ) (bare : TypeRecord) (r : One
 pub record TypeRead (file : List ℕ) (f : FieldRecord) (r : OneType) : Type 0 where
   pub type : ModuleType
   pub place : r .at ≤ length file
-  pub ranges : T (inRange type)
-  pub within : length (type .edges) ≤ mostEdges
   pub is : r .«module_type» ≡ typeRecord type
   pub stage : (types : List ModuleType) (from : Cut) → fieldPlace from ≡ f .at
       → typeStage (types ++ (typeIn (bodyOf file f) ∷ [])) from (cutFrom file (f .body + f .len))
@@ -65,7 +58,7 @@ pub record TypeRead (file : List ℕ) (f : FieldRecord) (r : OneType) : Type 0 w
   pub next : (g : Field) (rest : Cut) → verdictOf (r .refusal) ≡ passes → cutFrom file (r .at) ≡ field g rest → tagOf (g .tag) ≡ edge-tag
       → ⊥
 
--- the types from an offset on: each in range and complementary
+-- the types from an offset on
 pub record TypesRead (file : List ℕ) (from : ℕ) (r : Types) : Type 0 where
   pub types : List ModuleType
   pub stage : typeStage [] clean (cutFrom file from) ≡ stageOf (verdictOf (r .refusal)) types (cutFrom file (r .at))
@@ -73,4 +66,3 @@ pub record TypesRead (file : List ℕ) (from : ℕ) (r : Types) : Type 0 where
   pub within : length types ≤ mostTypes
   pub count : r .count ≡ length types
   pub all : r .all ≡ padded mostTypes unusedType (map typeRecord types)
-  pub good : T (allOf goodType types)

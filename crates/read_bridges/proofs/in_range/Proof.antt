@@ -1,39 +1,46 @@
 -- `bridges::in_range` meets its contract. Assumes nothing.
-use Prim.Native.Nat.{ℕ, _≤_, _<_}
+use Prim.Native.Nat.{ℕ, zero, suc, _≤_, _<_}
 use mathlib.Core.Path.{_≡_, sym}
 use mathlib.Core.Logic.{⊎-elim}
-use mathlib.Core.Bool.{false, not, _&&_, _||_, or-false}
+use mathlib.Core.Bool.{false, not, _&&_, _||_, and-false, or-false}
+use native.Mathlib.Omega.{arith}
 use borrow.Author.Tests.{le-leb, lt-leb, ltb-true, ltb-false, ne-eqb}
 use lib.Dec.{eqb, leb, ltb}
 use Rattle.switch.specs.Conduction.{between}
-use Rattle.circuit.specs.Table.{bridgeInRange}
+use Rattle.circuit.specs.Known.{bridgeOf}
+use Rattle.circuit.specs.Table.{bridgeGood, listedGood, bridgeInRange}
+use Rattle.circuit.proofs.RangeLaws.{between-below, between-above}
 use Rattle.read_bridges.proofs.in_range.Statement.{statement}
 use Rattle.read_bridges.proofs.in_range.Tie as tie
 
 -- with the list number and the first node in range, the kind and the second end decide
 by-kind : (list kind first second : ℕ) → 1 ≤ list → ltb 127 list ≡ false → first ≤ 31
     → bridgeInRange list kind first second ≡ (eqb kind 0 && leb second 31 && not (eqb first second) || eqb kind 1 && leb second 11)
-unfolding bridgeInRange between
-by-kind list kind first second low high node = rw (le-leb 1 list low, le-leb list 127 (ltb-false 127 list high), le-leb first 31 node)
+unfolding bridgeInRange listedGood bridgeGood bridgeOf between
+by-kind list zero first second low high node =
+    rw (le-leb 1 list low, le-leb list 127 (ltb-false 127 list high), le-leb first 31 node) (sym (or-false (leb second 31 && not (eqb first second))))
+by-kind list (suc zero) first second low high node = rw (le-leb 1 list low, le-leb list 127 (ltb-false 127 list high), le-leb first 31 node)
+by-kind list (suc (suc k)) first second low high node =
+    let kind = suc (suc k) in rw (lt-leb kind 1 (omega arith), ne-eqb kind 0 (omega arith), ne-eqb kind 1 (omega arith))
+
+-- a list number or a first node that is out of range
+no-list : (list kind first second : ℕ) → between 1 127 list ≡ false → false ≡ bridgeInRange list kind first second
+unfolding bridgeInRange listedGood
+no-list list kind first second out = rw out (sym (and-false (leb kind 1)))
+
+no-node : (list kind first second : ℕ) → 31 < first → false ≡ bridgeInRange list kind first second
+unfolding bridgeInRange listedGood bridgeGood bridgeOf
+no-node list zero first second out = rw (lt-leb first 31 out, and-false (between 1 127 list))
+no-node list (suc kind) first second out = rw (lt-leb first 31 out, and-false (between 1 127 list)) (sym (and-false (leb (suc kind) 1)))
 
 returns : tie.Need-returns
-unfolding bridgeInRange between
 returns c =
-    let list : ℕ = c .before .args .list in
-    ⊎-elim
-    (λ w. rw (lt-leb 1 list (w .taken)))
-    (λ w. rw (le-leb 1 list (w .0 .left), lt-leb list 127 (ltb-true 127 list (w .1 .taken))))
-    (c .if1 .came)
+    let a = c .before .args in
+    no-list (a .list) (a .kind) (a .first) (a .second)
+    (⊎-elim (λ w. between-below 1 127 (a .list) (w .taken)) (λ w. between-above 1 127 (a .list) (ltb-true 127 (a .list) (w .1 .taken))) (c .if1 .came))
 
 returns-2 : tie.Need-returns-2
-unfolding bridgeInRange between
-returns-2 c =
-    let args = c .before .before .before .args in
-    rw (
-      le-leb 1 (args .list) (c .before .before .if1 .left),
-      le-leb (args .list) 127 (ltb-false 127 (args .list) (c .before .if2 .left)),
-      lt-leb (args .first) 31 (c .if3 .taken),
-    )
+returns-2 c = let a = c .before .before .before .args in no-node (a .list) (a .kind) (a .first) (a .second) (c .if3 .taken)
 
 module _ (list kind first second : ℕ) (low : 1 ≤ list) (high : ltb 127 list ≡ false) (node : first ≤ 31) where
   two-nodes : kind ≡ 0 → second ≤ 31 → not (eqb first second) ≡ bridgeInRange list kind first second

@@ -12,7 +12,8 @@ use lib.ListN.{length}
 use Rattle.switch.specs.Modules.{allOf}
 use Rattle.circuit.specs.Circuit.{Reference}
 use Rattle.circuit.specs.Numbers.{referenceGood}
-use Rattle.circuit.specs.Known.{referencesIn}
+use Rattle.circuit.specs.Known.{referencesIn, instanceIn}
+use Rattle.circuit.specs.Table.{instanceTestsOf}
 use Rattle.circuit.specs.Refusals.{refusalNumber, refusalPlace, numberedVerdict, verdictOf}
 use Rattle.read_fields.specs.Steps.{bodyOf}
 use Rattle.read_instances.specs.ReadInstances.{gatheredTests}
@@ -90,7 +91,7 @@ labels c =
     (c .if1 .came))
 
 returns : tie.Need-returns
-unfolding firstAfter gatheredTests verdictOf refusalNumber refusalPlace numberedVerdict
+unfolding firstAfter instanceTestsOf instanceIn verdictOf refusalNumber refusalPlace numberedVerdict
 returns c =
     let six = c .before .before in
     let joined = six .before .before .before .before .before .before .before in

@@ -1,4 +1,4 @@
--- 01's examples of reading, computed on the definitions: the inverter's 42 bytes, the empty file, a broken field, references to instances.
+-- 01's examples of reading, computed on the definitions: the inverter's 42 bytes, the empty file, a broken field, references to instances, bridges.
 use Prim.Native.Nat.{ℕ}
 use mathlib.Core.Path.{_≡_, refl}
 use mathlib.Core.List.{List, [], _∷_, _++_}
@@ -12,8 +12,8 @@ use Rattle.circuit.specs.Fields.{twoBytes, cutIn, cutFrom}
 use Rattle.circuit.specs.Circuit.{primary, outputOf, exhaustive, no-faults, numbered, exhaustiveSize, chosenSize, faultCount, userList}
 use Rattle.circuit.specs.Numbers.{signed, choiceOf, choiceInRange, referenceOf, referenceGood}
 use Rattle.circuit.specs.Order.{tagOf, isKind, mayFollow}
-use Rattle.circuit.specs.Known.{typeIn, edgeIn, referencesIn, instanceIn, letterOf, vectorIn, latest, withEdge, edgeAdded, taken, typeAtAfter, knownAfter}
-use Rattle.circuit.specs.Table.{firstOf, unjudged, notComplementary, isEmpty, listUnsuited, listEmpty, isLetter, inputsTests, typeTests, edgeTests, edgeTestsOf, bridgeTests, instanceTests, instanceTestsOf, vectorTests, bodyTests, fieldTests, endTests}
+use Rattle.circuit.specs.Known.{typeIn, edgeIn, referencesIn, instanceIn, letterOf, vectorIn, latest, withEdge, edgeAdded, taken, typeAtAfter, knownAfter, bridgeOf}
+use Rattle.circuit.specs.Table.{firstOf, unjudged, notComplementary, isEmpty, listUnsuited, listEmpty, isLetter, bridgeGood, listedGood, bridgeInRange, inputsTests, typeTests, edgeTests, edgeTestsOf, bridgeTests, instanceTests, instanceTestsOf, vectorTests, bodyTests, fieldTests, endTests}
 use Rattle.circuit.specs.Reading.{accepted, refusal, unless, readFrom, readingWith, readingOf}
 
 inverter : List ℕ
@@ -71,3 +71,11 @@ read-references : (readingOf (withSecond 255 255) ≡ accepted (record {
     × (readingOf (begin ++ instanceWith 255 255 ++ vector) ≡ refusal 10 23)))
 unfolding begin instanceWith vector withSecond nEnd nEnds badEnds readingWith readFrom unless fieldTests endTests firstOf bodyTests inputsTests typeTests edgeTests edgeTestsOf bridgeTests instanceTests instanceTestsOf vectorTests isKind mayFollow unjudged notComplementary isEmpty listUnsuited listEmpty isLetter tagOf typeIn edgeIn referencesIn instanceIn letterOf vectorIn latest withEdge edgeAdded taken typeAtAfter knownAfter signed choiceOf choiceInRange referenceOf referenceGood twoBytes cutIn cutFrom numbered exhaustiveSize chosenSize faultCount userList bit table joins renamings partIn rename allBelow oneRail isComplementary allOf inRange typeInRange edgeInRange linksOf settingOf valueOfBit transistorOn channelOf pEnds edgeOn anyOf between links
 read-references = (refl, (refl, (refl, refl)))
+
+-- ---- bridges
+
+-- a kind 0 bridge with equal ends is 7, and so is one of a third kind
+read-bridges : (readingOf (begin ++ (4 ∷ 0 ∷ 4 ∷ 1 ∷ 0 ∷ 2 ∷ 2 ∷ [])) ≡ refusal 7 23)
+    × (readingOf (begin ++ (4 ∷ 0 ∷ 4 ∷ 1 ∷ 2 ∷ 2 ∷ 0 ∷ [])) ≡ refusal 7 23)
+unfolding begin nEnd nEnds badEnds readingWith readFrom unless fieldTests endTests firstOf bodyTests inputsTests typeTests edgeTests edgeTestsOf bridgeTests bridgeInRange listedGood bridgeGood bridgeOf instanceTests instanceTestsOf vectorTests isKind mayFollow unjudged notComplementary isEmpty listUnsuited listEmpty isLetter tagOf typeIn edgeIn referencesIn instanceIn letterOf vectorIn latest withEdge edgeAdded taken typeAtAfter knownAfter signed choiceOf choiceInRange referenceOf referenceGood twoBytes cutIn cutFrom numbered exhaustiveSize chosenSize faultCount userList bit table joins renamings partIn rename allBelow oneRail isComplementary allOf inRange typeInRange edgeInRange linksOf settingOf valueOfBit transistorOn channelOf pEnds edgeOn anyOf between links
+read-bridges = (refl, refl)

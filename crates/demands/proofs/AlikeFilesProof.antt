@@ -2,7 +2,7 @@
 -- so what holds of such circuits holds of such files.
 use Prim.Native.Nat.{ℕ, _<_}
 use mathlib.Core.Path.{_≡_, refl, sym, ap, _∙_}
-use mathlib.Core.Bool.{Bool, true, false, cond, not}
+use mathlib.Core.Bool.{Bool, true, false, not}
 use mathlib.Core.Logic.{_⊎_, inl, inr}
 use mathlib.Core.List.{List, [], _∷_, _++_, map, append-assoc, append-nil}
 use native.Mathlib.Omega.{arith}
@@ -13,7 +13,7 @@ use Rattle.switch.specs.Conduction.{Value, atX}
 use Rattle.switch.specs.Modules.{allOf}
 use Rattle.switch.proofs.Paths.{both}
 use Rattle.circuit.specs.Circuit.{Circuit, joinLists}
-use Rattle.circuit.specs.Order.{Tag, inputs-tag, type-tag, edge-tag, bridge-tag, instance-tag, vector-tag, no-tag, tagOf}
+use Rattle.circuit.specs.Order.{Tag, inputs-tag, type-tag, edge-tag, bridge-tag, instance-tag, vector-tag, no-tag, tagOf, isKind}
 use Rattle.circuit.specs.Known.{start, letterOf, vectorIn, taken}
 use Rattle.circuit.specs.Reading.{readingOf}
 use Rattle.grading.specs.Rows.{Row, rowsOf, CellMarked}
@@ -62,31 +62,23 @@ vectors-add c [] = ap (withVectors c) (sym (append-nil (c .vectors)))
 vectors-add c (body ∷ bodies) =
     vectors-add (taken vector-tag c body) bodies ∙ ap (withVectors c) (append-assoc (c .vectors) (vectorIn body ∷ []) (map vectorIn bodies))
 
--- the tag of a number by its six tests
-abbrev pub tagBy : (one two three four five six : Bool) → Tag
-tagBy one two three four five six =
-    cond one inputs-tag (cond two type-tag (cond three edge-tag (cond four bridge-tag (cond five instance-tag (cond six vector-tag no-tag)))))
-
 -- a field that is no vector's adds no vector
-no-vector-added : (tag : ℕ) (c : Circuit) (body : List ℕ) → T (not (eqb tag 6)) → taken (tagOf tag) c body .vectors ≡ c .vectors
-unfolding tagOf taken
-no-vector-added tag c body other = go (eqb tag 1) (eqb tag 2) (eqb tag 3) (eqb tag 4) (eqb tag 5) (eqb tag 6) other
-  where
-    go : (one two three four five six : Bool) → T (not six) → taken (tagBy one two three four five six) c body .vectors ≡ c .vectors
-    go true two three four five six t = refl
-    go false true three four five six t = refl
-    go false false true four five six t = refl
-    go false false false true five six t = refl
-    go false false false false true six t = refl
-    go false false false false false true t = absurd t
-    go false false false false false false t = refl
+no-vector-added : (tag : Tag) (c : Circuit) (body : List ℕ) → T (not (isKind vector-tag tag)) → taken tag c body .vectors ≡ c .vectors
+unfolding isKind taken
+no-vector-added inputs-tag c body other = refl
+no-vector-added type-tag c body other = refl
+no-vector-added edge-tag c body other = refl
+no-vector-added bridge-tag c body other = refl
+no-vector-added instance-tag c body other = refl
+no-vector-added vector-tag c body other = absurd other
+no-vector-added no-tag c body other = refl
 
 head-adds-no-vector : (c : Circuit) (head : List TagAndBody) → T (allOf notVector head) → takenAll c head .vectors ≡ c .vectors
 unfolding takenAll allOf
 head-adds-no-vector c [] t = refl
 head-adds-no-vector c (f ∷ head) t =
     let parts = both (notVector f) (allOf notVector head) t in
-    head-adds-no-vector (taken (tagOf (f .tag)) c (f .body)) head (parts .1) ∙ no-vector-added (f .tag) c (f .body) (parts .0)
+    head-adds-no-vector (taken (tagOf (f .tag)) c (f .body)) head (parts .1) ∙ no-vector-added (tagOf (f .tag)) c (f .body) (parts .0)
 
 abbrev headCircuit : List TagAndBody → Circuit
 headCircuit head = takenAll (start .circuit) head

@@ -5,8 +5,7 @@ use mathlib.Core.Bool.{Bool, true, false, not}
 use mathlib.Core.List.{List, [], _∷_, _++_, map}
 use native.Mathlib.Decide.{decLt, ℕ-discrete}
 use native.Mathlib.Omega.{arith}
-use borrow.Author.Tests.{eqb-true}
-use lib.Dec.{T, eqb}
+use lib.Dec.{T}
 use lib.ListN.{length, getD, drop, length-take, length-drop, take-append-drop}
 use lib.Seq.{drop-cons, drop-drop, drop-length}
 use Rattle.switch.specs.Conduction.{between}
@@ -14,10 +13,11 @@ use Rattle.switch.specs.Modules.{allOf}
 use Rattle.switch.proofs.Paths.{both}
 use Rattle.circuit.specs.Fields.{Field, cutFrom, twoBytes}
 use Rattle.circuit.specs.Circuit.{Circuit, joinLists}
-use Rattle.circuit.specs.Order.{vector-tag, tagOf, isKind, isUnknown, Previous, after-tag, mayFollow}
+use Rattle.circuit.specs.Order.{Tag, inputs-tag, type-tag, edge-tag, bridge-tag, instance-tag, no-tag, vector-tag, tagOf, isKind, isUnknown, after-tag, mayFollow}
 use Rattle.circuit.specs.Known.{Known, start, knownAfter}
 use Rattle.circuit.specs.Table.{Verdict, passes, refusedAt, firstOf, misplaced, fieldTests}
 use Rattle.circuit.specs.Reading.{Reading, accepted, unless, readFrom}
+use Rattle.circuit.proofs.OrderLaws.{kind-is}
 use Rattle.circuit.proofs.Verdicts.{first-passes}
 use Rattle.switch.proofs.Deciding.{and-both}
 use Rattle.circuit.proofs.Tested.{holds}
@@ -25,8 +25,9 @@ use Rattle.read_fields.proofs.Cuts.{behind, standing, cut-broken, cut-field}
 use Rattle.demands.specs.Files.{fieldBytes as bytesOfField}
 use Rattle.demands.specs.AlikeFiles.{TagAndBody, fieldsOf, notVector}
 use Rattle.demands.specs.SplitFiles.{AcceptedIsSplit, SplitOnce}
+use Rattle.demands.proofs.KindsOnce.{vector-byte}
 use Rattle.demands.proofs.WholeFields.{fieldAt, cutOf, cut-whole, after-verdict, read-from-start}
-use Rattle.demands.proofs.AlikeFilesProof.{vectorField, whole-file, tagBy}
+use Rattle.demands.proofs.AlikeFilesProof.{vectorField, whole-file}
 
 -- ---- one split only
 
@@ -54,6 +55,7 @@ same-bodies (a ∷ as′) (b ∷ bs) e =
 
 -- a vector's field is none of the head's
 not-head : (f : TagAndBody) (body : List ℕ) → vectorField body ≡ f → T (notVector f) → ⊥
+unfolding isKind tagOf
 not-head f body e t = rw (← e) at t
 
 same-split : (head head′ : List TagAndBody) (bodies bodies′ : List (List ℕ)) → T (allOf notVector head) → T (allOf notVector head′)
@@ -157,27 +159,15 @@ passed-verdict passes r c e = refl
 passed-verdict (refusedAt number place) r c e = cc
 
 -- after a vector 3 and 4 let nothing through but a vector
-after-a-vector : (tag : ℕ) → isUnknown (tagOf tag) ≡ false → misplaced (after-tag vector-tag) (tagOf tag) ≡ false → tag ≡ 6
-unfolding tagOf isKind mayFollow between
-after-a-vector tag = go (eqb tag 1) (eqb tag 2) (eqb tag 3) (eqb tag 4) (eqb tag 5) (eqb tag 6) refl
-  where
-    never : true ≡ false → tag ≡ 6
-    never e = let z : _≡_ {A = ℕ} 0 1 = cc in absurd (omega arith)
-
-    go : (one two three four five six : Bool) → eqb tag 6 ≡ six
-        → isUnknown (tagBy one two three four five six) ≡ false → misplaced (after-tag vector-tag) (tagBy one two three four five six) ≡ false
-        → tag ≡ 6
-    go true two three four five six p u m = never m
-    go false true three four five six p u m = never m
-    go false false true four five six p u m = never m
-    go false false false true five six p u m = never m
-    go false false false false true six p u m = never m
-    go false false false false false true p u m = eqb-true tag 6 p
-    go false false false false false false p u m = never u
-
-behind-a-vector : (tag : ℕ) → tag ≡ 6 → after-tag (tagOf tag) ≡ after-tag vector-tag
-unfolding tagOf
-behind-a-vector tag e = ap (λ (n : ℕ). after-tag (tagOf n)) e
+after-a-vector : (tag : Tag) → isUnknown tag ≡ false → misplaced (after-tag vector-tag) tag ≡ false → tag ≡ vector-tag
+unfolding isKind mayFollow between
+after-a-vector inputs-tag u m = cc
+after-a-vector type-tag u m = cc
+after-a-vector edge-tag u m = cc
+after-a-vector bridge-tag u m = cc
+after-a-vector instance-tag u m = cc
+after-a-vector vector-tag u m = refl
+after-a-vector no-tag u m = cc
 
 all-vectors : (size : ℕ) (known : Known) (at : ℕ) (fs : List TagAndBody) (c : Circuit) → known .previous ≡ after-tag vector-tag
     → readFrom true size known (cutOf at fs) ≡ accepted c → (bodies : List (List ℕ)) × (fs ≡ map vectorField bodies)
@@ -186,11 +176,11 @@ all-vectors size known at [] c previous e = ([], refl)
 all-vectors size known at (f ∷ fs) c previous e =
     let three = first-passes _ _ (passed-verdict (firstOf (fieldTests known (fieldAt at f))) _ c e) in
     let four = first-passes _ _ (three .1) in
-    let is = after-a-vector (f .tag) (three .0) (rw previous at (four .0)) in
+    let is = after-a-vector (tagOf (f .tag)) (three .0) (rw previous at (four .0)) in
     let read = after-verdict (firstOf (fieldTests known (fieldAt at f))) _ c e in
-    let later = all-vectors size (knownAfter known (fieldAt at f)) (at + 3 + length (f .body)) fs c (behind-a-vector (f .tag) is) read in (
+    let later = all-vectors size (knownAfter known (fieldAt at f)) (at + 3 + length (f .body)) fs c (ap after-tag is) read in (
       f .body ∷ later .0,
-      ap₂ (λ (tag : ℕ) (gs : List TagAndBody). record { tag = tag; body = f .body } ∷ gs) is (later .1),
+      ap₂ (λ (tag : ℕ) (gs : List TagAndBody). record { tag = tag; body = f .body } ∷ gs) (vector-byte (f .tag) is) (later .1),
     )
 
 -- fields with the vectors last
@@ -202,19 +192,19 @@ vectors-last : (size : ℕ) (known : Known) (at : ℕ) (fs : List TagAndBody) (c
 unfolding readFrom cutOf knownAfter allOf
 vectors-last size known at [] c e = ([], [], tt, refl)
 vectors-last size known at (f ∷ fs) c e =
-    go (eqb (f .tag) 6) refl (vectors-last size (knownAfter known (fieldAt at f)) (at + 3 + length (f .body)) fs c read)
+    go (isKind vector-tag (tagOf (f .tag))) refl (vectors-last size (knownAfter known (fieldAt at f)) (at + 3 + length (f .body)) fs c read)
   where
     read : readFrom true size (knownAfter known (fieldAt at f)) (cutOf (at + 3 + length (f .body)) fs) ≡ accepted c
     read = after-verdict (firstOf (fieldTests known (fieldAt at f))) _ c e
 
-    go : (six : Bool) → eqb (f .tag) 6 ≡ six → VectorsLast fs → VectorsLast (f ∷ fs)
+    go : (own : Bool) → isKind vector-tag (tagOf (f .tag)) ≡ own → VectorsLast fs → VectorsLast (f ∷ fs)
     go true p later =
-        let is = eqb-true (f .tag) 6 p in
-        let vectors = all-vectors size (knownAfter known (fieldAt at f)) (at + 3 + length (f .body)) fs c (behind-a-vector (f .tag) is) read in (
+        let is = kind-is vector-tag (tagOf (f .tag)) p in
+        let vectors = all-vectors size (knownAfter known (fieldAt at f)) (at + 3 + length (f .body)) fs c (ap after-tag is) read in (
           [],
           f .body ∷ vectors .0,
           tt,
-          ap₂ (λ (tag : ℕ) (gs : List TagAndBody). record { tag = tag; body = f .body } ∷ gs) is (vectors .1),
+          ap₂ (λ (tag : ℕ) (gs : List TagAndBody). record { tag = tag; body = f .body } ∷ gs) (vector-byte (f .tag) is) (vectors .1),
         )
     go false p later = (
       f ∷ later .0,

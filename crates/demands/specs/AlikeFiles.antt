@@ -5,10 +5,11 @@ use mathlib.Core.Path.{_≡_}
 use mathlib.Core.Bool.{Bool, not}
 use mathlib.Core.Logic.{_⊎_}
 use mathlib.Core.List.{List, [], _∷_, _++_, map}
-use lib.Dec.{T, eqb}
+use lib.Dec.{T}
 use lib.ListN.{length, getD}
 use Rattle.print_lines.specs.Ascii.{bytesOf}
 use Rattle.switch.specs.Modules.{allOf}
+use Rattle.circuit.specs.Order.{vector-tag, tagOf, isKind}
 use Rattle.circuit.specs.Limits.{mostBytes, mostVectors}
 use Rattle.circuit.specs.Circuit.{Circuit, joinLists}
 use Rattle.circuit.specs.Known.{vectorIn}
@@ -31,7 +32,7 @@ abbrev pub fieldsOf : List TagAndBody → List ℕ
 fieldsOf fields = joinLists (map (λ (f : TagAndBody). fieldBytes (f .tag) (f .body)) fields)
 
 abbrev pub notVector : TagAndBody → Bool
-notVector f = not (eqb (f .tag) 6)
+notVector f = not (isKind vector-tag (tagOf (f .tag)))
 
 -- one field for each vector, by their bodies
 abbrev pub vectorFieldsOf : List (List ℕ) → List ℕ

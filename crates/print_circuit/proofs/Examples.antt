@@ -22,7 +22,7 @@ use Rattle.circuit.specs.Verdicts.{isRefused}
 use Rattle.circuit.specs.Before.{typesBefore, finished, beforeFrom, readBefore}
 use Rattle.print_lines.specs.Lines.{refusalLine}
 use Rattle.print_circuit.specs.Lines.{spaced, inputsLine, typeLine, edgeLine, kindText, endsText, bridgeLine, choiceText, referenceText, instanceLine, valueLetter, vectorLine}
-use Rattle.print_circuit.specs.Listing.{numberedLines, typeLines, allTypeLines, inputsLines, circuitLines, refusalLines, listingOf, listingOfFile}
+use Rattle.print_circuit.specs.Listing.{numberedLines, groupedLines, typeLines, inputsLines, circuitLines, refusalLines, listingOf, listingOfFile}
 
 -- the circuit that the inverter's file tells: circuit/proofs/Examples reads it
 inverter : Circuit
@@ -39,7 +39,7 @@ linesOf texts = map bytesOf texts
 
 inverter-listing : listingOf inverter (accepted inverter)
     ≡ linesOf ("inputs 1\n" ∷ "type 1 2 2 1\n" ∷ "edge 1 2 0\n" ∷ "edge 0 2 0\n" ∷ "instance 1 1 -1 1\n" ∷ "vector 1 0\n" ∷ "vector 2 1\n" ∷ "vector 3 X\n" ∷ [])
-unfolding inverter linesOf listingOf refusalLines circuitLines inputsLines allTypeLines typeLines numberedLines inputsLine typeLine edgeLine instanceLine vectorLine choiceText referenceText valueLetter spaced joinLists decimal digitsOf lengthIn
+unfolding inverter linesOf listingOf refusalLines circuitLines inputsLines groupedLines typeLines numberedLines inputsLine typeLine edgeLine instanceLine vectorLine choiceText referenceText valueLetter spaced joinLists decimal digitsOf lengthIn
 inverter-listing = refl
 
 other-lines :
@@ -67,5 +67,5 @@ refused-listings :
     ≡ linesOf ("inputs 1\n" ∷ "type 1 2 2 1\n" ∷ "edge 1 2 0\n" ∷ "edge 0 2 0\n" ∷ "refused 10 at 23\n" ∷ []))
     × (listingOfFile (begin ++ edges ++ (3 ∷ 0 ∷ 3 ∷ 0 ∷ 2 ∷ 1 ∷ [])) ≡ linesOf ("inputs 1\n" ∷ "refused 7 at 23\n" ∷ []))
     × (listingOfFile [] ≡ linesOf ("refused 14 at 0\n" ∷ []))
-unfolding begin edges linesOf listingOf refusalLines circuitLines inputsLines allTypeLines typeLines numberedLines inputsLine typeLine edgeLine refusalLine spaced joinLists decimal digitsOf lengthIn isRefused typesBefore finished beforeFrom readBefore nEnd nEnds badEnds readingWith readFrom unless fieldTests endTests firstOf bodyTests inputsTests typeTests edgeTests edgeTestsOf bridgeTests instanceTests instanceTestsOf vectorTests isKind mayFollow unjudged notComplementary isEmpty listUnsuited listEmpty isLetter tagOf typeIn edgeIn referencesIn instanceIn letterOf vectorIn latest withEdge edgeAdded taken typeAtAfter knownAfter signed choiceOf choiceInRange referenceOf referenceGood twoBytes cutIn cutFrom numbered exhaustiveSize chosenSize faultCount userList bit table joins renamings partIn rename allBelow oneRail isComplementary allOf inRange typeInRange edgeInRange linksOf settingOf valueOfBit transistorOn channelOf pEnds edgeOn anyOf between links
+unfolding begin edges linesOf listingOf refusalLines circuitLines inputsLines groupedLines typeLines numberedLines inputsLine typeLine edgeLine refusalLine spaced joinLists decimal digitsOf lengthIn isRefused typesBefore finished beforeFrom readBefore nEnd nEnds badEnds readingWith readFrom unless fieldTests endTests firstOf bodyTests inputsTests typeTests edgeTests edgeTestsOf bridgeTests instanceTests instanceTestsOf vectorTests isKind mayFollow unjudged notComplementary isEmpty listUnsuited listEmpty isLetter tagOf typeIn edgeIn referencesIn instanceIn letterOf vectorIn latest withEdge edgeAdded taken typeAtAfter knownAfter signed choiceOf choiceInRange referenceOf referenceGood twoBytes cutIn cutFrom numbered exhaustiveSize chosenSize faultCount userList bit table joins renamings partIn rename allBelow oneRail isComplementary allOf inRange typeInRange edgeInRange linksOf settingOf valueOfBit transistorOn channelOf pEnds edgeOn anyOf between links
 refused-listings = (refl, refl, refl)

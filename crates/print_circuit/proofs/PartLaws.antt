@@ -1,14 +1,15 @@
--- Lines that stand in parts, one behind the other: line n of the whole is that of the part where it stands, none of which is empty. And the types of a circuit,
--- passed one by one. Assumes nothing.
+-- Lines that stand in parts, one behind the other: line n of the whole is that of the part where it stands, none of which is empty. And things with several lines
+-- each, passed one by one. Assumes nothing.
 use mathlib.Core.Path.{_≡_, refl, sym, ap, _∙_}
 use mathlib.Core.List.{List, [], _∷_, _++_, map}
 use Prim.Native.Nat.{ℕ, zero, suc, _+_, _-_, _*_, _≤_, _<_, min}
-use native.Mathlib.Nat.{add-suc, suc-add, mul-suc, not-suc-le-zero, le-of-suc-le-suc}
+use native.Mathlib.Nat.{add-suc, suc-add, mul-suc, mul-le-mul-left, not-suc-le-zero, le-of-suc-le-suc}
 use native.Mathlib.Decide.{decLt}
 use native.Mathlib.Omega.{arith}
 use lib.ListN.{length, getD, take, drop, length-append, length-map, length-take, List·getD-append, List·getD-eq-default, List·getD-map, drop-of-length-le}
 use lib.Seq.{getD-take, drop-cons}
 use Rattle.words.specs.Written.{written}
+use Rattle.words.proofs.EachLaws.{each-before}
 use Rattle.words.proofs.WrittenLaws.{written-nothing}
 use Rattle.switch.specs.Conduction.{Value, Edge}
 use Rattle.switch.specs.Modules.{ModuleType}
@@ -22,7 +23,7 @@ use Rattle.print_lines.specs.Pieces.{lineIn}
 use Rattle.print_lines.proofs.LineSizes.{refusal-sized}
 use Rattle.print_lines.proofs.LineList.{EachLine, each-at, each-append, each-map, line-behind}
 use Rattle.print_circuit.specs.Lines.{inputsLine, typeLine, edgeLine, bridgeLine, instanceLine, vectorLine}
-use Rattle.print_circuit.specs.Listing.{numberedLines, typeLines, allTypeLines, inputsLines, circuitLines, refusalLines, listingOf}
+use Rattle.print_circuit.specs.Listing.{numberedLines, groupedLines, typeLines, inputsLines, circuitLines, refusalLines, listingOf}
 use Rattle.print_circuit.specs.Told.{circuitTold, readingTold, listingTold}
 use Rattle.print_circuit.specs.Puts.{Puts, PutsLine}
 use Rattle.print_circuit.specs.declared.parts.Part.{Part}
@@ -48,6 +49,11 @@ module _ {A : Type 0} where
   filled-numbered line some first [] = tt
   filled-numbered line some first (a ∷ l) = (some first a, filled-numbered line some (suc first) l)
 
+  filled-grouped : (lines : ℕ → A → List (List ℕ)) → ((n : ℕ) (a : A) → Filled (lines n a)) → (first : ℕ) (l : List A) → Filled (groupedLines lines first l)
+  unfolding groupedLines
+  filled-grouped lines some first [] = tt
+  filled-grouped lines some first (a ∷ l) = filled-append (lines first a) (groupedLines lines (suc first) l) (some first a) (filled-grouped lines some (suc first) l)
+
 pub edges-filled : (l : List Edge) → Filled (map edgeLine l)
 unfolding edgeLine
 edges-filled l = filled-map edgeLine (λ e. simp length-append (omega arith)) l
@@ -68,10 +74,8 @@ pub type-filled : (number : ℕ) (t : ModuleType) → Filled (typeLines number t
 unfolding typeLines typeLine
 type-filled number t = (simp length-append (omega arith), edges-filled (t .edges))
 
-pub types-filled : (first : ℕ) (types : List ModuleType) → Filled (allTypeLines first types)
-unfolding allTypeLines
-types-filled first [] = tt
-types-filled first (t ∷ types) = filled-append (typeLines first t) (allTypeLines (suc first) types) (type-filled first t) (types-filled (suc first) types)
+pub types-filled : (first : ℕ) (types : List ModuleType) → Filled (groupedLines typeLines first types)
+types-filled first types = filled-grouped typeLines type-filled first types
 
 pub inputs-filled : (inputs : ℕ) → Filled (inputsLines inputs)
 unfolding inputsLines inputsLine
@@ -82,7 +86,7 @@ pub circuit-filled : (c : Circuit) → Filled (circuitLines c)
 unfolding circuitLines
 circuit-filled c =
     filled-append (inputsLines (c .inputs)) _ (inputs-filled (c .inputs))
-    (filled-append (allTypeLines 1 (c .types)) _ (types-filled 1 (c .types))
+    (filled-append (groupedLines typeLines 1 (c .types)) _ (types-filled 1 (c .types))
     (filled-append (map bridgeLine (c .bridges)) _ (bridges-filled (c .bridges))
     (filled-append (numberedLines instanceLine 1 (c .instances)) _ (instances-filled (c .instances)) (vectors-filled (c .vectors)))))
 
@@ -203,7 +207,7 @@ module _ {A : Type 0} where
   length-numbered line first (a ∷ l) = ap suc (length-numbered line (suc first) l)
 
   -- an element among those that are used
-  pub used-at : {B : Type 0} (told : A → B) (count : ℕ) (l : List A) (n : ℕ) (none : A) (other : B) → n < length (take count l) → n < count
+  used-at : {B : Type 0} (told : A → B) (count : ℕ) (l : List A) (n : ℕ) (none : A) (other : B) → n < length (take count l) → n < count
       → getD (map told (take count l)) n other ≡ told (getD l n none)
   used-at told count l n none other h few =
       getD-any (map told (take count l)) n other (told none) (omega (arith, length-map (take count l) told))
@@ -214,29 +218,46 @@ module _ {A : Type 0} where
   pub size-used : (l : List A) (count used places : ℕ) → length l ≡ places → used ≡ min count places → length (take count l) ≡ used
   size-used l count used places size held = omega (arith, length-take count l)
 
-module _ {A B : Type 0} (told : A → B) (count : ℕ) (l : List A) where
-  pub size-mapped : (line : B → List ℕ) → length (map line (map told (take count l))) ≡ length (take count l)
-  size-mapped line = length-map (map told (take count l)) line ∙ length-map (take count l) told
+-- a part with one line for each used place of an array
+module _ {A B : Type 0} (told : A → B) (count : ℕ) (l : List A) (places : ℕ) (size : length l ≡ places) {used : ℕ} (held : used ≡ min count places) where
+  taken : length (take count l) ≡ used
+  taken = size-used l count used places size held
 
-  pub size-numbered : (line : ℕ → B → List ℕ) → length (numberedLines line 1 (map told (take count l))) ≡ length (take count l)
-  size-numbered line = length-numbered line 1 (map told (take count l)) ∙ length-map (take count l) told
+  told-size : length (map told (take count l)) ≡ used
+  told-size = length-map (take count l) told ∙ taken
 
-  module _ (n : ℕ) (none : A) (h : n < length (take count l)) where
-    few : n < count
-    few = omega (arith, length-take count l)
+  -- the element at a used place
+  pub told-at : (n : ℕ) (none : A) (other : B) → n < used → getD (map told (take count l)) n other ≡ told (getD l n none)
+  told-at n none other h = used-at told count l n none other (omega (arith, taken)) (omega (arith, held))
 
-    mapped : n < length (map told (take count l))
-    mapped = omega (arith, length-map (take count l) told)
+  mapped-size : (line : B → List ℕ) → length (map line (map told (take count l))) ≡ used
+  mapped-size line = length-map (map told (take count l)) line ∙ told-size
 
-    pub mapped-at : (line : B → List ℕ) → getD (map line (map told (take count l))) n [] ≡ line (told (getD l n none))
-    mapped-at line = line-of line (map told (take count l)) n (told none) mapped ∙ ap line (used-at told count l n none (told none) h few)
+  numbered-size : (line : ℕ → B → List ℕ) → length (numberedLines line 1 (map told (take count l))) ≡ used
+  numbered-size line = length-numbered line 1 (map told (take count l)) ∙ told-size
 
-    pub numbered-at : (line : ℕ → B → List ℕ) → getD (numberedLines line 1 (map told (take count l))) n [] ≡ line (n + 1) (told (getD l n none))
-    numbered-at line =
+  module _ (line : B → List ℕ) {n : ℕ} {buffer : List ℕ} where
+    pub mapped-past : used ≤ n → PutsLine (map line (map told (take count l))) places n buffer (record { put = 0; left = n - used }) buffer
+    mapped-past h = part-past (map line (map told (take count l))) places n buffer used (mapped-size line) (omega (arith, held)) h
+
+    pub mapped-here : {put : ℕ} {after : List ℕ} (none : A) → n < used → Puts (line (told (getD l n none))) buffer 0 put after
+        → PutsLine (map line (map told (take count l))) places n buffer (record { put = put; left = 0 }) after
+    mapped-here none h p =
+        part-here (map line (map told (take count l))) places n buffer used (mapped-size line) (omega (arith, held)) h
+        (line-of line (map told (take count l)) n (told none) (omega (arith, told-size)) ∙ ap line (told-at n none (told none) h)) p
+
+  module _ (line : ℕ → B → List ℕ) {n : ℕ} {buffer : List ℕ} where
+    pub numbered-past : used ≤ n → PutsLine (numberedLines line 1 (map told (take count l))) places n buffer (record { put = 0; left = n - used }) buffer
+    numbered-past h = part-past (numberedLines line 1 (map told (take count l))) places n buffer used (numbered-size line) (omega (arith, held)) h
+
+    pub numbered-here : {put : ℕ} {after : List ℕ} (none : A) → n < used → Puts (line (n + 1) (told (getD l n none))) buffer 0 put after
+        → PutsLine (numberedLines line 1 (map told (take count l))) places n buffer (record { put = put; left = 0 }) after
+    numbered-here none h p =
         let next : 1 + n ≡ n + 1 = omega arith in
-        numbered-of line 1 (map told (take count l)) n (told none) mapped
-        ∙ ap (λ (b : B). line (1 + n) b) (used-at told count l n none (told none) h few)
-        ∙ ap (λ (k : ℕ). line k (told (getD l n none))) next
+        part-here (numberedLines line 1 (map told (take count l))) places n buffer used (numbered-size line) (omega (arith, held)) h
+        (numbered-of line 1 (map told (take count l)) n (told none) (omega (arith, told-size))
+        ∙ ap (λ (b : B). line (1 + n) b) (told-at n none (told none) h)
+        ∙ ap (λ (k : ℕ). line k (told (getD l n none))) next) p
 
 -- ---- the labels of the type with a number
 
@@ -259,67 +280,87 @@ labels-here types count (suc m) none some h =
     ap (λ (k : ℕ). getD types k none .labels) e
     ∙ ap (λ (t : ModuleType). t .labels) (sym (used-at typeOf count types m none noType h (omega (arith, length-take count types))))
 
--- ---- the types of a circuit, one after another
+-- ---- things that have several lines each, one after another
 
--- line n stands behind the lines of the first i types, and is line `left` of those of the others
-pub record Past (types : List ModuleType) (n i left : ℕ) : Type 0 where
-  pub line : getD (allTypeLines 1 types) n [] ≡ getD (allTypeLines (suc i) (drop i types)) left []
-  pub rest : n - length (allTypeLines 1 types) ≡ left - length (allTypeLines (suc i) (drop i types))
-  pub near : n ≤ left + 65 * i
+-- line n stands behind the lines of the first i things, and is line `left` of those of the others; each thing has at most `few`
+pub record Past {A : Type 0} (lines : ℕ → A → List (List ℕ)) (few : ℕ) (things : List A) (n i left : ℕ) : Type 0 where
+  pub line : getD (groupedLines lines 1 things) n [] ≡ getD (groupedLines lines (suc i) (drop i things)) left []
+  pub rest : n - length (groupedLines lines 1 things) ≡ left - length (groupedLines lines (suc i) (drop i things))
+  pub near : n ≤ left + few * i
 
-module _ (types : List ModuleType) (n : ℕ) where
-  pub past-none : Past types n 0 n
-  past-none = record { line = refl; rest = refl; near = omega arith }
+pub past-none : {A : Type 0} {lines : ℕ → A → List (List ℕ)} {few : ℕ} {things : List A} {n : ℕ} → Past lines few things n 0 n
+past-none = record { line = refl; rest = refl; near = omega arith }
 
-  module _ (i left : ℕ) (so-far : Past types n i left) (t : ModuleType) (inside : i < length types) (here : getD types i t ≡ t)
-      (buffer : List ℕ) (part : Part) (after : List ℕ) (p : PutsLine (typeLines (suc i) t) 65 left buffer part after) where
-    later : List (List ℕ)
-    later = allTypeLines (suc (suc i)) (drop (suc i) types)
-
-    split : allTypeLines (suc i) (drop i types) ≡ typeLines (suc i) t ++ later
-    unfolding allTypeLines later
+module _ {A : Type 0} {lines : ℕ → A → List (List ℕ)} {few : ℕ} {things : List A} {n i left : ℕ} (so-far : Past lines few things n i left) where
+  module _ (a : A) (inside : i < length things) (here : getD things i a ≡ a) {buffer : List ℕ} {part : Part} {after : List ℕ}
+      (p : PutsLine (lines (suc i) a) few left buffer part after) where
+    split : groupedLines lines (suc i) (drop i things) ≡ lines (suc i) a ++ groupedLines lines (suc (suc i)) (drop (suc i) things)
+    unfolding groupedLines
     split =
-        ap (λ (ts : List ModuleType). allTypeLines (suc i) ts) (drop-cons types i t inside)
-        ∙ ap (λ (u : ModuleType). typeLines (suc i) u ++ allTypeLines (suc (suc i)) (drop (suc i) types)) here
+        ap (λ (as′ : List A). groupedLines lines (suc i) as′) (drop-cons things i a inside)
+        ∙ ap (λ (b : A). lines (suc i) b ++ groupedLines lines (suc (suc i)) (drop (suc i) things)) here
 
-    both : length (allTypeLines (suc i) (drop i types)) ≡ length (typeLines (suc i) t) + length later
-    both = ap length split ∙ length-append (typeLines (suc i) t) later
+    sizes : length (groupedLines lines (suc i) (drop i things)) ≡ length (lines (suc i) a) + length (groupedLines lines (suc (suc i)) (drop (suc i) things))
+    sizes = ap length split ∙ length-append (lines (suc i) a) (groupedLines lines (suc (suc i)) (drop (suc i) things))
 
-    -- the line is none of type i's
-    pub past-more : part .put ≡ 0 → Past types n (suc i) (part .left)
-    unfolding later
-    past-more none =
-        let behind = not-here (typeLines (suc i) t) [] left buffer (p .line) (type-filled (suc i) t) none in
-        record {
-          line = so-far .line
-              ∙ ap (λ (l : List (List ℕ)). getD l left []) split
-              ∙ line-behind (typeLines (suc i) t) later left (behind .0)
-              ∙ ap (λ (k : ℕ). getD later k []) (sym (p .left));
-          rest = omega (arith, so-far .rest, both, p .left, behind .0);
-          near = omega (arith, so-far .near, p .near, mul-suc 65 i);
-        }
+    -- the line is none of thing i's
+    pub past-more : Filled (lines (suc i) a) → part .put ≡ 0 → Past lines few things n (suc i) (part .left) × (after ≡ buffer)
+    past-more filled none =
+        let behind = not-here (lines (suc i) a) [] left buffer (p .line) filled none in
+        let later : List (List ℕ) = groupedLines lines (suc (suc i)) (drop (suc i) things) in (
+          record {
+            line = so-far .line
+                ∙ ap (λ (l : List (List ℕ)). getD l left []) split
+                ∙ line-behind (lines (suc i) a) later left (behind .0)
+                ∙ ap (λ (k : ℕ). getD later k []) (sym (p .left));
+            rest = omega (arith, so-far .rest, sizes, p .left, behind .0);
+            near = omega (arith, so-far .near, p .near, mul-suc few i);
+          },
+          behind .1,
+        )
 
-    -- the line is one of type i's
-    pub past-found : (part .put ≡ 0 → ⊥) → i < 16 → PutsLine (allTypeLines 1 types) 1040 n buffer part after
-    past-found some few =
-        let line-is : getD (allTypeLines 1 types) n [] ≡ getD (typeLines (suc i) t) left []
-        = so-far .line ∙ ap (λ (l : List (List ℕ)). getD l left []) split ∙ here-is (typeLines (suc i) t) later left buffer (p .line) some in
+    -- the line is one of thing i's
+    pub past-found : (places : ℕ) → i < places → (part .put ≡ 0 → ⊥) → PutsLine (groupedLines lines 1 things) (few * places) n buffer part after
+    past-found places within some =
+        let later : List (List ℕ) = groupedLines lines (suc (suc i)) (drop (suc i) things) in
+        let line-is : getD (groupedLines lines 1 things) n [] ≡ getD (lines (suc i) a) left []
+        = so-far .line ∙ ap (λ (l : List (List ℕ)). getD l left []) split ∙ here-is (lines (suc i) a) later left buffer (p .line) some in
         record {
           line = rw line-is (p .line);
-          left = omega (arith, so-far .rest, both, p .left, is-here (typeLines (suc i) t) later left buffer (p .line) some);
-          near = omega (arith, so-far .near, p .near);
+          left = omega (arith, so-far .rest, sizes, p .left, is-here (lines (suc i) a) later left buffer (p .line) some);
+          near = omega (arith, so-far .near, p .near, each-before few i places within);
         }
 
-  -- no type is left
-  pub past-all : (i left : ℕ) (buffer : List ℕ) → Past types n i left → i ≡ length types → i ≤ 16
-      → PutsLine (allTypeLines 1 types) 1040 n buffer (record { put = 0; left = left }) buffer
-  unfolding allTypeLines
-  past-all i left buffer so-far all few =
-      let gone : drop i types ≡ [] = drop-of-length-le types {i = i} (omega arith) in
-      let nothing : allTypeLines (suc i) (drop i types) ≡ [] = ap (λ (ts : List ModuleType). allTypeLines (suc i) ts) gone in
-      let none : getD (allTypeLines 1 types) n [] ≡ [] = so-far .line ∙ ap (λ (l : List (List ℕ)). getD l left []) nothing in
+  -- no thing is left
+  pub past-all : (places : ℕ) (buffer : List ℕ) → i ≡ length things → i ≤ places
+      → PutsLine (groupedLines lines 1 things) (few * places) n buffer (record { put = 0; left = left }) buffer
+  unfolding groupedLines
+  past-all places buffer all within =
+      let gone : drop i things ≡ [] = drop-of-length-le things {i = i} (omega arith) in
+      let nothing : groupedLines lines (suc i) (drop i things) ≡ [] = ap (λ (as′ : List A). groupedLines lines (suc i) as′) gone in
+      let none : getD (groupedLines lines 1 things) n [] ≡ [] = so-far .line ∙ ap (λ (l : List (List ℕ)). getD l left []) nothing in
       record {
         line = rw none (refl, sym (written-nothing buffer 0));
         left = omega (arith, so-far .rest, ap length nothing);
-        near = omega (arith, so-far .near);
+        near = omega (arith, so-far .near, mul-le-mul-left few within);
       }
+
+-- the things are those at the used places of an array
+module _ {A B : Type 0} (told : A → B) (count : ℕ) (l : List A) (places : ℕ) (size : length l ≡ places) {used : ℕ} (held : used ≡ min count places)
+    {lines : ℕ → B → List (List ℕ)} {few n i left : ℕ} (so-far : Past lines few (map told (take count l)) n i left) where
+  module _ (none : A) (inside : i < used) {buffer : List ℕ} {part : Part} {after : List ℕ}
+      (p : PutsLine (lines (suc i) (told (getD l i none))) few left buffer part after) where
+    pub used-more : Filled (lines (suc i) (told (getD l i none))) → part .put ≡ 0
+        → Past lines few (map told (take count l)) n (suc i) (part .left) × (after ≡ buffer)
+    used-more filled nothing =
+        past-more so-far (told (getD l i none)) (omega (arith, told-size told count l places size held))
+        (told-at told count l places size held i none (told (getD l i none)) inside) p filled nothing
+
+    pub used-found : (part .put ≡ 0 → ⊥) → PutsLine (groupedLines lines 1 (map told (take count l))) (few * places) n buffer part after
+    used-found some =
+        past-found so-far (told (getD l i none)) (omega (arith, told-size told count l places size held))
+        (told-at told count l places size held i none (told (getD l i none)) inside) p places (omega (arith, held)) some
+
+  pub used-all : (buffer : List ℕ) → i ≡ used
+      → PutsLine (groupedLines lines 1 (map told (take count l))) (few * places) n buffer (record { put = 0; left = left }) buffer
+  used-all buffer all = past-all so-far places buffer (omega (arith, told-size told count l places size held)) (omega (arith, held))

@@ -31,11 +31,12 @@ pub record Sought (lines rest : List (List ℕ)) (n left most : ℕ) (buffer aft
 abbrev pub PutsSought : List (List ℕ) → ℕ → ℕ → List ℕ → ℕ → List ℕ → Type 0
 PutsSought lines n most buffer put after = Puts (getD lines n []) buffer 0 put after × (0 < put → n ≤ most)
 
-pub sought-start : (lines : List (List ℕ)) (n : ℕ) (buffer : List ℕ) → Sought lines lines n n 0 buffer buffer
-sought-start lines n buffer = record { line = refl; past = refl; same = refl; near = omega arith }
+pub sought-start : {lines : List (List ℕ)} {n : ℕ} {buffer : List ℕ} → Sought lines lines n n 0 buffer buffer
+sought-start = record { line = refl; past = refl; same = refl; near = omega arith }
 
-module _ (lines a b : List (List ℕ)) (n left most more : ℕ) (buffer now : List ℕ) (so-far : Sought lines (a ++ b) n left most buffer now)
-    (part : Part) (after : List ℕ) (p : PutsLine a more left now part after) where
+-- a part of the lines was asked
+module _ {lines a b : List (List ℕ)} {n left most more : ℕ} {buffer now : List ℕ} {part : Part} {after : List ℕ} (so-far : Sought lines (a ++ b) n left most buffer now)
+    (p : PutsLine a more left now part after) where
   pub sought-more : Filled a → part .put ≡ 0 → Sought lines b n (part .left) (most + more) buffer after
   sought-more filled none =
       let behind = not-here a b left now (p .line) filled none in
@@ -46,8 +47,11 @@ module _ (lines a b : List (List ℕ)) (n left most more : ℕ) (buffer now : Li
         near = omega (arith, so-far .near, p .near);
       }
 
-  pub sought-found : (all : ℕ) → most + more ≤ all → (part .put ≡ 0 → ⊥) → PutsLine lines all n buffer part after
-  sought-found all within some =
+-- it has put the line; `b` are the lines behind it
+module _ {lines a : List (List ℕ)} (b : List (List ℕ)) {n left most more : ℕ} {buffer now : List ℕ} {part : Part} {after : List ℕ}
+    (so-far : Sought lines (a ++ b) n left most buffer now) (p : PutsLine a more left now part after) where
+  pub sought-found : {all : ℕ} → most + more ≤ all → (part .put ≡ 0 → ⊥) → PutsLine lines all n buffer part after
+  sought-found within some =
       let here = is-here a b left now (p .line) some in
       let line-is : getD lines n [] ≡ getD a left [] = so-far .line ∙ here-is a b left now (p .line) some in
       record {
@@ -56,18 +60,18 @@ module _ (lines a b : List (List ℕ)) (n left most more : ℕ) (buffer now : Li
         near = omega (arith, so-far .near, p .near);
       }
 
-pub sought-last : (lines a : List (List ℕ)) (n left most more : ℕ) (buffer now : List ℕ) → Sought lines a n left most buffer now
-    → (part : Part) (after : List ℕ) → PutsLine a more left now part after → PutsLine lines (most + more) n buffer part after
-sought-last lines a n left most more buffer now so-far part after p = record {
+pub sought-last : {lines a : List (List ℕ)} {n left most more : ℕ} {buffer now : List ℕ} {part : Part} {after : List ℕ} → Sought lines a n left most buffer now
+    → PutsLine a more left now part after → PutsLine lines (most + more) n buffer part after
+sought-last so-far p = record {
   line = rw (so-far .line, ← (so-far .same)) (p .line);
   left = omega (arith, so-far .past, p .left);
   near = omega (arith, so-far .near, p .near);
 }
 
 -- what a part puts
-pub part-puts : (lines : List (List ℕ)) (n most : ℕ) (buffer : List ℕ) (part : Part) (after : List ℕ) → PutsLine lines most n buffer part after
+pub part-puts : {lines : List (List ℕ)} {n most : ℕ} {buffer : List ℕ} {part : Part} {after : List ℕ} → PutsLine lines most n buffer part after
     → PutsSought lines n most buffer (part .put) after
-part-puts lines n most buffer part after p = (
+part-puts {lines} {n} {most} {buffer} {part} p = (
   p .line,
   λ (any : 0 < part .put).
       let some : part .put ≡ 0 → ⊥ = λ (e : part .put ≡ 0). omega arith in
@@ -75,17 +79,17 @@ part-puts lines n most buffer part after p = (
 )
 
 -- the rest is one line
-pub sought-one : (lines rest : List (List ℕ)) (line : List ℕ) (n left most : ℕ) (buffer now : List ℕ) {put : ℕ} {after : List ℕ}
+pub sought-one : {lines rest : List (List ℕ)} {line : List ℕ} {n left most : ℕ} {buffer now : List ℕ} {put : ℕ} {after : List ℕ}
     → Sought lines rest n left most buffer now → rest ≡ line ∷ [] → left ≡ 0 → Puts line now 0 put after → PutsSought lines n most buffer put after
-sought-one lines rest line n left most buffer now so-far alone first p =
+sought-one {lines} {rest} {line} {n} so-far alone first p =
     let line-is : getD lines n [] ≡ line
     = so-far .line ∙ ap (λ (k : ℕ). getD rest k []) first ∙ ap (λ (l : List (List ℕ)). getD l 0 []) alone in
     (rw (line-is, ← (so-far .same)) p, λ (some : _). omega (arith, so-far .near))
 
 -- the rest ends before the line
-pub sought-past : (lines rest : List (List ℕ)) (n left most : ℕ) (buffer now : List ℕ) → Sought lines rest n left most buffer now → length rest ≤ left
+pub sought-past : {lines rest : List (List ℕ)} {n left most : ℕ} {buffer now : List ℕ} → Sought lines rest n left most buffer now → length rest ≤ left
     → PutsSought lines n most buffer 0 now
-sought-past lines rest n left most buffer now so-far ended =
+sought-past {lines} {rest} {n} {buffer = buffer} so-far ended =
     let none : getD lines n [] ≡ [] = so-far .line ∙ List·getD-eq-default rest [] ended in
     (rw none (refl, so-far .same ∙ sym (written-nothing buffer 0)), λ (some : 0 < 0). absurd (omega arith))
 

@@ -14,13 +14,14 @@ unfoldable pub numberedLines : {A : Type 0} → (ℕ → A → List ℕ) → ℕ
 numberedLines line first [] = []
 numberedLines line first (a ∷ as′) = line first a ∷ numberedLines line (suc first) as′
 
+-- the lines of each thing of a list, one thing behind the other, with the things' numbers
+unfoldable pub groupedLines : {A : Type 0} → (ℕ → A → List (List ℕ)) → ℕ → List A → List (List ℕ)
+groupedLines lines first [] = []
+groupedLines lines first (a ∷ as′) = lines first a ++ groupedLines lines (suc first) as′
+
 -- the line of a type, and behind it those of its edges
 unfoldable pub typeLines : ℕ → ModuleType → List (List ℕ)
 typeLines number t = typeLine number t ∷ map edgeLine (t .edges)
-
-unfoldable pub allTypeLines : ℕ → List ModuleType → List (List ℕ)
-allTypeLines first [] = []
-allTypeLines first (t ∷ types) = typeLines first t ++ allTypeLines (suc first) types
 
 -- none where no inputs field was read; one that was read says at least 1
 unfoldable pub inputsLines : ℕ → List (List ℕ)
@@ -30,7 +31,7 @@ inputsLines (suc n) = inputsLine (suc n) ∷ []
 unfoldable pub circuitLines : Circuit → List (List ℕ)
 circuitLines c =
     inputsLines (c .inputs)
-    ++ (allTypeLines 1 (c .types)
+    ++ (groupedLines typeLines 1 (c .types)
     ++ (map bridgeLine (c .bridges) ++ (numberedLines instanceLine 1 (c .instances) ++ numberedLines vectorLine 1 (c .vectors))))
 
 unfoldable pub refusalLines : Reading → List (List ℕ)

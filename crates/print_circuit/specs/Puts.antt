@@ -1,10 +1,11 @@
 -- What the functions that put text into a lent buffer promise: the text stands at its place, all else there is as it was, and the answer
 -- is the place behind it.
-use Prim.Native.Nat.{ℕ, _+_, _-_, _≤_}
+use Prim.Native.Nat.{ℕ, _+_, _-_, _*_, _≤_}
 use mathlib.Core.Path.{_≡_}
 use mathlib.Core.List.{List, []}
 use lib.ListN.{length, getD}
 use Rattle.words.specs.Written.{written}
+use Rattle.circuit.specs.Limits.{mostTypes, mostEdges, mostBridges, mostInstances, mostVectors}
 use Rattle.print_circuit.specs.declared.parts.Part.{Part}
 
 abbrev pub Puts : List ℕ → List ℕ → ℕ → ℕ → List ℕ → Type 0
@@ -16,3 +17,16 @@ pub record PutsLine (lines : List (List ℕ)) (most n : ℕ) (buffer : List ℕ)
   pub line : Puts (getD lines n []) buffer 0 (part .put) after
   pub left : part .left ≡ n - length lines
   pub near : n ≤ part .left + most
+
+-- ---- how many lines there are at most
+
+-- a type has its own and one for each edge
+abbrev pub mostOfType : ℕ
+mostOfType = mostEdges + 1
+
+abbrev pub mostOfTypes : ℕ
+mostOfTypes = mostOfType * mostTypes
+
+-- a circuit has that of the inputs and those of its types, bridges, instances and vectors
+abbrev pub mostLines : ℕ
+mostLines = 1 + mostOfTypes + mostBridges + mostInstances + mostVectors

@@ -11,7 +11,7 @@ ghost use Rattle.print_lines.specs.Pieces.{lineIn};
 ghost use Rattle.print_circuit.specs.Listing.{circuitLines};
 ghost use Rattle.print_circuit.specs.Told.{circuitTold, listingTold};
 ghost use Rattle.print_circuit.specs.Promise.{ListingPiece};
-ghost use Rattle.print_circuit.specs.Puts.{Puts, PutsLine};
+ghost use Rattle.print_circuit.specs.Puts.{Puts, PutsLine, mostLines};
 use crate::parts::Part;
 use crate::parts::bridge_part;
 use crate::parts::inputs_part;
@@ -27,10 +27,10 @@ use print_lines::Piece;
 use print_lines::give;
 use print_lines::refusal_line;
 
-// Line n of a circuit at the front of a buffer, or how far n is past the last. There are at most 1681.
+// Line n of a circuit at the front of a buffer, or how far n is past the last.
 fn circuit_line(line: &mut [u8], c: Circuit, n: usize) -> Part
     requires { ⌜ 512 ≤ length (now line) ⌝ }
-    ensures { λ r. ⌜ PutsLine (circuitLines (circuitTold c)) 1681 n (now (line .entry)) r (now (line .exit)) ⌝ }
+    ensures { λ r. ⌜ PutsLine (circuitLines (circuitTold c)) mostLines n (now (line .entry)) r (now (line .exit)) ⌝ }
 {
     let part = inputs_part(line, c.inputs, n);
     if part.put != 0 {
@@ -66,7 +66,7 @@ fn circuit_line(line: &mut [u8], c: Circuit, n: usize) -> Part
 fn listed_line(line: &mut [u8], reading: Reading, n: usize) -> usize
     requires { ⌜ 512 ≤ length (now line) ⌝ }
     ensures { λ r. ⌜ Puts (getD (listingTold reading) n []) (now (line .entry)) 0 r (now (line .exit)) ⌝ }
-    ensures { λ r. ⌜ (0 < r → n ≤ 1681) ⌝ }
+    ensures { λ r. ⌜ (0 < r → n ≤ mostLines) ⌝ }
 {
     let circuit = reading.circuit;
     let part = circuit_line(line, circuit, n);
@@ -85,7 +85,7 @@ fn listed_line(line: &mut [u8], reading: Reading, n: usize) -> usize
 // Line n of a file's listing into the front of a buffer, if there is room.
 fn one_line(reading: Reading, n: usize, out: &mut [u8]) -> usize
     ensures { λ r. ⌜ LineGiven (lineIn (listingTold reading) n) (now (out .entry)) r (now (out .exit)) ⌝ }
-    ensures { λ r. ⌜ (0 < r → n ≤ 1681) ⌝ }
+    ensures { λ r. ⌜ (0 < r → n ≤ mostLines) ⌝ }
     ensures { λ r. ⌜ length (lineIn (listingTold reading) n) ≤ 512 ⌝ }
 {
     let mut line = [0u8; 512];

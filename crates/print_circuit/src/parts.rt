@@ -5,10 +5,11 @@ ghost use Prim.Native.Nat.{_≤_};
 ghost use lib.ListN.{length, take};
 ghost use Rattle.switch.specs.Records.{edgesOf, typeOf};
 ghost use Rattle.circuit.specs.Circuit.{numbered, noType};
+ghost use Rattle.circuit.specs.Limits.{mostEdges, mostBridges, mostInstances, mostVectors};
 ghost use Rattle.print_circuit.specs.Lines.{edgeLine, bridgeLine, instanceLine, vectorLine};
-ghost use Rattle.print_circuit.specs.Listing.{numberedLines, typeLines, allTypeLines, inputsLines};
+ghost use Rattle.print_circuit.specs.Listing.{numberedLines, groupedLines, typeLines, inputsLines};
 ghost use Rattle.print_circuit.specs.Told.{listedTold, instanceTold, vectorTold};
-ghost use Rattle.print_circuit.specs.Puts.{PutsLine};
+ghost use Rattle.print_circuit.specs.Puts.{PutsLine, mostOfType, mostOfTypes};
 use crate::least::at_most;
 use crate::lines::bridge_line;
 use crate::lines::edge_line;
@@ -55,7 +56,7 @@ pub fn inputs_part(line: &mut [u8], inputs: usize, n: usize) -> Part
 
 fn edge_part(line: &mut [u8], edges: [Edge; MOST_EDGES], count: usize, n: usize) -> Part
     requires { ⌜ 512 ≤ length (now line) ⌝ }
-    ensures { λ r. ⌜ PutsLine (map edgeLine (edgesOf (take count edges))) 64 n (now (line .entry)) r (now (line .exit)) ⌝ }
+    ensures { λ r. ⌜ PutsLine (map edgeLine (edgesOf (take count edges))) mostEdges n (now (line .entry)) r (now (line .exit)) ⌝ }
 {
     let used = at_most(count, MOST_EDGES);
     if used <= n {
@@ -73,7 +74,7 @@ fn edge_part(line: &mut [u8], edges: [Edge; MOST_EDGES], count: usize, n: usize)
 // A type's own line, and behind it those of its edges.
 fn one_type(line: &mut [u8], number: usize, t: ModuleType, n: usize) -> Part
     requires { ⌜ 512 ≤ length (now line) ⌝ }
-    ensures { λ r. ⌜ PutsLine (typeLines number (typeOf t)) 65 n (now (line .entry)) r (now (line .exit)) ⌝ }
+    ensures { λ r. ⌜ PutsLine (typeLines number (typeOf t)) mostOfType n (now (line .entry)) r (now (line .exit)) ⌝ }
 {
     if n == 0 {
         return Part {
@@ -87,7 +88,7 @@ fn one_type(line: &mut [u8], number: usize, t: ModuleType, n: usize) -> Part
 
 pub fn type_part(line: &mut [u8], types: [ModuleType; MOST_TYPES], count: usize, n: usize) -> Part
     requires { ⌜ 512 ≤ length (now line) ⌝ }
-    ensures { λ r. ⌜ PutsLine (allTypeLines 1 (map typeOf (take count types))) 1040 n (now (line .entry)) r (now (line .exit)) ⌝ }
+    ensures { λ r. ⌜ PutsLine (groupedLines typeLines 1 (map typeOf (take count types))) mostOfTypes n (now (line .entry)) r (now (line .exit)) ⌝ }
 {
     let used = at_most(count, MOST_TYPES);
     let mut left = n;
@@ -105,7 +106,7 @@ pub fn type_part(line: &mut [u8], types: [ModuleType; MOST_TYPES], count: usize,
 
 pub fn bridge_part(line: &mut [u8], bridges: [Bridge; MOST_BRIDGES], count: usize, n: usize) -> Part
     requires { ⌜ 512 ≤ length (now line) ⌝ }
-    ensures { λ r. ⌜ PutsLine (map bridgeLine (map listedTold (take count bridges))) 256 n (now (line .entry)) r (now (line .exit)) ⌝ }
+    ensures { λ r. ⌜ PutsLine (map bridgeLine (map listedTold (take count bridges))) mostBridges n (now (line .entry)) r (now (line .exit)) ⌝ }
 {
     let used = at_most(count, MOST_BRIDGES);
     if used <= n {
@@ -144,7 +145,7 @@ pub fn instance_part(
     n: usize,
 ) -> Part
     requires { ⌜ 512 ≤ length (now line) ⌝ }
-    ensures { λ r. ⌜ PutsLine (numberedLines instanceLine 1 (map (instanceTold (map typeOf (take «type_count» types))) (take count instances))) 128 n (now (line .entry)) r (now (line .exit)) ⌝ }
+    ensures { λ r. ⌜ PutsLine (numberedLines instanceLine 1 (map (instanceTold (map typeOf (take «type_count» types))) (take count instances))) mostInstances n (now (line .entry)) r (now (line .exit)) ⌝ }
 {
     let used = at_most(count, MOST_INSTANCES);
     if used <= n {
@@ -169,7 +170,7 @@ pub fn vector_part(
     n: usize,
 ) -> Part
     requires { ⌜ 512 ≤ length (now line) ⌝ }
-    ensures { λ r. ⌜ PutsLine (numberedLines vectorLine 1 (map (vectorTold inputs) (take count vectors))) 256 n (now (line .entry)) r (now (line .exit)) ⌝ }
+    ensures { λ r. ⌜ PutsLine (numberedLines vectorLine 1 (map (vectorTold inputs) (take count vectors))) mostVectors n (now (line .entry)) r (now (line .exit)) ⌝ }
 {
     let used = at_most(count, MOST_VECTORS);
     if used <= n {

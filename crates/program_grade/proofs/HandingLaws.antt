@@ -20,18 +20,18 @@ pub record FileHeld (file : List ℕ) (answer : Answer) (codes matrix classes : 
   pub room : roomOf before ≡ roomForAll
   pub outcome : OutcomeOf file before answer codes matrix classes
 
-module _ (file : List ℕ) (from : ℕ) (buffer : List ℕ) (piece : Piece) (after : List ℕ) where
-  -- a piece of the file's report
-  abbrev pub PieceOfFile : Type 0
-  PieceOfFile = PieceOfReport (gradingOfFile file) from buffer piece after
+-- a piece of the file's report
+abbrev pub PieceOfFile : List ℕ → ℕ → List ℕ → Piece → List ℕ → Type 0
+PieceOfFile file from buffer piece after = PieceOfReport (gradingOfFile file) from buffer piece after
 
-  pub piece-of-file : (answer : Answer) (codes matrix classes : List ℕ) → FileHeld file answer codes matrix classes
-      → ReportPiece answer codes matrix classes from buffer piece after → PieceOfFile
-  piece-of-file answer codes matrix classes held given =
+module _ {from : ℕ} {buffer : List ℕ} {piece : Piece} {after : List ℕ} where
+  pub piece-of-file : {file : List ℕ} {answer : Answer} {codes matrix classes : List ℕ} → FileHeld file answer codes matrix classes
+      → ReportPiece answer codes matrix classes from buffer piece after → PieceOfFile file from buffer piece after
+  piece-of-file {file} held given =
       subst (λ (room : Room). PieceOfReport (gradingOf file room) from buffer piece after) (held .room) (given .of-report file (held .before) (held .outcome))
 
   -- 512 bytes are room for each line, so that a piece is empty only past the last
-  pub moves : PieceOfFile → from < lineCount (gradingOfFile file) → 512 ≤ length buffer → 0 < piece .count
-  moves given more room =
+  pub moves : (file : List ℕ) → PieceOfFile file from buffer piece after → from < lineCount (gradingOfFile file) → 512 ≤ length buffer → 0 < piece .count
+  moves file given more room =
       let fits = lines-fit file roomForAll from more in
       piece-some (reportLine (gradingOfFile file)) (lineCount (gradingOfFile file)) from buffer piece after given more (fits .0) (omega (arith, fits .1, room))

@@ -67,6 +67,28 @@ fn grade_file(
     handed
 }
 
+// Reads an input and prints its report, under a heading where there are several; one that cannot be read has none.
+fn grade_input(
+    number: usize,
+    out: &mut [u8],
+    output: Output,
+    file: &mut [u8],
+    matrix: &mut [u64],
+    classes: &mut [u16],
+) -> Output
+    requires { ⌜ 4106 ≤ length (now out) ⌝ }
+    requires { ⌜ (length (now matrix) ≡ 8192) × (length (now classes) ≡ 2048) ⌝ }
+{
+    let input = read_input(number, file);
+    if !input.is_read {
+        return output;
+    }
+    let headed = head_input(out, output, number);
+    let length = input.count;
+    let handed = grade_file(out, headed, &file[..length], matrix, classes);
+    handed.output
+}
+
 fn main() {
     let mut out = io::large_buffer();
     let mut file = [0u8; MOST_READ];
@@ -77,12 +99,6 @@ fn main() {
     let mut i: usize = 0;
     while i < count {
         i += 1;
-        let input = read_input(i, &mut file);
-        if input.is_read {
-            let length = input.count;
-            output = head_input(&mut out, output, i);
-            let handed = grade_file(&mut out, output, &file[..length], &mut matrix, &mut classes);
-            output = handed.output;
-        }
+        output = grade_input(i, &mut out, output, &mut file, &mut matrix, &mut classes);
     }
 }

@@ -46,6 +46,14 @@ pub fn write_text(output: Output, text: &[u8]) -> Output
     }
 }
 
+// Writes the front of a buffer, so many bytes.
+pub fn write_front(output: Output, out: &[u8], count: usize) -> Output
+    requires { ⌜ count ≤ length (now out) ⌝ }
+    ensures { λ r. ⌜ TextWritten output r ⌝ }
+{
+    write_text(output, &out[..count])
+}
+
 // A blank line into the front of a buffer, where one is wanted.
 fn put_blank(out: &mut [u8], is_wanted: bool) -> usize
     requires { ⌜ 0 < length (now out) ⌝ }

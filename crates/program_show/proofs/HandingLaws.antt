@@ -10,11 +10,7 @@ use Rattle.print_circuit.specs.Listing.{listingOfFile}
 use Rattle.print_circuit.specs.Promise.{LinesPiece, ListingPiece}
 use Rattle.print_circuit.proofs.ToldLaws.{told-is-listing}
 
-module _ (file : List ℕ) (from : ℕ) (buffer : List ℕ) (piece : Piece) (after : List ℕ) where
-  -- a piece of the file's listing
-  abbrev pub PieceOfFile : Type 0
-  PieceOfFile = LinesPiece (listingOfFile file) from buffer piece after
-
-  pub piece-of-file : (r : ReadingRecord) → ReadByStages true file r → ListingPiece r from buffer piece after → PieceOfFile
-  piece-of-file r read given =
-      subst (λ (lines : List (List ℕ)). LinesPiece lines from buffer piece after) (told-is-listing file r (read .tells) (read .circuit)) given
+pub piece-of-file : {file : List ℕ} {from : ℕ} {buffer : List ℕ} {piece : Piece} {after : List ℕ} {r : ReadingRecord} → ReadByStages true file r
+    → ListingPiece r from buffer piece after → LinesPiece (listingOfFile file) from buffer piece after
+piece-of-file {file} {from} {buffer} {piece} {after} {r} read given =
+    subst (λ (lines : List (List ℕ)). LinesPiece lines from buffer piece after) (told-is-listing file r (read .tells) (read .circuit)) given

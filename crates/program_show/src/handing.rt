@@ -3,7 +3,7 @@ ghost use mathlib.Core.Path.{_≡_};
 ghost use Rattle.program_show.specs.Handing.{ListingHandsOn};
 use print_lines::Piece;
 use program_io::output::Output;
-use program_io::output::write_text;
+use program_io::output::write_front;
 
 // How many lines of the listing were handed over. Only the functions here can make or advance the number.
 pub struct Handed {
@@ -23,11 +23,9 @@ pub fn hand_out(handed: Handed, file: &[u8], piece: Piece, out: &[u8]) -> Handed
     requires { ⌜ ListingHandsOn (now file) (handed .lines) piece (now out) ⌝ }
     ensures { λ r. ⌜ r .lines ≡ piece .next ⌝ }
 {
-    let count = piece.count;
     let before = handed.output;
-    let output = write_text(before, &out[..count]);
     Handed {
         lines: piece.next,
-        output,
+        output: write_front(before, out, piece.count),
     }
 }

@@ -38,6 +38,20 @@ fn show_file(out: &mut [u8], output: Output, file: &[u8]) -> Handed
     handed
 }
 
+// Reads an input and prints what it tells, under a heading where there are several; one that cannot be read has none.
+fn show_input(number: usize, out: &mut [u8], output: Output, file: &mut [u8]) -> Output
+    requires { ⌜ 4106 ≤ length (now out) ⌝ }
+{
+    let input = read_input(number, file);
+    if !input.is_read {
+        return output;
+    }
+    let headed = head_input(out, output, number);
+    let length = input.count;
+    let handed = show_file(out, headed, &file[..length]);
+    handed.output
+}
+
 fn main() {
     let mut out = io::large_buffer();
     let mut file = [0u8; MOST_READ];
@@ -46,12 +60,6 @@ fn main() {
     let mut i: usize = 0;
     while i < count {
         i += 1;
-        let input = read_input(i, &mut file);
-        if input.is_read {
-            let length = input.count;
-            output = head_input(&mut out, output, i);
-            let handed = show_file(&mut out, output, &file[..length]);
-            output = handed.output;
-        }
+        output = show_input(i, &mut out, output, &mut file);
     }
 }

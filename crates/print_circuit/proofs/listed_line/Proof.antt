@@ -1,5 +1,5 @@
 -- `print_circuit::listed_line` meets its contract. Assumes nothing.
-use Prim.Native.Nat.{ℕ}
+use Prim.Native.Nat.{ℕ, _≤_}
 use mathlib.Core.Path.{_≡_, refl, sym, ap, _∙_}
 use mathlib.Core.Bool.{true, false}
 use mathlib.Core.List.{List, [], _∷_, _++_}
@@ -12,6 +12,7 @@ use Rattle.print_lines.specs.Lines.{refusalLine}
 use Rattle.print_lines.proofs.LineSizes.{refusal-sized}
 use Rattle.print_circuit.specs.Listing.{circuitLines, refusalLines, listingOf}
 use Rattle.print_circuit.specs.Told.{circuitTold, readingTold, listingTold}
+use Rattle.print_circuit.specs.Puts.{mostLines}
 use Rattle.print_circuit.proofs.Putting.{puts-same}
 use Rattle.print_circuit.proofs.PartLaws.{circuit-filled}
 use Rattle.print_circuit.proofs.SoughtLaws.{Sought, sought-start, sought-more, sought-found, sought-one, sought-past, part-puts, refused-told, accepted-told, refusal-few, given-puts}
@@ -38,14 +39,20 @@ lines-are : (r : ReadingRecord) → circuit-of r ++ refusal-of r ≡ listingTold
 unfolding listingTold listingOf
 lines-are r = refl
 
-abbrev start-of : tie.Else1 → tie.Start
-start-of c = c .before .before .before .before .before .before .before .before
+-- where the circuit was asked, which has no such line
+abbrev asked-of : tie.Else1 → tie.After-circuit-line
+asked-of c = c .before .before .before .before
 
--- the circuit has no such line
-sought : (c : tie.Else1) → Sought (circuit-of (start-of c .args .reading) ++ refusal-of (start-of c .args .reading)) (refusal-of (start-of c .args .reading)) (start-of c .args .n) (c .before .before .before .before .circuit-line .result .left) 1681 (start-of c .args .line .now) (c .before .before .before .before .circuit-line .last .0)
-sought c =
-    let r : ReadingRecord = start-of c .args .reading in
-    sought-more (circuit-of r ++ refusal-of r) (circuit-of r) (refusal-of r) _ _ 0 1681 _ _ (sought-start _ _ _) _ _ (c .before .before .before .before .circuit-line .ensures) (circuit-filled (circuitTold (r .circuit))) (c .if1 .left)
+abbrev start-of : tie.Else1 → tie.Start
+start-of c = asked-of c .before .before .before .before
+
+sought : (c : tie.Else1)
+    → Sought (circuit-of (start-of c .args .reading) ++ refusal-of (start-of c .args .reading)) (refusal-of (start-of c .args .reading)) (start-of c .args .n)
+    (asked-of c .circuit-line .result .left) mostLines (start-of c .args .line .now) (asked-of c .circuit-line .last .0)
+sought c = sought-more sought-start (asked-of c .circuit-line .ensures) (circuit-filled (circuitTold (start-of c .args .reading .circuit))) (c .if1 .left)
+
+room : (c : tie.Else1) → 512 ≤ length (asked-of c .circuit-line .last .0)
+room c = omega (arith, asked-of c .circuit-line .kept .0, start-of c .pre)
 
 circuit-line-requires : tie.Need-circuit-line-requires
 circuit-line-requires c κs = search needs
@@ -55,11 +62,9 @@ same-length c = search needs
 
 returns : tie.Need-returns
 returns c =
-    let start = c .before .before .before .before .before .before .before .before in
-    let r : ReadingRecord = start .args .reading in
-    rw (← (lines-are r))
-    (part-puts (circuit-of r ++ refusal-of r) (start .args .n) 1681 _ _ _
-    (sought-found (circuit-of r ++ refusal-of r) (circuit-of r) (refusal-of r) _ _ 0 1681 _ _ (sought-start _ _ _) _ _ (c .before .before .before .before .circuit-line .ensures) 1681 (omega arith) (c .if1 .taken)))
+    let asked = c .before .before .before .before in
+    let r : ReadingRecord = asked .before .before .before .before .args .reading in
+    rw (← (lines-are r)) (part-puts (sought-found (refusal-of r) sought-start (asked .circuit-line .ensures) (omega arith) (c .if1 .taken)))
 
 refuses-requires : tie.Need-refuses-requires
 refuses-requires c κs = search needs
@@ -79,14 +84,19 @@ same-length-2 c = search needs
 returns-2 : tie.Need-returns-2
 unfolding verdictOf
 returns-2 c =
-    let behind = c .before .before .before .before .before .before .before .before .before .before in
+    let called = c .before .before in
+    let placed = called .before .before in
+    let numbered = placed .before in
+    let taken = numbered .before in
+    let behind = taken .before .before .before .before in
     let r : ReadingRecord = start-of behind .args .reading in
-    let refuses = sym (c .before .before .before .before .before .before .before .refuses .ensures) ∙ c .before .before .before .before .before .before .if3 .taken in
-    let said : refusalLine (c .before .before .before .before .before .number-of .result) (c .before .before .before .before .place-of .result) ≡ refusalLine (refusalNumber (r .refusal)) (refusalPlace (r .refusal))
-    = ap (λ (k : ℕ). refusalLine k (c .before .before .before .before .place-of .result)) (c .before .before .before .before .before .number-of .ensures) ∙ ap (λ (k : ℕ). refusalLine (refusalNumber (r .refusal)) k) (c .before .before .before .before .place-of .ensures) in
-    let given = given-puts _ _ _ _ (omega (arith, refusal-sized (c .before .before .before .before .before .number-of .result) (c .before .before .before .before .place-of .result) .1)) (c .before .before .refusal-line .ensures) in
-    rw (← (lines-are r))
-    (sought-one (circuit-of r ++ refusal-of r) (refusal-of r) _ _ _ 1681 _ _ (sought behind) (told-refused r refuses) (c .before .before .before .before .before .before .before .before .if2 .taken) (puts-same _ _ said given))
+    let number : ℕ = numbered .number-of .result in
+    let place : ℕ = placed .place-of .result in
+    let refuses = sym (taken .before .refuses .ensures) ∙ taken .if3 .taken in
+    let said : refusalLine number place ≡ refusalLine (refusalNumber (r .refusal)) (refusalPlace (r .refusal))
+    = ap (λ (k : ℕ). refusalLine k place) (numbered .number-of .ensures) ∙ ap (λ (k : ℕ). refusalLine (refusalNumber (r .refusal)) k) (placed .place-of .ensures) in
+    let given = given-puts _ _ _ _ (omega (arith, refusal-sized number place .1, room behind)) (called .refusal-line .ensures) in
+    rw (← (lines-are r)) (sought-one (sought behind) (told-refused r refuses) (taken .before .before .if2 .taken) (puts-same _ _ said given))
 
 same-length-3 : tie.Need-same-length-3
 same-length-3 c = search needs
@@ -96,7 +106,7 @@ returns-3 c =
     let behind = c .before .before .before .before in
     let r : ReadingRecord = start-of behind .args .reading in
     let accepts = sym (c .before .refuses .ensures) ∙ c .if3 .left in
-    rw (← (lines-are r)) (sought-past _ _ _ _ 1681 _ _ (sought behind) (omega (arith, ap length (told-accepted r accepts))))
+    rw (← (lines-are r)) (sought-past (sought behind) (omega (arith, ap length (told-accepted r accepts))))
 
 same-length-4 : tie.Need-same-length-4
 same-length-4 c = search needs
@@ -105,7 +115,7 @@ returns-4 : tie.Need-returns-4
 returns-4 c =
     let behind = c .before .before in
     let r : ReadingRecord = start-of behind .args .reading in
-    rw (← (lines-are r)) (sought-past _ _ _ _ 1681 _ _ (sought behind) (omega (arith, c .if2 .left, refusal-few (readingTold r))))
+    rw (← (lines-are r)) (sought-past (sought behind) (omega (arith, c .if2 .left, refusal-few (readingTold r))))
 
 pub listed-line-spec : {M : Type 1} → statement M
 listed-line-spec =

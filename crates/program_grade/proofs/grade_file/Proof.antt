@@ -1,12 +1,12 @@
--- `grade::grade_file` meets its contract. The loop's invariant: what is held is the file's outcome, and the lines before the next were handed over.
+-- `program_grade::grade_file` meets its contract. The loop's invariant: what is held is the file's outcome, and the lines before the next were handed over.
 -- Each turn hands over a line at least. Assumes nothing.
-use Prim.Native.Nat.{_-_, _≤_}
-use mathlib.Core.Path.{_≡_, refl, ap₂, _∙_}
+use Prim.Native.Nat.{_-_}
+use mathlib.Core.Path.{_≡_, refl, ap₂}
 use native.Mathlib.Omega.{arith}
 use borrow.Author.Needs.{needs}
 use lib.ListN.{length}
 use Rattle.grading.specs.Buffers.{buffersOf, roomFor}
-use Rattle.print_lines.proofs.HandingLaws.{hands-on, moved, all-handed}
+use Rattle.print_lines.proofs.HandingLaws.{HandingOver, handing-begins, hands-next, less-left, handing-goes-on, handing-ends}
 use Rattle.print_report.specs.Report.{lineCount}
 use Rattle.print_report.proofs.HeldIsReport.{rows-are-held}
 use Rattle.program_grade.specs.Handing.{gradingOfFile}
@@ -16,8 +16,7 @@ use Rattle.program_grade.proofs.grade_file.Tie as tie
 
 abbrev Inv-loop : tie.InvT-loop
 Inv-loop out₀ file matrix classes answer codes handed₀ next₀ out handed next =
-    FileHeld file answer codes matrix classes × (handed .lines ≡ next) × (next ≤ lineCount (gradingOfFile file)) × (512 ≤ length out)
-    × (length out ≡ length out₀) × (length codes ≡ 2048)
+    FileHeld file answer codes matrix classes × HandingOver (lineCount (gradingOfFile file)) (handed .lines) next out₀ out × (length codes ≡ 2048)
 
 abbrev μ-loop : tie.MeasureT-loop
 μ-loop out₀ file matrix classes answer codes handed₀ next₀ out handed next = lineCount (gradingOfFile file) - next
@@ -50,10 +49,7 @@ loop-holds c =
           listed = λ m reads. listed .listed _ m tells reads;
         };
       },
-      c .none-handed .ensures,
-      omega arith,
-      start .pre .0,
-      refl,
+      handing-begins (c .none-handed .ensures) (start .pre .0),
       listed .many,
     )
 
@@ -65,21 +61,21 @@ report-piece-requires c κs = let held = c .before .before .before .before .loop
 
 hand-out-requires : tie.Need-hand-out-requires Inv-loop μ-loop
 hand-out-requires c κs =
-    let l = c .before .before .before .before .before .before .before .before .before .before .loop in
-    rw (l .inv .1) (hands-on (piece-of-file _ _ _ _ _ _ _ _ _ (l .inv .0) (c .before .before .before .before .before .report-piece .ensures)))
+    let turn = c .before .before .before .before .before .before .before .before .before .before .loop in
+    let piece = c .before .before .before .before .before .report-piece .ensures in
+    hands-next (turn .inv .1) (piece-of-file (turn .inv .0) piece)
 
 loop-less : tie.Need-loop-less Inv-loop μ-loop
 loop-less c =
-    let l = c .before .before .before .before .before .before .before .before .before .before .before .loop in
-    let given = piece-of-file _ _ _ _ _ _ _ _ _ (l .inv .0) (c .before .before .before .before .before .before .report-piece .ensures) in
-    omega (arith, moved given (omega arith), given .within, l .inv .2)
+    let turn = c .before .before .before .before .before .before .before .before .before .before .before .loop in
+    let piece = c .before .before .before .before .before .before .report-piece .ensures in
+    less-left (turn .inv .1) (piece-of-file (turn .inv .0) piece) (omega arith)
 
 loop-again : tie.Need-loop-again Inv-loop μ-loop
 loop-again c =
-    let l = c .before .before .before .before .before .before .before .before .before .before .before .loop in
-    let given = piece-of-file _ _ _ _ _ _ _ _ _ (l .inv .0) (c .before .before .before .before .before .before .report-piece .ensures) in
-    let long = c .before .before .before .before .before .out .given in
-    (l .inv .0, c .hand-out .ensures, omega (arith, given .within, l .inv .2), omega (arith, long, l .inv .3), omega (arith, long, l .inv .4), l .inv .5)
+    let turn = c .before .before .before .before .before .before .before .before .before .before .before .loop in
+    let piece = c .before .before .before .before .before .before .report-piece .ensures in
+    (turn .inv .0, handing-goes-on (turn .inv .1) (piece-of-file (turn .inv .0) piece) (c .hand-out .ensures), turn .inv .2)
 
 same-length : tie.Need-same-length Inv-loop μ-loop
 same-length c = search needs
@@ -92,9 +88,9 @@ same-length-3 c = search needs
 
 returns : tie.Need-returns Inv-loop μ-loop
 returns c =
-    let l = c .before .before .before .before .before .before .before .before .before .loop in
-    let given = piece-of-file _ _ _ _ _ _ _ _ _ (l .inv .0) (c .before .before .before .before .report-piece .ensures) in
-    l .inv .1 ∙ all-handed given (l .inv .2) (λ more. moves _ _ _ _ _ given more (l .inv .3)) (omega arith)
+    let turn = c .before .before .before .before .before .before .before .before .before .loop in
+    let given = piece-of-file (turn .inv .0) (c .before .before .before .before .report-piece .ensures) in
+    handing-ends (turn .inv .1) given (moves _ given) (omega arith)
 
 pub grade-file-spec : {M : Type 1} → statement M
 grade-file-spec =

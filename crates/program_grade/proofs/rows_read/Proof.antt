@@ -1,4 +1,4 @@
--- `grade::rows_read` meets its contract: a reading that is not refused tells of a circuit. Assumes nothing.
+-- `program_grade::rows_read` meets its contract: a reading that is not refused tells of a circuit. Assumes nothing.
 use mathlib.Core.Path.{sym, _∙_}
 use Prim.Native.Nat.{ℕ}
 use lib.ListN.{length-replicate}

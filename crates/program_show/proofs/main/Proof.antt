@@ -1,4 +1,4 @@
--- `show::main` is safe and ends. The loop's invariant: the buffers keep their lengths. Assumes nothing.
+-- `program_show::main` is safe and ends. The loop's invariant: the buffers keep their lengths. Assumes nothing.
 use Prim.Native.Nat.{_-_}
 use mathlib.Core.Path.{_≡_}
 use lib.ListN.{length}
@@ -28,41 +28,20 @@ loop-holds c = search needs
 add-i : tie.Need-add-i Inv-loop μ-loop
 add-i c = search needs
 
-slice-aggregate-read-input : tie.Need-slice-aggregate-read-input Inv-loop μ-loop
-slice-aggregate-read-input c = search needs
+slice-aggregate-show-input : tie.Need-slice-aggregate-show-input Inv-loop μ-loop
+slice-aggregate-show-input c = search needs
 
-read-input-requires : tie.Need-read-input-requires Inv-loop μ-loop
-read-input-requires c κs = search needs
+slice-aggregate-show-input-2 : tie.Need-slice-aggregate-show-input-2 Inv-loop μ-loop
+slice-aggregate-show-input-2 c = search needs
 
-slice-aggregate-head-input : tie.Need-slice-aggregate-head-input Inv-loop μ-loop
-slice-aggregate-head-input c = search needs
-
-head-input-requires : tie.Need-head-input-requires Inv-loop μ-loop
-head-input-requires c κs = search needs
-
-slice-aggregate-show-file : tie.Need-slice-aggregate-show-file Inv-loop μ-loop
-slice-aggregate-show-file c = search needs
-
-array-share-prefix-file : tie.Need-array-share-prefix-file Inv-loop μ-loop
-array-share-prefix-file c = search needs
-
-slice-aggregate-show-file-2 : tie.Need-slice-aggregate-show-file-2 Inv-loop μ-loop
-slice-aggregate-show-file-2 c = search needs
-
-show-file-requires : tie.Need-show-file-requires Inv-loop μ-loop
-show-file-requires c κs = search needs
+show-input-requires : tie.Need-show-input-requires Inv-loop μ-loop
+show-input-requires c κs = search needs
 
 loop-less : tie.Need-loop-less Inv-loop μ-loop
 loop-less c = search needs
 
 loop-again : tie.Need-loop-again Inv-loop μ-loop
 loop-again c = search needs
-
-loop-less-2 : tie.Need-loop-less-2 Inv-loop μ-loop
-loop-less-2 c = search needs
-
-loop-again-2 : tie.Need-loop-again-2 Inv-loop μ-loop
-loop-again-2 c = search needs
 
 returns : tie.Need-returns Inv-loop μ-loop
 returns c = search needs
@@ -78,16 +57,9 @@ main-spec =
     input-count-requires
     loop-holds
     add-i
-    slice-aggregate-read-input
-    read-input-requires
-    slice-aggregate-head-input
-    head-input-requires
-    slice-aggregate-show-file
-    array-share-prefix-file
-    slice-aggregate-show-file-2
-    show-file-requires
+    slice-aggregate-show-input
+    slice-aggregate-show-input-2
+    show-input-requires
     loop-less
     loop-again
-    loop-less-2
-    loop-again-2
     returns)

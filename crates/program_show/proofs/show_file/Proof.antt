@@ -1,12 +1,11 @@
--- `show::show_file` meets its contract. The loop's invariant: the record is what was read of the file, and the lines before the next were handed over.
+-- `program_show::show_file` meets its contract. The loop's invariant: the record is what was read of the file, and the lines before the next were handed over.
 -- Each turn hands over a line at least. Assumes nothing.
-use Prim.Native.Nat.{_-_, _≤_}
-use mathlib.Core.Path.{_≡_, refl, _∙_}
+use Prim.Native.Nat.{_-_}
 use mathlib.Core.Bool.{true}
 use native.Mathlib.Omega.{arith}
 use borrow.Author.Needs.{needs}
 use lib.ListN.{length}
-use Rattle.print_lines.proofs.HandingLaws.{hands-on, moved, all-handed}
+use Rattle.print_lines.proofs.HandingLaws.{HandingOver, handing-begins, hands-next, less-left, handing-goes-on, handing-ends}
 use Rattle.read_file.specs.ReadStages.{ReadByStages}
 use Rattle.print_circuit.specs.Listing.{listingOfFile}
 use Rattle.program_show.proofs.HandingLaws.{piece-of-file}
@@ -15,7 +14,7 @@ use Rattle.program_show.proofs.show_file.Tie as tie
 
 abbrev Inv-loop : tie.InvT-loop
 Inv-loop out₀ file reading handed₀ next₀ out handed next =
-    ReadByStages true file reading × (handed .lines ≡ next) × (next ≤ length (listingOfFile file)) × (512 ≤ length out) × (length out ≡ length out₀)
+    ReadByStages true file reading × HandingOver (length (listingOfFile file)) (handed .lines) next out₀ out
 
 abbrev μ-loop : tie.MeasureT-loop
 μ-loop out₀ file reading handed₀ next₀ out handed next = length (listingOfFile file) - next
@@ -27,7 +26,7 @@ none-handed-requires : tie.Need-none-handed-requires Inv-loop μ-loop
 none-handed-requires c κs = search needs
 
 loop-holds : tie.Need-loop-holds Inv-loop μ-loop
-loop-holds c = (c .before .read-stages .ensures, c .none-handed .ensures, omega arith, c .before .before .before .before .pre, refl)
+loop-holds c = (c .before .read-stages .ensures, handing-begins (c .none-handed .ensures) (c .before .before .before .before .pre))
 
 show-piece-requires : tie.Need-show-piece-requires Inv-loop μ-loop
 show-piece-requires c κs = search needs
@@ -35,21 +34,20 @@ show-piece-requires c κs = search needs
 hand-out-requires : tie.Need-hand-out-requires Inv-loop μ-loop
 hand-out-requires c κs =
     let turn = c .before .before .before .before .before .before .before .loop in
-    let of-file = piece-of-file _ _ _ _ _ _ (turn .inv .0) (c .before .before .before .before .before .show-piece .ensures) in
-    rw (turn .inv .1) (hands-on (of-file .given))
+    let piece = c .before .before .before .before .before .show-piece .ensures in
+    hands-next (turn .inv .1) (piece-of-file (turn .inv .0) piece .given)
 
 loop-less : tie.Need-loop-less Inv-loop μ-loop
 loop-less c =
     let turn = c .before .before .before .before .before .before .before .before .loop in
-    let of-file = piece-of-file _ _ _ _ _ _ (turn .inv .0) (c .before .before .before .before .before .before .show-piece .ensures) in
-    omega (arith, moved (of-file .given) (omega arith), of-file .given .within, turn .inv .2)
+    let piece = c .before .before .before .before .before .before .show-piece .ensures in
+    less-left (turn .inv .1) (piece-of-file (turn .inv .0) piece .given) (omega arith)
 
 loop-again : tie.Need-loop-again Inv-loop μ-loop
 loop-again c =
     let turn = c .before .before .before .before .before .before .before .before .loop in
-    let of-file = piece-of-file _ _ _ _ _ _ (turn .inv .0) (c .before .before .before .before .before .before .show-piece .ensures) in
-    let long = c .before .before .before .before .before .out .given in
-    (turn .inv .0, c .hand-out .ensures, omega (arith, of-file .given .within, turn .inv .2), omega (arith, long, turn .inv .3), omega (arith, long, turn .inv .4))
+    let piece = c .before .before .before .before .before .before .show-piece .ensures in
+    (turn .inv .0, handing-goes-on (turn .inv .1) (piece-of-file (turn .inv .0) piece .given) (c .hand-out .ensures))
 
 same-length : tie.Need-same-length Inv-loop μ-loop
 same-length c = search needs
@@ -57,8 +55,8 @@ same-length c = search needs
 returns : tie.Need-returns Inv-loop μ-loop
 returns c =
     let turn = c .before .before .before .before .before .before .loop in
-    let of-file = piece-of-file _ _ _ _ _ _ (turn .inv .0) (c .before .before .before .before .show-piece .ensures) in
-    turn .inv .1 ∙ all-handed (of-file .given) (turn .inv .2) (λ more. of-file .moves more (turn .inv .3)) (omega arith)
+    let of-file = piece-of-file (turn .inv .0) (c .before .before .before .before .show-piece .ensures) in
+    handing-ends (turn .inv .1) (of-file .given) (of-file .moves) (omega arith)
 
 pub show-file-spec : {M : Type 1} → statement M
 show-file-spec =

@@ -8,23 +8,42 @@ use Rattle.print_circuit.proofs.Putting.{SoFar, start, piece, byte, nex
 use Rattle.print_circuit.proofs.lines.bridge_line.Statement.{statement}
 use Rattle.print_circuit.proofs.lines.bridge_line.Tie as tie
 
--- the text after each call: what the calls have added, one by one, and how many bytes that is at most
-line-1 : (c : tie.After-put-bytes) → SoFar (c .before .before .before .before .args .out .now) (c .before .before .before .before .args .at) 512 6 (c .put-bytes .last .0) (c .put-bytes .result)
-line-1 c = piece (start (c .before .before .before .before .pre)) 6 (bytesOf "bridge") (omega arith) (omega arith) (c .put-bytes .ensures)
+-- where the function began, seen from each call
+abbrev start-1 : tie.After-put-bytes → tie.Start
+start-1 c = c .before .before .before .before
 
-line-2 : (c : tie.After-put-spaced) → SoFar (c .before .before .before .before .before .before .before .before .before .args .out .now) (c .before .before .before .before .before .before .before .before .before .args .at) 512 28 (c .put-spaced .last .0) (c .put-spaced .result)
+abbrev start-2 : tie.After-put-spaced → tie.Start
+start-2 c = start-1 (c .before .before .before .before .before)
+
+abbrev start-3 : tie.After-put-kind → tie.Start
+start-3 c = start-2 (c .before .before .before .before)
+
+abbrev start-4 : tie.After-put-spaced2 → tie.Start
+start-4 c = start-3 (c .before .before .before .before .before)
+
+abbrev start-5 : tie.After-put-spaced3 → tie.Start
+start-5 c = start-4 (c .before .before .before .before .before)
+
+abbrev start-6 : tie.After-put-byte → tie.Start
+start-6 c = start-5 (c .before .before .before .before)
+
+-- the text after each call: what the calls have added, one by one, and how many bytes that is at most
+line-1 : (c : tie.After-put-bytes) → SoFar (start-1 c .args .out .now) (start-1 c .args .at) 512 6 (c .put-bytes .last .0) (c .put-bytes .result)
+line-1 c = piece (start (start-1 c .pre)) 6 (bytesOf "bridge") (omega arith) (omega arith) (c .put-bytes .ensures)
+
+line-2 : (c : tie.After-put-spaced) → SoFar (start-2 c .args .out .now) (start-2 c .args .at) 512 28 (c .put-spaced .last .0) (c .put-spaced .result)
 line-2 c = next-number (line-1 (c .before .before .before .before .before)) _ (omega arith) (c .put-spaced .ensures)
 
-line-3 : (c : tie.After-put-kind) → SoFar (c .before .before .before .before .before .before .before .before .before .before .before .before .before .args .out .now) (c .before .before .before .before .before .before .before .before .before .before .before .before .before .args .at) 512 30 (c .put-kind .last .0) (c .put-kind .result)
+line-3 : (c : tie.After-put-kind) → SoFar (start-3 c .args .out .now) (start-3 c .args .at) 512 30 (c .put-kind .last .0) (c .put-kind .result)
 line-3 c = piece (line-2 (c .before .before .before .before)) 2 (kindText _) (kind-short _) (omega arith) (c .put-kind .ensures)
 
-line-4 : (c : tie.After-put-spaced2) → SoFar (c .before .before .before .before .before .before .before .before .before .before .before .before .before .before .before .before .before .before .args .out .now) (c .before .before .before .before .before .before .before .before .before .before .before .before .before .before .before .before .before .before .args .at) 512 52 (c .put-spaced2 .last .0) (c .put-spaced2 .result)
+line-4 : (c : tie.After-put-spaced2) → SoFar (start-4 c .args .out .now) (start-4 c .args .at) 512 52 (c .put-spaced2 .last .0) (c .put-spaced2 .result)
 line-4 c = next-number (line-3 (c .before .before .before .before .before)) _ (omega arith) (c .put-spaced2 .ensures)
 
-line-5 : (c : tie.After-put-spaced3) → SoFar (c .before .before .before .before .before .before .before .before .before .before .before .before .before .before .before .before .before .before .before .before .before .before .before .args .out .now) (c .before .before .before .before .before .before .before .before .before .before .before .before .before .before .before .before .before .before .before .before .before .before .before .args .at) 512 74 (c .put-spaced3 .last .0) (c .put-spaced3 .result)
+line-5 : (c : tie.After-put-spaced3) → SoFar (start-5 c .args .out .now) (start-5 c .args .at) 512 74 (c .put-spaced3 .last .0) (c .put-spaced3 .result)
 line-5 c = next-number (line-4 (c .before .before .before .before .before)) _ (omega arith) (c .put-spaced3 .ensures)
 
-line-6 : (c : tie.After-put-byte) → SoFar (c .before .before .before .before .before .before .before .before .before .before .before .before .before .before .before .before .before .before .before .before .before .before .before .before .before .before .before .args .out .now) (c .before .before .before .before .before .before .before .before .before .before .before .before .before .before .before .before .before .before .before .before .before .before .before .before .before .before .before .args .at) 512 75 (c .put-byte .last .0) (c .put-byte .result)
+line-6 : (c : tie.After-put-byte) → SoFar (start-6 c .args .out .now) (start-6 c .args .at) 512 75 (c .put-byte .last .0) (c .put-byte .result)
 line-6 c = byte (line-5 (c .before .before .before .before)) 10 (omega arith) (c .put-byte .ensures)
 
 slice-aggregate-put-bytes : tie.Need-slice-aggregate-put-bytes
@@ -62,7 +81,7 @@ same-length c = search needs
 
 returns : tie.Need-returns
 unfolding start piece byte next-number line-1 line-2 line-3 line-4 line-5 line-6
-returns c = whole (line-6 (c .before .before)) (bridge-is (c .before .before .before .before .before .before .before .before .before .before .before .before .before .before .before .before .before .before .before .before .before .before .before .before .before .before .before .before .before .args .b))
+returns c = whole (line-6 (c .before .before)) (bridge-is (start-6 (c .before .before) .args .b))
 
 pub bridge-line-spec : {M : Type 1} → statement M
 bridge-line-spec =

@@ -8,14 +8,24 @@ use Rattle.print_circuit.proofs.Putting.{SoFar, start, piece, byte, nex
 use Rattle.print_circuit.proofs.lines.inputs_line.Statement.{statement}
 use Rattle.print_circuit.proofs.lines.inputs_line.Tie as tie
 
--- the text after each call: what the calls have added, one by one, and how many bytes that is at most
-line-1 : (c : tie.After-put-bytes) → SoFar (c .before .before .before .before .args .out .now) (c .before .before .before .before .args .at) 512 6 (c .put-bytes .last .0) (c .put-bytes .result)
-line-1 c = piece (start (c .before .before .before .before .pre)) 6 (bytesOf "inputs") (omega arith) (omega arith) (c .put-bytes .ensures)
+-- where the function began, seen from each call
+abbrev start-1 : tie.After-put-bytes → tie.Start
+start-1 c = c .before .before .before .before
 
-line-2 : (c : tie.After-put-spaced) → SoFar (c .before .before .before .before .before .before .before .before .args .out .now) (c .before .before .before .before .before .before .before .before .args .at) 512 28 (c .put-spaced .last .0) (c .put-spaced .result)
+abbrev start-2 : tie.After-put-spaced → tie.Start
+start-2 c = start-1 (c .before .before .before .before)
+
+abbrev start-3 : tie.After-put-byte → tie.Start
+start-3 c = start-2 (c .before .before .before .before)
+
+-- the text after each call: what the calls have added, one by one, and how many bytes that is at most
+line-1 : (c : tie.After-put-bytes) → SoFar (start-1 c .args .out .now) (start-1 c .args .at) 512 6 (c .put-bytes .last .0) (c .put-bytes .result)
+line-1 c = piece (start (start-1 c .pre)) 6 (bytesOf "inputs") (omega arith) (omega arith) (c .put-bytes .ensures)
+
+line-2 : (c : tie.After-put-spaced) → SoFar (start-2 c .args .out .now) (start-2 c .args .at) 512 28 (c .put-spaced .last .0) (c .put-spaced .result)
 line-2 c = next-number (line-1 (c .before .before .before .before)) _ (omega arith) (c .put-spaced .ensures)
 
-line-3 : (c : tie.After-put-byte) → SoFar (c .before .before .before .before .before .before .before .before .before .before .before .before .args .out .now) (c .before .before .before .before .before .before .before .before .before .before .before .before .args .at) 512 29 (c .put-byte .last .0) (c .put-byte .result)
+line-3 : (c : tie.After-put-byte) → SoFar (start-3 c .args .out .now) (start-3 c .args .at) 512 29 (c .put-byte .last .0) (c .put-byte .result)
 line-3 c = byte (line-2 (c .before .before .before .before)) 10 (omega arith) (c .put-byte .ensures)
 
 slice-aggregate-put-bytes : tie.Need-slice-aggregate-put-bytes

@@ -10,23 +10,42 @@ use Rattle.print_circuit.proofs.Putting.{SoFar, start, piece, byte, nex
 use Rattle.print_circuit.proofs.lines.instance_line.Statement.{statement}
 use Rattle.print_circuit.proofs.lines.instance_line.Tie as tie
 
--- the text after each call: what the calls have added, one by one, and how many bytes that is at most
-line-1 : (c : tie.After-put-bytes) → SoFar (c .before .before .before .before .before .args .out .now) (c .before .before .before .before .before .args .at) 512 8 (c .put-bytes .last .0) (c .put-bytes .result)
-line-1 c = piece (start (c .before .before .before .before .before .pre)) 8 (bytesOf "instance") (omega arith) (omega arith) (c .put-bytes .ensures)
+-- where the function began, seen from each call
+abbrev start-1 : tie.After-put-bytes → tie.Start
+start-1 c = c .before .before .before .before .before
 
-line-2 : (c : tie.After-put-spaced) → SoFar (c .before .before .before .before .before .before .before .before .before .args .out .now) (c .before .before .before .before .before .before .before .before .before .args .at) 512 30 (c .put-spaced .last .0) (c .put-spaced .result)
+abbrev start-2 : tie.After-put-spaced → tie.Start
+start-2 c = start-1 (c .before .before .before .before)
+
+abbrev start-3 : tie.After-put-spaced2 → tie.Start
+start-3 c = start-2 (c .before .before .before .before .before)
+
+abbrev start-4 : tie.After-put-choice → tie.Start
+start-4 c = start-3 (c .before .before .before .before)
+
+abbrev start-5 : tie.After-put-references → tie.Start
+start-5 c = start-4 (c .before .before .before .before)
+
+abbrev start-6 : tie.After-put-byte → tie.Start
+start-6 c = start-5 (c .before .before .before .before)
+
+-- the text after each call: what the calls have added, one by one, and how many bytes that is at most
+line-1 : (c : tie.After-put-bytes) → SoFar (start-1 c .args .out .now) (start-1 c .args .at) 512 8 (c .put-bytes .last .0) (c .put-bytes .result)
+line-1 c = piece (start (start-1 c .pre)) 8 (bytesOf "instance") (omega arith) (omega arith) (c .put-bytes .ensures)
+
+line-2 : (c : tie.After-put-spaced) → SoFar (start-2 c .args .out .now) (start-2 c .args .at) 512 30 (c .put-spaced .last .0) (c .put-spaced .result)
 line-2 c = next-number (line-1 (c .before .before .before .before)) _ (omega arith) (c .put-spaced .ensures)
 
-line-3 : (c : tie.After-put-spaced2) → SoFar (c .before .before .before .before .before .before .before .before .before .before .before .before .before .before .args .out .now) (c .before .before .before .before .before .before .before .before .before .before .before .before .before .before .args .at) 512 52 (c .put-spaced2 .last .0) (c .put-spaced2 .result)
+line-3 : (c : tie.After-put-spaced2) → SoFar (start-3 c .args .out .now) (start-3 c .args .at) 512 52 (c .put-spaced2 .last .0) (c .put-spaced2 .result)
 line-3 c = next-number (line-2 (c .before .before .before .before .before)) _ (omega arith) (c .put-spaced2 .ensures)
 
-line-4 : (c : tie.After-put-choice) → SoFar (c .before .before .before .before .before .before .before .before .before .before .before .before .before .before .before .before .before .before .args .out .now) (c .before .before .before .before .before .before .before .before .before .before .before .before .before .before .before .before .before .before .args .at) 512 74 (c .put-choice .last .0) (c .put-choice .result)
+line-4 : (c : tie.After-put-choice) → SoFar (start-4 c .args .out .now) (start-4 c .args .at) 512 74 (c .put-choice .last .0) (c .put-choice .result)
 line-4 c = piece (line-3 (c .before .before .before .before)) 22 (choiceText _) (choice-short _) (omega arith) (c .put-choice .ensures)
 
-line-5 : (c : tie.After-put-references) → SoFar (c .before .before .before .before .before .before .before .before .before .before .before .before .before .before .before .before .before .before .before .before .before .before .args .out .now) (c .before .before .before .before .before .before .before .before .before .before .before .before .before .before .before .before .before .before .before .before .before .before .args .at) 512 350 (c .put-references .last .0) (c .put-references .result)
+line-5 : (c : tie.After-put-references) → SoFar (start-5 c .args .out .now) (start-5 c .args .at) 512 350 (c .put-references .last .0) (c .put-references .result)
 line-5 c = piece (line-4 (c .before .before .before .before)) 276 _ (omega (arith, (c .put-references .ensures) .0 .0, (c .put-references .ensures) .1)) (omega arith) ((c .put-references .ensures) .0)
 
-line-6 : (c : tie.After-put-byte) → SoFar (c .before .before .before .before .before .before .before .before .before .before .before .before .before .before .before .before .before .before .before .before .before .before .before .before .before .before .args .out .now) (c .before .before .before .before .before .before .before .before .before .before .before .before .before .before .before .before .before .before .before .before .before .before .before .before .before .before .args .at) 512 351 (c .put-byte .last .0) (c .put-byte .result)
+line-6 : (c : tie.After-put-byte) → SoFar (start-6 c .args .out .now) (start-6 c .args .at) 512 351 (c .put-byte .last .0) (c .put-byte .result)
 line-6 c = byte (line-5 (c .before .before .before .before)) 10 (omega arith) (c .put-byte .ensures)
 
 slice-aggregate-put-bytes : tie.Need-slice-aggregate-put-bytes

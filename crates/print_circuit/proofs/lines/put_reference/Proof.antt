@@ -8,11 +8,18 @@ use borrow.Author.Needs.{needs}
 use Rattle.print_circuit.proofs.lines.put_reference.Statement.{statement}
 use Rattle.print_circuit.proofs.lines.put_reference.Tie as tie
 
--- the text after each call: what the calls have added, one by one, and how many bytes that is at most
-line-1 : (c : tie.After-put-bytes) → SoFar (c .before .before .before .before .before .args .out .now) (c .before .before .before .before .before .args .at) 23 2 (c .put-bytes .last .0) (c .put-bytes .result)
-line-1 c = piece (start (c .before .before .before .before .before .pre)) 2 (bytesOf " -") (omega arith) (omega arith) (c .put-bytes .ensures)
+-- where the function began, seen from each call
+abbrev start-1 : tie.After-put-bytes → tie.Start
+start-1 c = c .before .before .before .before .before
 
-line-2 : (c : tie.After-put-number) → SoFar (c .before .before .before .before .before .before .before .before .before .before .args .out .now) (c .before .before .before .before .before .before .before .before .before .before .args .at) 23 23 (c .put-number .last .0) (c .put-number .result)
+abbrev start-2 : tie.After-put-number → tie.Start
+start-2 c = start-1 (c .before .before .before .before .before)
+
+-- the text after each call: what the calls have added, one by one, and how many bytes that is at most
+line-1 : (c : tie.After-put-bytes) → SoFar (start-1 c .args .out .now) (start-1 c .args .at) 23 2 (c .put-bytes .last .0) (c .put-bytes .result)
+line-1 c = piece (start (start-1 c .pre)) 2 (bytesOf " -") (omega arith) (omega arith) (c .put-bytes .ensures)
+
+line-2 : (c : tie.After-put-number) → SoFar (start-2 c .args .out .now) (start-2 c .args .at) 23 23 (c .put-number .last .0) (c .put-number .result)
 line-2 c = number (line-1 (c .before .before .before .before .before)) _ (omega arith) (c .put-number .ensures)
 
 slice-aggregate-put-bytes : tie.Need-slice-aggregate-put-bytes
@@ -32,7 +39,7 @@ same-length c = search needs
 
 returns : tie.Need-returns
 unfolding start piece number line-1 line-2
-returns c = puts-same _ _ (reference-earlier (c .before .before .before .before .before .before .before .before .before .before .before .before .args .reference) (c .before .before .before .before .before .before .before .before .before .before .if1 .taken)) (whole (line-2 (c .before .before)) refl)
+returns c = puts-same _ _ (reference-earlier (start-2 (c .before .before) .args .reference) (c .before .before .before .before .before .before .before .before .before .before .if1 .taken)) (whole (line-2 (c .before .before)) refl)
 
 cast-put-spaced : tie.Need-cast-put-spaced
 cast-put-spaced c = search needs

@@ -12,20 +12,36 @@ use Rattle.print_circuit.proofs.Putting.{SoFar, start, piece, byte, nex
 use Rattle.print_circuit.proofs.lines.vector_line.Statement.{statement}
 use Rattle.print_circuit.proofs.lines.vector_line.Tie as tie
 
--- the text after each call: what the calls have added, one by one, and how many bytes that is at most
-line-1 : (c : tie.After-put-bytes) → SoFar (c .before .before .before .before .args .out .now) (c .before .before .before .before .args .at) 512 6 (c .put-bytes .last .0) (c .put-bytes .result)
-line-1 c = piece (start (c .before .before .before .before .pre)) 6 (bytesOf "vector") (omega arith) (omega arith) (c .put-bytes .ensures)
+-- where the function began, seen from each call
+abbrev start-1 : tie.After-put-bytes → tie.Start
+start-1 c = c .before .before .before .before
 
-line-2 : (c : tie.After-put-spaced) → SoFar (c .before .before .before .before .before .before .before .before .args .out .now) (c .before .before .before .before .before .before .before .before .args .at) 512 28 (c .put-spaced .last .0) (c .put-spaced .result)
+abbrev start-2 : tie.After-put-spaced → tie.Start
+start-2 c = start-1 (c .before .before .before .before)
+
+abbrev start-3 : tie.After-put-byte → tie.Start
+start-3 c = start-2 (c .before .before .before .before)
+
+abbrev start-4 : tie.After-put-letters → tie.Start
+start-4 c = start-3 (c .before .before .before .before .before)
+
+abbrev start-5 : tie.After-put-byte2 → tie.Start
+start-5 c = start-4 (c .before .before .before .before)
+
+-- the text after each call: what the calls have added, one by one, and how many bytes that is at most
+line-1 : (c : tie.After-put-bytes) → SoFar (start-1 c .args .out .now) (start-1 c .args .at) 512 6 (c .put-bytes .last .0) (c .put-bytes .result)
+line-1 c = piece (start (start-1 c .pre)) 6 (bytesOf "vector") (omega arith) (omega arith) (c .put-bytes .ensures)
+
+line-2 : (c : tie.After-put-spaced) → SoFar (start-2 c .args .out .now) (start-2 c .args .at) 512 28 (c .put-spaced .last .0) (c .put-spaced .result)
 line-2 c = next-number (line-1 (c .before .before .before .before)) _ (omega arith) (c .put-spaced .ensures)
 
-line-3 : (c : tie.After-put-byte) → SoFar (c .before .before .before .before .before .before .before .before .before .before .before .before .args .out .now) (c .before .before .before .before .before .before .before .before .before .before .before .before .args .at) 512 29 (c .put-byte .last .0) (c .put-byte .result)
+line-3 : (c : tie.After-put-byte) → SoFar (start-3 c .args .out .now) (start-3 c .args .at) 512 29 (c .put-byte .last .0) (c .put-byte .result)
 line-3 c = byte (line-2 (c .before .before .before .before)) 32 (omega arith) (c .put-byte .ensures)
 
-line-4 : (c : tie.After-put-letters) → SoFar (c .before .before .before .before .before .before .before .before .before .before .before .before .before .before .before .before .before .args .out .now) (c .before .before .before .before .before .before .before .before .before .before .before .before .before .before .before .before .before .args .at) 512 93 (c .put-letters .last .0) (c .put-letters .result)
+line-4 : (c : tie.After-put-letters) → SoFar (start-4 c .args .out .now) (start-4 c .args .at) 512 93 (c .put-letters .last .0) (c .put-letters .result)
 line-4 c = piece (line-3 (c .before .before .before .before .before)) 64 _ (letters-short _ _ (omega (arith, c .before .at-most .ensures))) (omega arith) (c .put-letters .ensures)
 
-line-5 : (c : tie.After-put-byte2) → SoFar (c .before .before .before .before .before .before .before .before .before .before .before .before .before .before .before .before .before .before .before .before .before .args .out .now) (c .before .before .before .before .before .before .before .before .before .before .before .before .before .before .before .before .before .before .before .before .before .args .at) 512 94 (c .put-byte2 .last .0) (c .put-byte2 .result)
+line-5 : (c : tie.After-put-byte2) → SoFar (start-5 c .args .out .now) (start-5 c .args .at) 512 94 (c .put-byte2 .last .0) (c .put-byte2 .result)
 line-5 c = byte (line-4 (c .before .before .before .before)) 10 (omega arith) (c .put-byte2 .ensures)
 
 slice-aggregate-put-bytes : tie.Need-slice-aggregate-put-bytes
@@ -55,10 +71,11 @@ same-length c = search needs
 returns : tie.Need-returns
 unfolding start piece byte next-number vectorLine line-1 line-2 line-3 line-4 line-5
 returns c =
-    let start = c .before .before .before .before .before .before .before .before .before .before .before .before .before .before .before .before .before .before .before .before .before .before .before in
+    let began = start-5 (c .before .before) in
+    let held = c .before .before .before .before .before .before .before in
     whole (line-5 (c .before .before))
-    (ap (λ (v : List Value). bytesOf "vector" ++ spaced (start .args .number) ++ space ++ map valueLetter v ++ newline)
-    (vector-held (start .args .inputs) (c .before .before .before .before .before .before .before .at-most .result) (start .args .v) (c .before .before .before .before .before .before .before .at-most .ensures)))
+    (ap (λ (v : List Value). bytesOf "vector" ++ spaced (began .args .number) ++ space ++ map valueLetter v ++ newline)
+    (vector-held (began .args .inputs) (held .at-most .result) (began .args .v) (held .at-most .ensures)))
 
 pub vector-line-spec : {M : Type 1} → statement M
 vector-line-spec =

@@ -1,13 +1,10 @@
 -- `print_circuit::parts::edge_part` meets its contract. Assumes nothing.
-use Prim.Native.Nat.{_<_}
-use mathlib.Core.Path.{_≡_, _∙_}
-use mathlib.Core.List.{List, map}
-use native.Mathlib.Omega.{arith}
-use lib.ListN.{length, take}
+use mathlib.Core.List.{List}
 use Rattle.switch.specs.Records.{edgeOf, edgesOf}
 use Rattle.switch.specs.declared.Edge.{Edge as EdgeRecord}
+use Rattle.circuit.specs.Limits.{mostEdges}
 use Rattle.print_circuit.specs.Lines.{edgeLine}
-use Rattle.print_circuit.proofs.PartLaws.{part-past, part-here, size-used, size-mapped, mapped-at}
+use Rattle.print_circuit.proofs.PartLaws.{mapped-past, mapped-here}
 use borrow.Author.Needs.{needs}
 use Rattle.print_circuit.proofs.parts.edge_part.Statement.{statement}
 use Rattle.print_circuit.proofs.parts.edge_part.Tie as tie
@@ -20,9 +17,7 @@ unfolding edgesOf
 returns c =
     let start = c .before .before .before in
     let l : List EdgeRecord = start .args .t2 in
-    let held = c .before .at-most .ensures in
-    let size : length (take (start .args .count) l) ≡ c .before .at-most .result = size-used l (start .args .count) _ 64 (start .good .1 .0 .1 .0 .1) held in
-    part-past (map edgeLine (map edgeOf (take (start .args .count) l))) 64 (start .args .n) (start .args .line .now) (c .before .at-most .result) (size-mapped edgeOf (start .args .count) l edgeLine ∙ size) (omega (arith, held)) (c .if1 .taken)
+    mapped-past edgeOf (start .args .count) l mostEdges (start .good .1 .0 .1 .0 .1) (c .before .at-most .ensures) edgeLine (c .if1 .taken)
 
 mul-edge-line : tie.Need-mul-edge-line
 mul-edge-line c = search needs
@@ -39,13 +34,11 @@ same-length c = search needs
 returns-2 : tie.Need-returns-2
 unfolding edgesOf
 returns-2 c =
-    let start = c .before .before .before .before .before .before .before .before in
+    let asked = c .before .before .before .before .before .before in
+    let start = asked .before .before in
     let l : List EdgeRecord = start .args .t2 in
-    let held = c .before .before .before .before .before .before .at-most .ensures in
-    let size : length (take (start .args .count) l) ≡ c .before .before .before .before .before .before .at-most .result = size-used l (start .args .count) _ 64 (start .good .1 .0 .1 .0 .1) held in
-    let inside : start .args .n < c .before .before .before .before .before .before .at-most .result = c .before .before .before .before .before .if1 .left in
-    part-here (map edgeLine (map edgeOf (take (start .args .count) l))) 64 (start .args .n) (start .args .line .now) (c .before .before .before .before .before .before .at-most .result) (size-mapped edgeOf (start .args .count) l edgeLine ∙ size) (omega (arith, held)) inside
-    (mapped-at edgeOf (start .args .count) l (start .args .n) _ (omega arith) edgeLine) (c .before .before .edge-line .ensures)
+    mapped-here edgeOf (start .args .count) l mostEdges (start .good .1 .0 .1 .0 .1) (asked .at-most .ensures) edgeLine _
+    (c .before .before .before .before .before .if1 .left) (c .before .before .edge-line .ensures)
 
 pub edge-part-spec : {M : Type 1} → statement M
 edge-part-spec =

@@ -1,16 +1,15 @@
 -- `print_circuit::parts::instance_part` meets its contract. Assumes nothing.
-use Prim.Native.Nat.{ℕ, _+_, _<_}
-use mathlib.Core.Path.{_≡_, ap, _∙_}
+use Prim.Native.Nat.{ℕ, _+_}
+use mathlib.Core.Path.{ap}
 use mathlib.Core.List.{List, [], map}
-use native.Mathlib.Omega.{arith}
-use lib.ListN.{length, getD, take}
+use lib.ListN.{getD, take}
 use Rattle.switch.specs.Records.{typeOf}
+use Rattle.circuit.specs.Limits.{mostInstances}
 use Rattle.circuit.specs.declared.Instance.{Instance as InstanceRecord}
 use Rattle.print_circuit.specs.Lines.{instanceLine}
-use Rattle.print_circuit.specs.Listing.{numberedLines}
 use Rattle.print_circuit.specs.Told.{instanceWith, instanceTold}
 use Rattle.print_circuit.proofs.Putting.{puts-same}
-use Rattle.print_circuit.proofs.PartLaws.{part-past, part-here, size-used, size-numbered, numbered-at}
+use Rattle.print_circuit.proofs.PartLaws.{numbered-past, numbered-here}
 use borrow.Author.Needs.{needs}
 use Rattle.print_circuit.proofs.parts.instance_part.Statement.{statement}
 use Rattle.print_circuit.proofs.parts.instance_part.Tie as tie
@@ -27,9 +26,8 @@ unfolding instanceTold
 returns c =
     let start = c .before .before .before in
     let l : List InstanceRecord = start .args .t2 in
-    let held = c .before .at-most .ensures in
-    let size : length (take (start .args .count) l) ≡ c .before .at-most .result = size-used l (start .args .count) _ 128 (start .good .1 .0 .1 .0 .1) held in
-    part-past (numberedLines instanceLine 1 (map (instanceTold (map typeOf (take (start .args .type-count) (start .args .types)))) (take (start .args .count) l))) 128 (start .args .n) (start .args .line .now) (c .before .at-most .result) (size-numbered (instanceTold (map typeOf (take (start .args .type-count) (start .args .types)))) (start .args .count) l instanceLine ∙ size) (omega (arith, held)) (c .if1 .taken)
+    let told = instanceTold (map typeOf (take (start .args .type-count) (start .args .types))) in
+    numbered-past told (start .args .count) l mostInstances (start .good .1 .0 .1 .0 .1) (c .before .at-most .ensures) instanceLine (c .if1 .taken)
 
 mul-instance : tie.Need-mul-instance
 mul-instance c = search needs
@@ -55,13 +53,14 @@ same-length c = search needs
 returns-2 : tie.Need-returns-2
 unfolding instanceTold
 returns-2 c =
-    let start = c .before .before .before .before .before .before .before .before .before .before in
+    let asked = c .before .before .before .before .before .before .before .before in
+    let start = asked .before .before in
+    let n = start .args .n in
     let l : List InstanceRecord = start .args .t2 in
-    let held = c .before .before .before .before .before .before .before .before .at-most .ensures in
-    let size : length (take (start .args .count) l) ≡ c .before .before .before .before .before .before .before .before .at-most .result = size-used l (start .args .count) _ 128 (start .good .1 .0 .1 .0 .1) held in
-    let inside : start .args .n < c .before .before .before .before .before .before .before .before .at-most .result = c .before .before .before .before .before .before .before .if1 .left in
-    part-here (numberedLines instanceLine 1 (map (instanceTold (map typeOf (take (start .args .type-count) (start .args .types)))) (take (start .args .count) l))) 128 (start .args .n) (start .args .line .now) (c .before .before .before .before .before .before .before .before .at-most .result) (size-numbered (instanceTold (map typeOf (take (start .args .type-count) (start .args .types)))) (start .args .count) l instanceLine ∙ size) (omega (arith, held)) inside
-    (numbered-at (instanceTold (map typeOf (take (start .args .type-count) (start .args .types)))) (start .args .count) l (start .args .n) blank (omega arith) instanceLine) (puts-same _ _ (ap (λ (k : ℕ). instanceLine (start .args .n + 1) (instanceWith k (getD l (start .args .n) blank))) (c .before .before .before .before .labels-of .ensures)) (c .before .before .instance-line .ensures))
+    let told = instanceTold (map typeOf (take (start .args .type-count) (start .args .types))) in
+    let labels = ap (λ (k : ℕ). instanceLine (n + 1) (instanceWith k (getD l n blank))) (c .before .before .before .before .labels-of .ensures) in
+    numbered-here told (start .args .count) l mostInstances (start .good .1 .0 .1 .0 .1) (asked .at-most .ensures) instanceLine blank
+    (c .before .before .before .before .before .before .before .if1 .left) (puts-same _ _ labels (c .before .before .instance-line .ensures))
 
 pub instance-part-spec : {M : Type 1} → statement M
 instance-part-spec =

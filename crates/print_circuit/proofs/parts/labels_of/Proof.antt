@@ -3,6 +3,7 @@ use mathlib.Core.List.{List, map}
 use native.Mathlib.Omega.{arith}
 use lib.ListN.{take, length-map}
 use Rattle.switch.specs.Records.{typeOf}
+use Rattle.circuit.specs.Limits.{mostTypes}
 use Rattle.switch.specs.declared.ModuleType.{ModuleType as TypeRecord}
 use Rattle.print_circuit.proofs.PartLaws.{size-used, labels-none, labels-past, labels-here}
 use borrow.Author.Needs.{needs}
@@ -19,7 +20,7 @@ returns-2 : tie.Need-returns-2
 returns-2 c =
     let start = c .before .before .before in
     let l : List TypeRecord = start .args .t1 in
-    let size = size-used l (start .args .count) _ 16 (start .good .0 .1 .0 .1) (c .before .before .at-most .ensures) in
+    let size = size-used l (start .args .count) _ mostTypes (start .good .0 .1 .0 .1) (c .before .before .at-most .ensures) in
     labels-past (map typeOf (take (start .args .count) l)) (start .args .number) (omega (arith, size, length-map (take (start .args .count) l) typeOf))
 
 mul-t : tie.Need-mul-t
@@ -35,7 +36,7 @@ returns-3 : tie.Need-returns-3
 returns-3 c =
     let start = c .before .before .before .before .before in
     let l : List TypeRecord = start .args .t1 in
-    let size = size-used l (start .args .count) _ 16 (start .good .0 .1 .0 .1) (c .before .before .before .before .at-most .ensures) in
+    let size = size-used l (start .args .count) _ mostTypes (start .good .0 .1 .0 .1) (c .before .before .before .before .at-most .ensures) in
     labels-here l (start .args .count) (start .args .number) _ (omega arith) (omega (arith, size))
 
 pub labels-of-spec : {M : Type 1} → statement M

@@ -1,6 +1,8 @@
 -- `print_circuit::parts::one_type` meets its contract. Assumes nothing.
 use Rattle.switch.specs.Records.{typeOf}
+use Rattle.circuit.specs.Limits.{mostEdges}
 use Rattle.print_circuit.specs.Listing.{typeLines}
+use Rattle.print_circuit.specs.Puts.{mostOfType}
 use Rattle.print_circuit.proofs.PartLaws.{part-first, part-later}
 use borrow.Author.Needs.{needs}
 use Rattle.print_circuit.proofs.parts.one_type.Statement.{statement}
@@ -14,7 +16,7 @@ same-length c = search needs
 
 returns : tie.Need-returns
 unfolding typeLines
-returns c = part-first _ _ 65 _ _ (c .before .before .before .before .if1 .taken) (c .before .before .type-line .ensures)
+returns c = part-first _ _ mostOfType _ _ (c .before .before .before .before .if1 .taken) (c .before .before .type-line .ensures)
 
 sub-edge-part : tie.Need-sub-edge-part
 sub-edge-part c = search needs
@@ -27,7 +29,7 @@ same-length-2 c = search needs
 
 returns-2 : tie.Need-returns-2
 unfolding typeLines typeOf
-returns-2 c = part-later _ _ 64 _ _ _ _ (c .before .before .before .before .before .if1 .left) (c .before .before .edge-part .ensures)
+returns-2 c = part-later _ _ mostEdges _ _ _ _ (c .before .before .before .before .before .if1 .left) (c .before .before .edge-part .ensures)
 
 pub one-type-spec : {M : Type 1} → statement M
 one-type-spec =

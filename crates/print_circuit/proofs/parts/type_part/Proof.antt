@@ -1,17 +1,17 @@
 -- `print_circuit::parts::type_part` meets its contract. Assumes nothing.
-use Prim.Native.Nat.{ℕ, suc, _-_, _≤_, _<_}
-use mathlib.Core.Path.{_≡_, refl, ap, subst}
+use Prim.Native.Nat.{_-_, _≤_}
+use mathlib.Core.Path.{_≡_, refl, ap, _∙_}
 use mathlib.Core.List.{List, [], map}
 use native.Mathlib.Numerals.{add-one}
 use native.Mathlib.Omega.{arith}
 use borrow.Author.Needs.{needs}
-use lib.ListN.{length, getD, take, length-map, length-take}
-use Rattle.switch.specs.Modules.{ModuleType}
+use lib.ListN.{length, take}
 use Rattle.switch.specs.Records.{typeOf}
 use Rattle.switch.specs.declared.ModuleType.{ModuleType as TypeRecord}
+use Rattle.circuit.specs.Limits.{mostTypes}
 use Rattle.print_circuit.specs.Listing.{typeLines}
-use Rattle.print_circuit.specs.Puts.{PutsLine}
-use Rattle.print_circuit.proofs.PartLaws.{size-used, used-at, not-here, type-filled, Past, past-none, past-more, past-found, past-all}
+use Rattle.print_circuit.specs.Puts.{mostOfType}
+use Rattle.print_circuit.proofs.PartLaws.{type-filled, Past, past-none, used-more, used-found, used-all}
 use Rattle.print_circuit.proofs.parts.type_part.Statement.{statement}
 use Rattle.print_circuit.proofs.parts.type_part.Tie as tie
 
@@ -21,7 +21,7 @@ blank = record { highest = 0; output = 0; labels = 0; count = 0; edges = [] }
 
 abbrev Inv-loop : tie.InvT-loop
 Inv-loop line₀ count n types used left₀ i₀ line left i =
-    (i ≤ used) × (line ≡ line₀) × Past (map typeOf (take count types)) n i left
+    (i ≤ used) × (line ≡ line₀) × Past typeLines mostOfType (map typeOf (take count types)) n i left
 
 abbrev μ-loop : tie.MeasureT-loop
 μ-loop line₀ count n types used left₀ i₀ line left i = used - i
@@ -30,7 +30,7 @@ at-most-requires : tie.Need-at-most-requires Inv-loop μ-loop
 at-most-requires c κs = search needs
 
 loop-holds : tie.Need-loop-holds Inv-loop μ-loop
-loop-holds c = (omega arith, refl, past-none _ _)
+loop-holds c = (omega arith, refl, past-none)
 
 add-one-type : tie.Need-add-one-type Inv-loop μ-loop
 add-one-type c = search needs
@@ -49,22 +49,13 @@ same-length c = omega (arith, ap length (c .before .before .before .before .befo
 
 returns : tie.Need-returns Inv-loop μ-loop
 returns c =
-    let start = c .before .before .before .before .before .before .before .before .before .before .before in
-    let turn = c .before .before .before .before .before .before .before .before .loop in
+    let asked = c .before .before .before .before in
+    let turn = asked .before .before .before .before .loop in
+    let sized = asked .before .before .before .before .before in
+    let start = sized .before .before in
     let l : List TypeRecord = start .args .t2 in
-    let types : List ModuleType = map typeOf (take (start .args .count) l) in
-    let i : ℕ = turn .i in
-    let held = c .before .before .before .before .before .before .before .before .before .at-most .ensures in
-    let size = size-used l (start .args .count) _ 16 (start .good .1 .0 .1 .0 .1) held in
-    let used : i < length (take (start .args .count) l) = omega arith in
-    let inside : i < length types = omega (arith, length-map (take (start .args .count) l) typeOf) in
-    let t : ModuleType = typeOf (getD l i blank) in
-    let here : getD types i t ≡ t = used-at typeOf (start .args .count) l i blank t used (omega (arith, length-take (start .args .count) l)) in
-    let same : turn .line ≡ start .args .line .now = turn .inv .1 in
-    let called = c .before .before .before .before .one-type .ensures in
-    let p : PutsLine (typeLines (suc i) t) 65 (turn .left) (start .args .line .now) (c .before .before .before .before .one-type .result) (c .before .before .before .before .one-type .last .0)
-    = subst (λ (b : List ℕ). PutsLine (typeLines (suc i) t) 65 (turn .left) b (c .before .before .before .before .one-type .result) (c .before .before .before .before .one-type .last .0)) same (rw (add-one i) at called) in
-    past-found types (start .args .n) i (turn .left) (turn .inv .2) t inside here _ _ _ p (c .if1 .taken) (omega arith)
+    rw (← (turn .inv .1)) (used-found typeOf (start .args .count) l mostTypes (start .good .1 .0 .1 .0 .1) (sized .at-most .ensures) (turn .inv .2)
+    blank (omega arith) (rw (add-one (turn .i)) at (asked .one-type .ensures)) (c .if1 .taken))
 
 add-i : tie.Need-add-i Inv-loop μ-loop
 add-i c = search needs
@@ -74,40 +65,26 @@ loop-less c = search needs
 
 loop-again : tie.Need-loop-again Inv-loop μ-loop
 loop-again c =
-    let start = c .before .before .before .before .before .before .before .before .before .before .before in
-    let turn = c .before .before .before .before .before .before .before .before .loop in
+    let asked = c .before .before .before .before in
+    let turn = asked .before .before .before .before .loop in
+    let sized = asked .before .before .before .before .before in
+    let start = sized .before .before in
     let l : List TypeRecord = start .args .t2 in
-    let types : List ModuleType = map typeOf (take (start .args .count) l) in
-    let i : ℕ = turn .i in
-    let held = c .before .before .before .before .before .before .before .before .before .at-most .ensures in
-    let size = size-used l (start .args .count) _ 16 (start .good .1 .0 .1 .0 .1) held in
-    let used : i < length (take (start .args .count) l) = omega arith in
-    let inside : i < length types = omega (arith, length-map (take (start .args .count) l) typeOf) in
-    let t : ModuleType = typeOf (getD l i blank) in
-    let here : getD types i t ≡ t = used-at typeOf (start .args .count) l i blank t used (omega (arith, length-take (start .args .count) l)) in
-    let same : turn .line ≡ start .args .line .now = turn .inv .1 in
-    let called = c .before .before .before .before .one-type .ensures in
-    let p : PutsLine (typeLines (suc i) t) 65 (turn .left) (start .args .line .now) (c .before .before .before .before .one-type .result) (c .before .before .before .before .one-type .last .0)
-    = subst (λ (b : List ℕ). PutsLine (typeLines (suc i) t) 65 (turn .left) b (c .before .before .before .before .one-type .result) (c .before .before .before .before .one-type .last .0)) same (rw (add-one i) at called) in
-    let none : c .before .before .before .before .one-type .result .put ≡ 0 = omega arith in (
-      omega arith,
-      not-here (typeLines (suc i) t) [] (turn .left) (start .args .line .now) (p .line) (type-filled (suc i) t) none .1,
-      rw (add-one i) (past-more types (start .args .n) i (turn .left) (turn .inv .2) t inside here _ _ _ p none),
-    )
+    let more = used-more typeOf (start .args .count) l mostTypes (start .good .1 .0 .1 .0 .1) (sized .at-most .ensures) (turn .inv .2)
+    blank (omega arith) (rw (add-one (turn .i)) at (asked .one-type .ensures)) (type-filled _ _) (omega arith) in
+    (omega arith, more .1 ∙ turn .inv .1, rw (add-one (turn .i)) (more .0))
 
 same-length-2 : tie.Need-same-length-2 Inv-loop μ-loop
 same-length-2 c = omega (arith, ap length (c .before .loop .inv .1))
 
 returns-2 : tie.Need-returns-2 Inv-loop μ-loop
 returns-2 c =
-    let start = c .before .before .before .before in
     let turn = c .before .loop in
+    let sized = c .before .before in
+    let start = sized .before .before in
     let l : List TypeRecord = start .args .t2 in
-    let types : List ModuleType = map typeOf (take (start .args .count) l) in
-    let held = c .before .before .at-most .ensures in
-    let size = size-used l (start .args .count) _ 16 (start .good .1 .0 .1 .0 .1) held in
-    let all : turn .i ≡ length types = omega (arith, length-map (take (start .args .count) l) typeOf) in
-    rw (turn .inv .1) (past-all types (start .args .n) (turn .i) (turn .left) (start .args .line .now) (turn .inv .2) all (omega arith))
+    rw (turn .inv .1) (used-all typeOf (start .args .count) l mostTypes (start .good .1 .0 .1 .0 .1) (sized .at-most .ensures) (turn .inv .2)
+    (start .args .line .now) (omega arith))
 
 pub type-part-spec : {M : Type 1} → statement M
 type-part-spec =

@@ -1,4 +1,4 @@
--- `files::input::read_all` meets its contract. The loop's invariant: the count is within the buffer, whose length stays.
+-- `program_io::input::read_all` meets its contract. The loop's invariant: the count is within the buffer, whose length stays.
 -- A turn that reads nothing ends the loop, so what is left of the buffer falls. Assumes nothing.
 use Prim.Native.Nat.{_≤_, _-_}
 use mathlib.Core.Path.{_≡_}

@@ -1,4 +1,4 @@
--- `files::input::read_named` meets its contract: of a file that cannot be opened no byte is counted. Assumes nothing.
+-- `program_io::input::read_named` meets its contract: of a file that cannot be opened no byte is counted. Assumes nothing.
 use mathlib.Core.Path.{refl}
 use native.Mathlib.Omega.{arith}
 use Rattle.io.proofs.Counting.{counts}

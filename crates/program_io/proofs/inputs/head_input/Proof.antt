@@ -1,4 +1,4 @@
--- `files::inputs::head_input` meets its contract: an only input has no heading, and the name of another fits a path's buffer. Assumes nothing.
+-- `program_io::inputs::head_input` meets its contract: an only input has no heading, and the name of another fits a path's buffer. Assumes nothing.
 use mathlib.Core.Path.{refl}
 use mathlib.Core.Logic.{inl, inr}
 use borrow.Author.Needs.{needs}

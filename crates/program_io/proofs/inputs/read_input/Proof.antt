@@ -1,4 +1,4 @@
--- `files::inputs::read_input` meets its contract: of an input whose name is too long no byte is counted. Assumes nothing.
+-- `program_io::inputs::read_input` meets its contract: of an input whose name is too long no byte is counted. Assumes nothing.
 use native.Mathlib.Omega.{arith}
 use mathlib.Core.Path.{refl}
 use Rattle.io.proofs.Counting.{counts}

@@ -1,4 +1,4 @@
--- `files::output::heading` meets its contract: each call adds its bytes behind what stands, and there is room for all. Assumes nothing.
+-- `program_io::output::heading` meets its contract: each call adds its bytes behind what stands, and there is room for all. Assumes nothing.
 use mathlib.Core.Path.{refl, sym}
 use mathlib.Core.List.{_++_}
 use native.Mathlib.Omega.{arith}
@@ -11,32 +11,45 @@ use borrow.Author.Needs.{needs}
 use Rattle.program_io.proofs.output.heading.Statement.{statement}
 use Rattle.program_io.proofs.output.heading.Tie as tie
 
+-- where the function began, seen from each call
+abbrev start-1 : tie.After-put-blank → tie.Start
+start-1 c = c .before .before .before .before
+
+abbrev start-2 : tie.After-put-bytes → tie.Start
+start-2 c = start-1 (c .before .before .before .before .before)
+
+abbrev start-3 : tie.After-put-bytes2 → tie.Start
+start-3 c = start-2 (c .before .before .before .before)
+
+abbrev start-4 : tie.After-put-bytes3 → tie.Start
+start-4 c = start-3 (c .before .before .before .before .before)
+
 -- the text at the buffer's front after each call
-front-1 : (c : tie.After-put-blank) → Front (c .before .before .before .before .args .out .now) (blankLine (c .before .before .before .before .args .output .«has_report»)) (c .put-blank .result) (c .put-blank .last .0)
+front-1 : (c : tie.After-put-blank) → Front (start-1 c .args .out .now) (blankLine (start-1 c .args .output .«has_report»)) (c .put-blank .result) (c .put-blank .last .0)
 front-1 c =
-    let few = blank-short (c .before .before .before .before .args .output .«has_report») in
+    let few = blank-short (start-1 c .args .output .«has_report») in
     record { place = c .put-blank .ensures .0; put = c .put-blank .ensures .1; room = omega (arith, few) }
 
 front-2 : (c : tie.After-put-bytes)
-    → Front (c .before .before .before .before .before .before .before .before .before .args .out .now) (blankLine (c .before .before .before .before .before .before .before .before .before .args .output .«has_report») ++ bytesOf "==> ") (c .put-bytes .result) (c .put-bytes .last .0)
+    → Front (start-2 c .args .out .now) (blankLine (start-2 c .args .output .«has_report») ++ bytesOf "==> ") (c .put-bytes .result) (c .put-bytes .last .0)
 front-2 c =
-    let few = blank-short (c .before .before .before .before .before .before .before .before .before .args .output .«has_report») in
+    let few = blank-short (start-2 c .args .output .«has_report») in
     front-more (front-1 (c .before .before .before .before .before)) (bytesOf "==> ") (omega (arith, few)) (c .put-bytes .ensures)
 
 front-3 : (c : tie.After-put-bytes2)
-    → Front (c .before .before .before .before .before .before .before .before .before .before .before .before .before .args .out .now) (blankLine (c .before .before .before .before .before .before .before .before .before .before .before .before .before .args .output .«has_report») ++ bytesOf "==> " ++ c .before .before .before .before .before .before .before .before .before .before .before .before .before .args .name .now) (c .put-bytes2 .result) (c .put-bytes2 .last .0)
+    → Front (start-3 c .args .out .now) (blankLine (start-3 c .args .output .«has_report») ++ bytesOf "==> " ++ start-3 c .args .name .now) (c .put-bytes2 .result) (c .put-bytes2 .last .0)
 front-3 c =
-    let few = blank-short (c .before .before .before .before .before .before .before .before .before .before .before .before .before .args .output .«has_report») in
-    let long = length-append (blankLine (c .before .before .before .before .before .before .before .before .before .before .before .before .before .args .output .«has_report»)) (bytesOf "==> ") in
-    front-more (front-2 (c .before .before .before .before)) (c .before .before .before .before .before .before .before .before .before .before .before .before .before .args .name .now) (omega (arith, few, long)) (c .put-bytes2 .ensures)
+    let few = blank-short (start-3 c .args .output .«has_report») in
+    let long = length-append (blankLine (start-3 c .args .output .«has_report»)) (bytesOf "==> ") in
+    front-more (front-2 (c .before .before .before .before)) (start-3 c .args .name .now) (omega (arith, few, long)) (c .put-bytes2 .ensures)
 
 front-4 : (c : tie.After-put-bytes3)
-    → Front (c .before .before .before .before .before .before .before .before .before .before .before .before .before .before .before .before .before .before .args .out .now) (blankLine (c .before .before .before .before .before .before .before .before .before .before .before .before .before .before .before .before .before .before .args .output .«has_report») ++ bytesOf "==> " ++ c .before .before .before .before .before .before .before .before .before .before .before .before .before .before .before .before .before .before .args .name .now ++ bytesOf " <==\n")
+    → Front (start-4 c .args .out .now) (blankLine (start-4 c .args .output .«has_report») ++ bytesOf "==> " ++ start-4 c .args .name .now ++ bytesOf " <==\n")
     (c .put-bytes3 .result) (c .put-bytes3 .last .0)
 front-4 c =
-    let few = blank-short (c .before .before .before .before .before .before .before .before .before .before .before .before .before .before .before .before .before .before .args .output .«has_report») in
-    let long = length-append (blankLine (c .before .before .before .before .before .before .before .before .before .before .before .before .before .before .before .before .before .before .args .output .«has_report»)) (bytesOf "==> ") in
-    let longer = length-append (blankLine (c .before .before .before .before .before .before .before .before .before .before .before .before .before .before .before .before .before .before .args .output .«has_report») ++ bytesOf "==> ") (c .before .before .before .before .before .before .before .before .before .before .before .before .before .before .before .before .before .before .args .name .now) in
+    let few = blank-short (start-4 c .args .output .«has_report») in
+    let long = length-append (blankLine (start-4 c .args .output .«has_report»)) (bytesOf "==> ") in
+    let longer = length-append (blankLine (start-4 c .args .output .«has_report») ++ bytesOf "==> ") (start-4 c .args .name .now) in
     front-more (front-3 (c .before .before .before .before .before)) (bytesOf " <==\n") (omega (arith, few, long, longer)) (c .put-bytes3 .ensures)
 
 put-blank-requires : tie.Need-put-blank-requires
@@ -48,13 +61,13 @@ slice-aggregate-put-bytes c = search needs
 put-bytes-requires : tie.Need-put-bytes-requires
 put-bytes-requires c κs =
     let front = front-1 (c .before .before .before .before) in
-    let few = blank-short (c .before .before .before .before .before .before .before .before .args .output .«has_report») in omega (arith, front .place, front-length front, few)
+    let few = blank-short (start-1 (c .before .before .before .before) .args .output .«has_report») in omega (arith, front .place, front-length front, few)
 
 put-bytes-requires-2 : tie.Need-put-bytes-requires-2
 put-bytes-requires-2 c κs =
     let front = front-2 (c .before .before .before) in
-    let few = blank-short (c .before .before .before .before .before .before .before .before .before .before .before .before .args .output .«has_report») in
-    let long = length-append (blankLine (c .before .before .before .before .before .before .before .before .before .before .before .before .args .output .«has_report»)) (bytesOf "==> ") in omega (arith, front .place, front-length front, few, long)
+    let few = blank-short (start-2 (c .before .before .before) .args .output .«has_report») in
+    let long = length-append (blankLine (start-2 (c .before .before .before) .args .output .«has_report»)) (bytesOf "==> ") in omega (arith, front .place, front-length front, few, long)
 
 slice-aggregate-put-bytes-2 : tie.Need-slice-aggregate-put-bytes-2
 slice-aggregate-put-bytes-2 c = search needs
@@ -62,9 +75,9 @@ slice-aggregate-put-bytes-2 c = search needs
 put-bytes-requires-3 : tie.Need-put-bytes-requires-3
 put-bytes-requires-3 c κs =
     let front = front-3 (c .before .before .before .before) in
-    let few = blank-short (c .before .before .before .before .before .before .before .before .before .before .before .before .before .before .before .before .before .args .output .«has_report») in
-    let long = length-append (blankLine (c .before .before .before .before .before .before .before .before .before .before .before .before .before .before .before .before .before .args .output .«has_report»)) (bytesOf "==> ") in
-    let longer = length-append (blankLine (c .before .before .before .before .before .before .before .before .before .before .before .before .before .before .before .before .before .args .output .«has_report») ++ bytesOf "==> ") (c .before .before .before .before .before .before .before .before .before .before .before .before .before .before .before .before .before .args .name .now) in
+    let few = blank-short (start-3 (c .before .before .before .before) .args .output .«has_report») in
+    let long = length-append (blankLine (start-3 (c .before .before .before .before) .args .output .«has_report»)) (bytesOf "==> ") in
+    let longer = length-append (blankLine (start-3 (c .before .before .before .before) .args .output .«has_report») ++ bytesOf "==> ") (start-3 (c .before .before .before .before) .args .name .now) in
     omega (arith, front .place, front-length front, few, long, longer)
 
 slice-reshare-prefix-write-text : tie.Need-slice-reshare-prefix-write-text

@@ -1,4 +1,4 @@
--- `files::output::put_blank` meets its contract. Assumes nothing.
+-- `program_io::output::put_blank` meets its contract. Assumes nothing.
 use mathlib.Core.Path.{refl, sym}
 use Rattle.words.proofs.WrittenLaws.{written-nothing}
 use borrow.Author.Needs.{needs}

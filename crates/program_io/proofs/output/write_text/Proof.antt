@@ -1,4 +1,4 @@
--- `files::output::write_text` meets its contract. Assumes nothing.
+-- `program_io::output::write_text` meets its contract. Assumes nothing.
 use mathlib.Core.Path.{refl, sym, _∙_}
 use mathlib.Core.Bool.{true≢false}
 use borrow.Author.Needs.{needs}

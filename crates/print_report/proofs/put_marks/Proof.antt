@@ -1,35 +1,36 @@
 -- `print_report::put_marks` meets its contract. The loop's invariant: the digits of the vectors passed stand in the line at their place, and all else there is
 -- as it was. Assumes nothing.
-use mathlib.Core.Path.{_≡_, refl, sym, ap, _∙_}
+use mathlib.Core.Path.{_≡_, refl, ap, _∙_}
 use mathlib.Core.List.{List}
-use Prim.Native.Nat.{ℕ, suc, _≤_, _<_, _-_, _+_, _/_, _%_, _^_}
-use native.Mathlib.Numerals.{add-one}
+use Prim.Native.Nat.{ℕ, _≤_, _-_, _+_, _/_, _%_, _^_}
 use native.Mathlib.Omega.{arith}
-use lib.ListN.{length, getD, set, length-set}
-use lib.Seq.{paste, paste-zero, paste-suc, take-length}
+use lib.ListN.{length, getD}
 use Rattle.words.specs.Rows.{markAt}
 use Rattle.words.specs.Bits.{bit}
+use Rattle.words.specs.Tables.{table}
 use Rattle.words.specs.Written.{written}
-use Rattle.words.proofs.Tables.{getD-table}
+use Rattle.print_lines.proofs.TableWriting.{TableWritten, table-begins, table-grows}
 use Rattle.print_report.specs.Lines.{digitsOfMarks}
-use Rattle.print_report.proofs.MarkDigits.{length-marks}
 use Rattle.print_report.proofs.put_marks.Statement.{statement}
 use Rattle.print_report.proofs.put_marks.Tie as tie
 
+-- the digit of a vector
+abbrev digitAt : List ℕ → ℕ → ℕ
+digitAt row v = 48 + markAt row v
+
 abbrev Inv-loop : tie.InvT-loop
-Inv-loop line₀ at vectors row v₀ line v = (v ≤ vectors) × (line ≡ paste line₀ at (digitsOfMarks vectors row) v) × (length line ≡ length line₀)
+Inv-loop line₀ at vectors row v₀ line v = (v ≤ vectors) × TableWritten (digitAt row) line₀ at v line
 
 abbrev μ-loop : tie.MeasureT-loop
 μ-loop line₀ at vectors row v₀ line v = vectors - v
 
 -- the digit that a turn stores
-digit : (vectors : ℕ) (row : List ℕ) (v : ℕ) → v < vectors
-    → getD (digitsOfMarks vectors row) v 0 ≡ 48 + getD row (v / 64) 0 / 2 ^ (v % 64) % 2
-unfolding digitsOfMarks markAt bit
-digit vectors row v h = getD-table vectors (λ (u : ℕ). 48 + markAt row u) 0 v h
+digit : (row : List ℕ) (v : ℕ) → 48 + getD row (v / 64) 0 / 2 ^ (v % 64) % 2 ≡ digitAt row v
+unfolding markAt bit
+digit row v = refl
 
 loop-holds : tie.Need-loop-holds Inv-loop μ-loop
-loop-holds c = (omega arith, paste-zero (c .args .line .now) (c .args .at) (digitsOfMarks (c .args .vectors) (c .args .t3)), refl)
+loop-holds c = (omega arith, table-begins)
 
 mul-line : tie.Need-mul-line Inv-loop μ-loop
 mul-line c = omega arith
@@ -60,17 +61,9 @@ loop-less c = omega arith
 
 loop-again : tie.Need-loop-again Inv-loop μ-loop
 loop-again c =
-    let e = c .before .before .args in
-    let l = c .before .loop in
-    let text : List ℕ = digitsOfMarks (e .vectors) (e .t3) in
-    let size : length text ≡ e .vectors = length-marks (e .vectors) (e .t3) in
-    let next : set (paste (e .line .now) (e .at) text (l .v)) (e .at + l .v) (getD text (l .v) 0) ≡ paste (e .line .now) (e .at) text (suc (l .v))
-    = paste-suc (e .line .now) (e .at) text (l .v) 0 (omega arith) (omega arith) in
-    let stored = digit (e .vectors) (e .t3) (l .v) (omega arith) in (
-      omega arith,
-      rw (l .inv .1) (ap (λ (b : ℕ). set (paste (e .line .now) (e .at) text (l .v)) (e .at + l .v) b) (sym stored) ∙ next ∙ rw add-one),
-      rw length-set (l .inv .2),
-    )
+    let row = c .before .before .args .t3 in
+    let turn = c .before .loop in
+    (omega arith, table-grows (turn .inv .1) (omega arith) (digit row (turn .v)))
 
 add-result : tie.Need-add-result Inv-loop μ-loop
 add-result c = omega arith
@@ -79,13 +72,12 @@ same-length : tie.Need-same-length Inv-loop μ-loop
 same-length c = omega arith
 
 returns : tie.Need-returns Inv-loop μ-loop
-unfolding written
+unfolding digitsOfMarks
 returns c =
     let e = c .before .before .args in
-    let text : List ℕ = digitsOfMarks (e .vectors) (e .t3) in
-    let all : c .before .loop .v ≡ e .vectors = omega arith in
-    let end : c .before .loop .v ≡ length text = all ∙ sym (length-marks (e .vectors) (e .t3)) in
-    (ap (λ (v : ℕ). e .at + v) all, c .before .loop .inv .1 ∙ ap (λ (v : ℕ). paste (e .line .now) (e .at) text v) end ∙ rw take-length)
+    let turn = c .before .loop in
+    let all : turn .v ≡ e .vectors = omega arith in
+    (ap (λ (v : ℕ). e .at + v) all, turn .inv .1 .text-is ∙ ap (λ (v : ℕ). written (e .line .now) (e .at) (table v (digitAt (e .t3)))) all)
 
 pub put-marks-spec : {M : Type 1} → statement M
 put-marks-spec =

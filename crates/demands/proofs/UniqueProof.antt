@@ -1,9 +1,9 @@
 -- No two outcomes meet the contract of a public function: `unique`. Most contracts tell by equations; the others are taken apart.
-use Prim.Native.Nat.{ℕ}
+use Prim.Native.Nat.{ℕ, _≤_}
 use mathlib.Core.Path.{_≡_, refl, sym, ap, _∙_}
 use mathlib.Core.List.{List, [], _∷_}
 use native.Mathlib.Omega.{arith}
-use lib.ListN.{take, replicate}
+use lib.ListN.{length, take, replicate}
 use denote.Ref.{now}
 use Rattle.switch.specs.Deciding.{isComplementary}
 use Rattle.switch.specs.Promises.{railsOf}
@@ -13,6 +13,8 @@ use Rattle.circuit.specs.declared.order.Kind.the-variants.{Inputs}
 use Rattle.circuit.specs.Reading.{readingOf}
 use Rattle.circuit.specs.Records.{unusedInstance, unusedVector}
 use Rattle.circuit.proofs.AnswerLaws.{verdict-tells, answers-unique}
+use Rattle.read_fields.specs.Steps.{behindStep, Stepped}
+use Rattle.read_fields.specs.declared.Step.{Step}
 use Rattle.grading.specs.Buffers.{Buffers}
 use Rattle.grading.specs.Grading.{Grading}
 use Rattle.print_lines.specs.Given.{LineGiven}
@@ -85,7 +87,30 @@ unique = record {
   circuit-or-if = record { asks-nothing = λ κs a. tt; one-outcome = λ κs a asked one other p q. both (verdict-tells (one .0) (other .0) (p ∙ sym q)) refl };
   circuit-number-of = record { asks-nothing = λ κs a. tt; one-outcome = λ κs a asked one other p q. both (p ∙ sym q) refl };
   circuit-place-of = record { asks-nothing = λ κs a. tt; one-outcome = λ κs a asked one other p q. both (p ∙ sym q) refl };
+  read-fields-reader-at = record {
+    Asked = λ κs a. a .1 .0 ≤ length (now (a .0));
+    Told = λ κs a r s. (r .file ≡ a .0) × (r .at ≡ a .1 .0);
+    asks = λ M 𝓤 H A mem run κs a g. refl;
+    tells = λ M 𝓤 H A mem run κs a g r s. refl;
+    sole = record { can-be-met = λ κs. ((lent [], (0, tt)), omega arith); one-outcome = λ κs a asked one other p q. both (λ i. record { file = (p .0 ∙ sym (q .0)) i; at = (p .1 ∙ sym (q .1)) i }) refl };
+  };
+  read-fields-next = record {
+    Asked = λ κs a. now (a .0) .at ≤ length (now (now (a .0) .file));
+    Told = λ κs a r s. Stepped (now (a .0)) (now (s .0)) r;
+    asks = λ M 𝓤 H A mem run κs a g. refl;
+    tells = λ M 𝓤 H A mem run κs a g r s. refl;
+    sole = record {
+      can-be-met = λ κs. ((lent (record { file = lent []; at = 0 }), tt), omega arith);
+      one-outcome = λ κs a asked one other p q.
+          let same = step-once (now (now (a .0) .file)) (now (a .0) .at) (one .0) (other .0) (p .stands) (q .stands) in
+          both same (both (λ i. record {
+            file = (p .same-file ∙ sym (q .same-file)) i;
+            at = (p .moved ∙ ap (λ (t : Step). behindStep t (now (a .0) .at)) same ∙ sym (q .moved)) i;
+          }) refl);
+    };
+  };
   read-fields-step-at = record { can-be-met = λ κs. ((lent [], (0, tt)), omega arith); one-outcome = λ κs a asked one other p q. both (step-once (now (a .0)) (a .1 .0) (one .0) (other .0) p q) refl };
+  read-fields-own-field = record { asks-nothing = λ κs a. tt; one-outcome = λ κs a asked one other p q. both (p ∙ sym q) refl };
   read-fields-field-of = record { can-be-met = λ κs. ((lent [], (0, (Inputs, tt))), omega arith); one-outcome = λ κs a asked one other p q. both (next-once (now (a .0)) (a .1 .0) (kindTag (a .1 .1 .0)) (one .0) (other .0) p q) refl };
   read-fields-byte = record { can-be-met = λ κs. ((lent [], (emptyField, (0, tt))), omega arith); one-outcome = λ κs a asked one other p q. both (p ∙ sym q) refl };
   read-fields-two-bytes = record { can-be-met = λ κs. ((lent [], (emptyField, (0, tt))), (omega arith, omega arith)); one-outcome = λ κs a asked one other p q. both (p ∙ sym q) refl };

@@ -34,7 +34,10 @@ use Rattle.circuit.proofs.refusal.refuses as circuit-refuses
 use Rattle.circuit.proofs.refusal.or_if as circuit-or-if
 use Rattle.circuit.proofs.refusal.number_of as circuit-number-of
 use Rattle.circuit.proofs.refusal.place_of as circuit-place-of
+use Rattle.read_fields.proofs.cursor.reader_at as read-fields-reader-at
+use Rattle.read_fields.proofs.cursor.next as read-fields-next
 use Rattle.read_fields.proofs.step_at as read-fields-step-at
+use Rattle.read_fields.proofs.own_field as read-fields-own-field
 use Rattle.read_fields.proofs.field_of as read-fields-field-of
 use Rattle.read_fields.proofs.byte as read-fields-byte
 use Rattle.read_fields.proofs.two_bytes as read-fields-two-bytes
@@ -88,7 +91,7 @@ pub record SoleWhereMet (F : Ended) (Asked : AskedBy F) (Told : ToldBy F) : Type
 abbrev pub ClausesOf : Ended → Type 2
 ClausesOf F = (M : Type 1) (𝓤 : URA M) → Heap 𝓤 → Atoms 𝓤 → (Memory → SProp 𝓤) → (Routine → Fun 𝓤) → Clauses 𝓤 F
 
--- a function with a slice of records among its parameters: the kit has no reading of its clauses, so one is given that they are equal to,
+-- a function with a slice of records, or a struct that holds a slice, in its signature: the kit has no reading of its clauses, so one is given that they are equal to,
 -- in every model of the logic
 pub record SoleByClauses (F : Ended) (clauses : ClausesOf F) : Type 2 where
   pub Asked : AskedBy F
@@ -126,7 +129,10 @@ pub record Unique : Type 2 where
   pub circuit-or-if : Sole circuit-or-if.ended circuit-or-if.Reads.Asked circuit-or-if.Reads.Learnt
   pub circuit-number-of : Sole circuit-number-of.ended circuit-number-of.Reads.Asked circuit-number-of.Reads.Learnt
   pub circuit-place-of : Sole circuit-place-of.ended circuit-place-of.Reads.Asked circuit-place-of.Reads.Learnt
+  pub read-fields-reader-at : SoleByClauses read-fields-reader-at.ended (λ M. read-fields-reader-at.clauses {M = M})
+  pub read-fields-next : SoleByClauses read-fields-next.ended (λ M. read-fields-next.clauses {M = M})
   pub read-fields-step-at : SoleWhereMet read-fields-step-at.ended read-fields-step-at.Reads.Asked read-fields-step-at.Reads.Learnt
+  pub read-fields-own-field : Sole read-fields-own-field.ended read-fields-own-field.Reads.Asked read-fields-own-field.Reads.Learnt
   pub read-fields-field-of : SoleWhereMet read-fields-field-of.ended read-fields-field-of.Reads.Asked read-fields-field-of.Reads.Learnt
   pub read-fields-byte : SoleWhereMet read-fields-byte.ended read-fields-byte.Reads.Asked read-fields-byte.Reads.Learnt
   pub read-fields-two-bytes : SoleWhereMet read-fields-two-bytes.ended read-fields-two-bytes.Reads.Asked read-fields-two-bytes.Reads.Learnt

@@ -1,7 +1,7 @@
 -- The laws of the bridge stage: what the tests of a bridge field leave, the record of a bridge, and what stands after each step of the stage.
 use Prim.Native.Nat.{ℕ, zero, suc, _+_, _<_, _≤_}
-use mathlib.Core.Path.{_≡_, refl, sym, ap, _∙_}
-use mathlib.Core.Bool.{true, not}
+use mathlib.Core.Path.{_≡_, refl, sym, ap, subst, _∙_}
+use mathlib.Core.Bool.{Bool, true, false, not}
 use mathlib.Core.List.{List, [], _∷_, _++_}
 use native.Mathlib.Omega.{arith}
 use lib.Dec.{T, eqb, leb}
@@ -12,22 +12,25 @@ use Rattle.circuit.specs.Fields.{cutFrom}
 use Rattle.circuit.specs.Order.{bridge-tag, tagOf}
 use Rattle.circuit.specs.Circuit.{Listed}
 use Rattle.circuit.specs.Known.{bridgeOf, listedIn}
-use Rattle.circuit.specs.Table.{passes, refusedAt, firstOf, listedGood, bridgeInRange, bridgeTests}
+use Rattle.circuit.specs.Table.{Verdict, passes, refusedAt, firstOf, listedGood, bridgeInRange, bridgeTests}
 use Rattle.circuit.specs.Records.{unusedBridge, bridgeRecord, bridgeRecordIn}
-use Rattle.circuit.specs.Refusals.{verdictOf, refusalNumber, refusalPlace, numberedVerdict}
+use Rattle.circuit.specs.Refusals.{verdictOf}
 use Rattle.circuit.specs.Verdicts.{isRefused, orIf}
 use Rattle.circuit.specs.Stages.{bridgeStage, stageOf}
-use Rattle.read_fields.specs.Steps.{bodyOf, FieldAt, NextIs}
-use Rattle.read_bridges.specs.ReadBridges.{BridgesRead}
+use Rattle.read_fields.specs.Steps.{bodyOf, FieldAt, NextIs, endsBy, verdictBy, keptBy}
+use Rattle.read_bridges.specs.ReadBridges.{bridgeVerdict, bridgeKept, BridgeNext, BridgesEnded, BridgesRead}
 use Rattle.circuit.specs.declared.Bridge.{Bridge as BridgeRecord}
 use Rattle.read_fields.specs.declared.Field.{Field as FieldRecord}
-use Rattle.read_fields.specs.declared.Next.the-variants.{Other}
+use Rattle.read_fields.specs.declared.Next.{Next}
+use Rattle.read_fields.specs.declared.Next.the-variants.{Found, Other}
 use Rattle.circuit.specs.declared.refusal.Refusal.{Refusal}
 use Rattle.circuit.specs.declared.refusal.Refusal.the-variants.{Nothing}
-use Rattle.circuit.proofs.Verdicts.{firstAfter, chain}
+use Rattle.circuit.proofs.Verdicts.{passes-is, firstAfter, chain}
 use Rattle.circuit.proofs.Tested.{bridge-pass}
 use Rattle.circuit.proofs.TypeLaws.{all-snoc}
 use Rattle.read_fields.proofs.Gathering.{SoFar, none-yet, stops, fails, one-more}
+use Rattle.read_fields.proofs.Turns.{Turned, nothing-passes}
+use Rattle.read_bridges.specs.declared.Bridges.{Bridges}
 
 -- ---- a bridge field that passes its tests
 
@@ -97,10 +100,6 @@ module _ {file : List ℕ} {from : ℕ} {all : List BridgeRecord} {count at : �
     ranges = sofar .ranges;
   }
 
-  pub bridges-stop : NextIs file at bridge-tag Other → BridgesRead file from (record { refusal = Nothing; at = at; count = count; all = all })
-  unfolding verdictOf numberedVerdict refusalNumber refusalPlace
-  bridges-stop other = bridges-read Nothing (stops (sofar .so) other)
-
   module _ (f : FieldRecord) (here : FieldAt file at f) (own : tagOf (f .tag) ≡ bridge-tag) (r : Refusal)
       (verdict : verdictOf r ≡ firstOf (bridgeTests count (f .at) (bodyOf file f))) where
     of-length : verdictOf r ≡ firstOf (bridgeTests (length (sofar .bridges)) (f .at) (bodyOf file f))
@@ -118,3 +117,45 @@ module _ {file : List ℕ} {from : ℕ} {all : List BridgeRecord} {count at : �
           so = one-more (sofar .so) f here own (verdictOf r) of-length e (fits .room);
           ranges = all-snoc listedGood (sofar .bridges) (listedIn (bodyOf file f)) (sofar .ranges) (fits .ranges);
         }
+
+  -- a turn, which found n and has m behind it
+  module _ {n : Next} {m : ℕ} (turn : Turned file at bridge-tag n m) where
+    pub bridges-end : endsBy (bridgeVerdict file count) n ≡ true → (r : Bridges) → BridgesEnded file n at count all r → BridgesRead file from r
+    unfolding endsBy verdictBy bridgeVerdict NextIs
+    bridges-end ends r is = subst (BridgesRead file from) (sym (is .rest)) (go n refl)
+      where
+        go : (x : Next) → n ≡ x → BridgesRead file from (record { refusal = r .refusal; at = at; count = count; all = all })
+        go Other e = bridges-read (r .refusal) (stops (sofar .so) (rw e at (turn .own)) ∙ ap (λ (v : Verdict). stageOf v (sofar .bridges) (cutFrom file at)) (sym (rw e at (is .why))))
+        go (Found f) e =
+            let here : NextIs file at bridge-tag (Found f) = rw e at (turn .own) in
+            let why : verdictOf (r .refusal) ≡ firstOf (bridgeTests count (f .at) (bodyOf file f)) = rw e at (is .why) in
+            bridges-refused f (here .0) (here .1) (r .refusal) why (ap isRefused why ∙ (rw e at ends))
+
+    -- of a bridge that does not end the stage
+    module _ (goes : endsBy (bridgeVerdict file count) n ≡ false) where
+      pub bridge-next : BridgeNext file n
+      unfolding endsBy bridgeVerdict BridgeNext NextIs
+      bridge-next = go n refl
+        where
+          go : (x : Next) → n ≡ x → BridgeNext file x
+          go Other e = tt
+          go (Found f) e =
+              let here : NextIs file at bridge-tag (Found f) = rw e at (turn .own) in
+              let passed = passes-is (firstOf (bridgeTests count (f .at) (bodyOf file f))) (rw e at goes) in
+              (here .0 .inside, bridge-fits count (f .at) (bodyOf file f) passed .kind)
+
+      pub bridges-more : BridgesSoFar file from (set all count (keptBy (bridgeKept file) unusedBridge n)) (count + 1) m × (count < mostBridges) × (at < m)
+      unfolding endsBy bridgeVerdict NextIs keptBy bridgeKept
+      bridges-more = go n refl
+        where
+          go : (x : Next) → n ≡ x → BridgesSoFar file from (set all count (keptBy (bridgeKept file) unusedBridge x)) (count + 1) m × (count < mostBridges) × (at < m)
+          go Other e = let z : _≡_ {A = Bool} true false = rw e at goes in let y : _≡_ {A = ℕ} 0 1 = cc in absurd (omega arith)
+          go (Found f) e =
+              let here : NextIs file at bridge-tag (Found f) = rw e at (turn .own) in
+              let v : Verdict = firstOf (bridgeTests count (f .at) (bodyOf file f)) in
+              let passed : v ≡ passes = passes-is v (rw e at goes) in
+              let past = turn .past f e in (
+                subst (BridgesSoFar file from (set all count (bridgeRecord (listedIn (bodyOf file f)))) (count + 1)) (sym past) (one-bridge-more f (here .0) (here .1) Nothing (nothing-passes ∙ sym passed) nothing-passes),
+                bridge-fits count (f .at) (bodyOf file f) passed .room,
+                omega (arith, past, here .0 .further),
+              )

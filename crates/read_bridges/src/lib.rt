@@ -10,16 +10,18 @@ use circuit::refusal::refuses;
 use read_fields::Field;
 use read_fields::Next;
 use read_fields::byte;
-use read_fields::field_of;
+use read_fields::cursor::next;
+use read_fields::cursor::reader_at;
+use read_fields::own_field;
 ghost use mathlib.Core.Path.{_≡_};
 ghost use Prim.Native.Nat.{_+_, _≤_};
-ghost use lib.ListN.{length, getD};
+ghost use lib.ListN.{length, getD, replicate};
 ghost use Rattle.circuit.specs.Known.{listedIn};
 ghost use Rattle.circuit.specs.Table.{firstOf, bridgeInRange, bridgeTests};
 ghost use Rattle.circuit.specs.Records.{unusedBridge, bridgeRecord};
 ghost use Rattle.circuit.specs.Refusals.{verdictOf};
-ghost use Rattle.read_fields.specs.Steps.{bodyOf};
-ghost use Rattle.read_bridges.specs.ReadBridges.{BridgesRead};
+ghost use Rattle.read_fields.specs.Steps.{bodyOf, NextIn, endsBy, keptBy};
+ghost use Rattle.read_bridges.specs.ReadBridges.{bridgeVerdict, bridgeKept, BridgeNext, BridgesEnded, BridgesRead};
 
 pub struct Bridges {
     pub refusal: Refusal,
@@ -84,35 +86,66 @@ fn bridge_in(file: &[u8], f: Field) -> Bridge
     }
 }
 
-// The bridges from an offset on.
+// Whether the stage ends here: no bridge stands next, or one that is refused.
+fn ends(file: &[u8], found: Next, count: usize) -> bool
+    requires { ⌜ NextIn (now file) found ⌝ }
+    ensures { λ r. ⌜ r ≡ endsBy (bridgeVerdict (now (file .entry)) count) found ⌝ }
+{
+    match found {
+        Next::Found(f) => refuses(bridge_verdict(file, f, count)),
+        Next::Other => true,
+    }
+}
+
+// The bridge that was found.
+fn bridge_of(file: &[u8], found: Next) -> Bridge
+    requires { ⌜ BridgeNext (now file) found ⌝ }
+    ensures { λ r. ⌜ r ≡ keptBy (bridgeKept (now (file .entry))) unusedBridge found ⌝ }
+{
+    match found {
+        Next::Found(f) => bridge_in(file, f),
+        Next::Other => no_bridge(),
+    }
+}
+
+// What was read, with why the stage ended there.
+fn ended(file: &[u8], found: Next, at: usize, count: usize, all: [Bridge; MOST_BRIDGES]) -> Bridges
+    requires { ⌜ NextIn (now file) found ⌝ }
+    ensures { λ r. ⌜ BridgesEnded (now (file .entry)) found at count all r ⌝ }
+{
+    let refusal = match found {
+        Next::Found(f) => bridge_verdict(file, f, count),
+        Next::Other => Refusal::Nothing,
+    };
+    Bridges {
+        refusal,
+        at,
+        count,
+        all,
+    }
+}
+
+fn no_bridges() -> [Bridge; MOST_BRIDGES]
+    ensures { λ r. ⌜ r ≡ replicate 256 unusedBridge ⌝ }
+{
+    [no_bridge(); MOST_BRIDGES]
+}
+
+// The bridges from an offset on, read by one reader.
 pub fn read_bridges(file: &[u8], from: usize) -> Bridges
     requires { ⌜ from ≤ length (now file) ⌝ }
     ensures { λ r. ⌜ BridgesRead (now (file .entry)) from r ⌝ }
 {
-    let mut all = [no_bridge(); MOST_BRIDGES];
+    let mut reader = reader_at(file, from);
+    let mut all = no_bridges();
     let mut count: usize = 0;
-    let mut at = from;
     loop {
-        let Next::Found(f) = field_of(file, at, Kind::Bridge) else {
-            return Bridges {
-                refusal: Refusal::Nothing,
-                at,
-                count,
-                all,
-            };
-        };
-        let refusal = bridge_verdict(file, f, count);
-        if refuses(refusal) {
-            return Bridges {
-                refusal,
-                at,
-                count,
-                all,
-            };
+        let at = reader.at;
+        let found = own_field(next(&mut reader), Kind::Bridge);
+        if ends(file, found, count) {
+            return ended(file, found, at, count, all);
         }
-        let b = bridge_in(file, f);
-        all[count] = b;
+        all[count] = bridge_of(file, found);
         count += 1;
-        at = f.body + f.len;
     }
 }

@@ -1,11 +1,14 @@
 -- The code's steps over a file in the words of its cut into fields: what stands at a place, and what the reader's step promises.
 use Prim.Native.Nat.{ℕ, _+_, _<_, _≤_}
 use mathlib.Core.Path.{_≡_}
+use mathlib.Core.Bool.{Bool, true, cond}
 use mathlib.Core.List.{List}
 use denote.Ref.{now}
 use lib.ListN.{length, take, drop}
 use Rattle.circuit.specs.Fields.{Field, Cut, clean, broken, field, cutFrom}
-use Rattle.circuit.specs.Order.{Tag, tagOf}
+use Rattle.circuit.specs.Order.{Tag, tagOf, isKind}
+use Rattle.circuit.specs.Table.{Verdict, passes}
+use Rattle.circuit.specs.Verdicts.{isRefused}
 use Rattle.read_fields.specs.declared.cursor.Reader.{Reader}
 use Rattle.read_fields.specs.declared.Field.{Field as FieldRecord}
 use Rattle.read_fields.specs.declared.Step.{Step}
@@ -37,6 +40,12 @@ unfoldable pub NextIs : List ℕ → ℕ → Tag → Next → Type 0
 NextIs file at kind (Found f) = FieldAt file at f × (tagOf (f .tag) ≡ kind)
 NextIs file at kind Other = (f : Field) (rest : Cut) → cutFrom file at ≡ field f rest → tagOf (f .tag) ≡ kind → ⊥
 
+-- the field that a step told, where it is of the kind
+unfoldable pub ownField : Tag → Step → Next
+ownField kind (Whole f) = cond (isKind kind (tagOf (f .tag))) (Found f) Other
+ownField kind Broken = Other
+ownField kind End = Other
+
 -- ---- a step of the reader
 
 -- the place behind what was told at a place: behind a whole field, and else the same place
@@ -49,3 +58,25 @@ pub record Stepped (before after : Reader) (told : Step) : Type 0 where
   pub stands : StepIs (now (before .file)) (before .at) told
   pub same-file : after .file ≡ before .file
   pub moved : after .at ≡ behindStep told (before .at)
+
+-- ---- a turn of a stage, by the field of its own that it found, if it found one
+
+-- the field lies in the file
+unfoldable pub NextIn : List ℕ → Next → Type 0
+NextIn file (Found f) = f .body + f .len ≤ length file
+NextIn file Other = Unit {0}
+
+-- the stage ends at a field that is refused, and where none of its own stands
+unfoldable pub endsBy : (FieldRecord → Verdict) → Next → Bool
+endsBy verdict (Found f) = isRefused (verdict f)
+endsBy verdict Other = true
+
+-- and why
+unfoldable pub verdictBy : (FieldRecord → Verdict) → Next → Verdict
+verdictBy verdict (Found f) = verdict f
+verdictBy verdict Other = passes
+
+-- what it keeps of the field
+unfoldable pub keptBy : {R : Type 0} → (FieldRecord → R) → R → Next → R
+keptBy kept none (Found f) = kept f
+keptBy kept none Other = none

@@ -13,13 +13,14 @@ pub struct Reader<'a> {
 
 // A reader over a file, at a place of it.
 pub fn reader_at<'a>(file: &'a [u8], at: usize) -> Reader<'a>
+    requires { ⌜ at ≤ length (now file) ⌝ }
     ensures { λ r. ⌜ (r .file ≡ file .entry) × (r .at ≡ at) ⌝ }
 {
     Reader { file, at }
 }
 
 // The reader's place.
-pub fn place<'a>(reader: Reader<'a>) -> usize
+fn place<'a>(reader: Reader<'a>) -> usize
     ensures { λ r. ⌜ r ≡ reader .entry .at ⌝ }
 {
     reader.at

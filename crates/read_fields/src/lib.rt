@@ -1,5 +1,5 @@
 // The file cut into fields, a step at a time.
-mod cursor;
+pub mod cursor;
 
 use crate::cursor::next;
 use crate::cursor::reader_at;
@@ -10,7 +10,7 @@ ghost use Prim.Native.Nat.{_+_, _≤_};
 ghost use lib.ListN.{length, getD};
 ghost use Rattle.circuit.specs.Fields.{twoBytes};
 ghost use Rattle.circuit.specs.Kinds.{kindTag};
-ghost use Rattle.read_fields.specs.Steps.{bodyOf, StepIs, NextIs};
+ghost use Rattle.read_fields.specs.Steps.{bodyOf, StepIs, NextIs, ownField};
 
 // A whole field: the offset of its tag byte, its tag, and where its body starts and how long that is.
 pub struct Field {
@@ -42,17 +42,24 @@ pub fn step_at(file: &[u8], at: usize) -> Step
     next(&mut reader)
 }
 
-pub fn field_of(file: &[u8], at: usize, kind: Kind) -> Next
-    requires { ⌜ at ≤ length (now file) ⌝ }
-    ensures { λ r. ⌜ NextIs (now (file .entry)) at (kindTag kind) r ⌝ }
+// The field that a step told, if it is of the kind. A stage knows its own fields by this test alone.
+pub fn own_field(step: Step, kind: Kind) -> Next
+    ensures { λ r. ⌜ r ≡ ownField (kindTag kind) step ⌝ }
 {
-    let Step::Whole(f) = step_at(file, at) else {
+    let Step::Whole(f) = step else {
         return Next::Other;
     };
     if is_kind(f.tag, kind) {
         return Next::Found(f);
     }
     Next::Other
+}
+
+pub fn field_of(file: &[u8], at: usize, kind: Kind) -> Next
+    requires { ⌜ at ≤ length (now file) ⌝ }
+    ensures { λ r. ⌜ NextIs (now (file .entry)) at (kindTag kind) r ⌝ }
+{
+    own_field(step_at(file, at), kind)
 }
 
 // A byte of a field's body, 0 past its end.

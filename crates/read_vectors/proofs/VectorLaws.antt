@@ -1,6 +1,6 @@
 -- The laws of vectors: letters looked at one by one, the planes of a vector set bit by bit, and the vectors read so far.
 use Prim.Native.Nat.{ℕ, zero, suc, _+_, _*_, _%_, _^_, _<_, _≤_}
-use mathlib.Core.Path.{_≡_, refl, sym, ap, _∙_}
+use mathlib.Core.Path.{_≡_, refl, sym, ap, subst, _∙_}
 use mathlib.Core.Bool.{Bool, true, false, cond, not, _&&_}
 use mathlib.Core.List.{List, [], _∷_, _++_}
 use native.Mathlib.Nat.{pow-suc}
@@ -20,20 +20,24 @@ use Rattle.circuit.specs.Limits.{mostVectors}
 use Rattle.circuit.specs.Fields.{cutFrom}
 use Rattle.circuit.specs.Order.{vector-tag, tagOf}
 use Rattle.circuit.specs.Known.{letterOf, vectorIn}
-use Rattle.circuit.specs.Table.{Test, test, passes, firstOf, isLetter, vectorTests}
+use Rattle.circuit.specs.Table.{Test, Verdict, test, passes, firstOf, isLetter, vectorTests}
 use Rattle.circuit.specs.Records.{unusedVector, vectorRecord}
-use Rattle.circuit.specs.Refusals.{verdictOf, refusalNumber, refusalPlace, numberedVerdict}
+use Rattle.circuit.specs.Refusals.{verdictOf}
 use Rattle.circuit.specs.Verdicts.{isRefused}
 use Rattle.circuit.specs.Stages.{vectorStage, stageOf}
-use Rattle.read_fields.specs.Steps.{bodyOf, FieldAt, NextIs}
-use Rattle.read_vectors.specs.ReadVectors.{VectorsRead}
+use Rattle.read_fields.specs.Steps.{bodyOf, FieldAt, NextIs, endsBy, verdictBy, keptBy}
+use Rattle.read_vectors.specs.ReadVectors.{vectorVerdict, vectorKept, VectorNext, VectorsEnded, VectorsRead}
+use Rattle.read_vectors.specs.declared.Vectors.{Vectors}
 use Rattle.circuit.specs.declared.Vector.{Vector as VectorRecord}
 use Rattle.read_fields.specs.declared.Field.{Field as FieldRecord}
-use Rattle.read_fields.specs.declared.Next.the-variants.{Other}
+use Rattle.read_fields.specs.declared.Next.{Next}
+use Rattle.read_fields.specs.declared.Next.the-variants.{Found, Other}
 use Rattle.circuit.specs.declared.refusal.Refusal.{Refusal}
 use Rattle.circuit.specs.declared.refusal.Refusal.the-variants.{Nothing}
-use Rattle.circuit.proofs.Verdicts.{first-passes}
+use Rattle.circuit.proofs.Verdicts.{passes-is, first-passes}
+use Rattle.read_fields.proofs.Bodies.{length-body}
 use Rattle.read_fields.proofs.Gathering.{SoFar, none-yet, stops, fails, one-more}
+use Rattle.read_fields.proofs.Turns.{Turned, nothing-passes}
 
 -- ---- letters
 
@@ -195,10 +199,6 @@ module _ {file : List ℕ} {from P : ℕ} {all : List VectorRecord} {count at : 
     all = sofar .so .is;
   }
 
-  pub vectors-stop : NextIs file at vector-tag Other → VectorsRead file from P (record { refusal = Nothing; at = at; count = count; all = all })
-  unfolding verdictOf refusalNumber refusalPlace numberedVerdict
-  vectors-stop other = vectors-read Nothing (stops (sofar .so) other)
-
   module _ (f : FieldRecord) (here : FieldAt file at f) (own : tagOf (f .tag) ≡ vector-tag) (r : Refusal)
       (verdict : verdictOf r ≡ firstOf (vectorTests P count (f .at) (bodyOf file f))) where
     of-length : verdictOf r ≡ firstOf (vectorTests P (length (sofar .vectors)) (f .at) (bodyOf file f))
@@ -213,3 +213,45 @@ module _ {file : List ℕ} {from P : ℕ} {all : List VectorRecord} {count at : 
       vectors = sofar .vectors ++ (vectorIn (bodyOf file f) ∷ []);
       so = one-more (sofar .so) f here own (verdictOf r) of-length e (vector-fits P count (f .at) (bodyOf file f) (sym verdict ∙ e) .room);
     }
+
+  -- a turn, which found n and has m behind it
+  module _ {n : Next} {m : ℕ} (turn : Turned file at vector-tag n m) where
+    pub vectors-end : endsBy (vectorVerdict file P count) n ≡ true → (r : Vectors) → VectorsEnded file n P at count all r → VectorsRead file from P r
+    unfolding endsBy verdictBy vectorVerdict NextIs
+    vectors-end ends r is = subst (VectorsRead file from P) (sym (is .rest)) (go n refl)
+      where
+        go : (x : Next) → n ≡ x → VectorsRead file from P (record { refusal = r .refusal; at = at; count = count; all = all })
+        go Other e = vectors-read (r .refusal) (stops (sofar .so) (rw e at (turn .own)) ∙ ap (λ (v : Verdict). stageOf v (sofar .vectors) (cutFrom file at)) (sym (rw e at (is .why))))
+        go (Found f) e =
+            let here : NextIs file at vector-tag (Found f) = rw e at (turn .own) in
+            let why : verdictOf (r .refusal) ≡ firstOf (vectorTests P count (f .at) (bodyOf file f)) = rw e at (is .why) in
+            vectors-refused f (here .0) (here .1) (r .refusal) why (ap isRefused why ∙ (rw e at ends))
+
+    -- of a vector that does not end the stage
+    module _ (goes : endsBy (vectorVerdict file P count) n ≡ false) where
+      pub vector-next : P ≤ 64 → VectorNext file n
+      unfolding endsBy vectorVerdict VectorNext NextIs
+      vector-next most = go n refl
+        where
+          go : (x : Next) → n ≡ x → VectorNext file x
+          go Other e = tt
+          go (Found f) e =
+              let here : NextIs file at vector-tag (Found f) = rw e at (turn .own) in
+              let passed = passes-is (firstOf (vectorTests P count (f .at) (bodyOf file f))) (rw e at goes) in
+              (here .0 .inside, omega (arith, vector-fits P count (f .at) (bodyOf file f) passed .letters, length-body file f (here .0 .inside), most))
+
+      pub vectors-more : VectorsSoFar file from P (set all count (keptBy (vectorKept file) unusedVector n)) (count + 1) m × (count < mostVectors) × (at < m)
+      unfolding endsBy vectorVerdict NextIs keptBy vectorKept
+      vectors-more = go n refl
+        where
+          go : (x : Next) → n ≡ x → VectorsSoFar file from P (set all count (keptBy (vectorKept file) unusedVector x)) (count + 1) m × (count < mostVectors) × (at < m)
+          go Other e = let z : _≡_ {A = Bool} true false = rw e at goes in let y : _≡_ {A = ℕ} 0 1 = cc in absurd (omega arith)
+          go (Found f) e =
+              let here : NextIs file at vector-tag (Found f) = rw e at (turn .own) in
+              let v : Verdict = firstOf (vectorTests P count (f .at) (bodyOf file f)) in
+              let passed : v ≡ passes = passes-is v (rw e at goes) in
+              let past = turn .past f e in (
+                subst (VectorsSoFar file from P (set all count (vectorRecord (vectorIn (bodyOf file f)))) (count + 1)) (sym past) (one-vector-more f (here .0) (here .1) Nothing (nothing-passes ∙ sym passed) nothing-passes),
+                vector-fits P count (f .at) (bodyOf file f) passed .room,
+                omega (arith, past, here .0 .further),
+              )

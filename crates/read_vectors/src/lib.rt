@@ -8,17 +8,19 @@ use circuit::refusal::refuses;
 use read_fields::Field;
 use read_fields::Next;
 use read_fields::byte;
-use read_fields::field_of;
+use read_fields::cursor::next;
+use read_fields::cursor::reader_at;
+use read_fields::own_field;
 ghost use mathlib.Core.Path.{_≡_};
 ghost use Prim.Native.Nat.{_+_, _≤_};
-ghost use lib.ListN.{length};
+ghost use lib.ListN.{length, replicate};
 ghost use Rattle.switch.specs.Modules.{allOf};
 ghost use Rattle.circuit.specs.Known.{vectorIn};
 ghost use Rattle.circuit.specs.Table.{firstOf, isLetter, vectorTests};
 ghost use Rattle.circuit.specs.Records.{unusedVector, vectorRecord};
 ghost use Rattle.circuit.specs.Refusals.{verdictOf};
-ghost use Rattle.read_fields.specs.Steps.{bodyOf};
-ghost use Rattle.read_vectors.specs.ReadVectors.{VectorsRead};
+ghost use Rattle.read_fields.specs.Steps.{bodyOf, NextIn, endsBy, keptBy};
+ghost use Rattle.read_vectors.specs.ReadVectors.{vectorVerdict, vectorKept, VectorNext, VectorsEnded, VectorsRead};
 
 pub struct Vectors {
     pub refusal: Refusal,
@@ -101,36 +103,73 @@ fn vector_in(file: &[u8], f: Field) -> Vector
     Vector { ones, zeros }
 }
 
-// The vectors from an offset on.
+// Whether the stage ends here: no vector stands next, or one that is refused.
+fn ends(file: &[u8], found: Next, inputs: usize, count: usize) -> bool
+    requires { ⌜ NextIn (now file) found ⌝ }
+    ensures { λ r. ⌜ r ≡ endsBy (vectorVerdict (now (file .entry)) inputs count) found ⌝ }
+{
+    match found {
+        Next::Found(f) => refuses(vector_verdict(file, f, inputs, count)),
+        Next::Other => true,
+    }
+}
+
+// The vector that was found.
+fn vector_of(file: &[u8], found: Next) -> Vector
+    requires { ⌜ VectorNext (now file) found ⌝ }
+    ensures { λ r. ⌜ r ≡ keptBy (vectorKept (now (file .entry))) unusedVector found ⌝ }
+{
+    match found {
+        Next::Found(f) => vector_in(file, f),
+        Next::Other => no_vector(),
+    }
+}
+
+// What was read, with why the stage ended there.
+fn ended(
+    file: &[u8],
+    found: Next,
+    inputs: usize,
+    at: usize,
+    count: usize,
+    all: [Vector; MOST_VECTORS],
+) -> Vectors
+    requires { ⌜ NextIn (now file) found ⌝ }
+    ensures { λ r. ⌜ VectorsEnded (now (file .entry)) found inputs at count all r ⌝ }
+{
+    let refusal = match found {
+        Next::Found(f) => vector_verdict(file, f, inputs, count),
+        Next::Other => Refusal::Nothing,
+    };
+    Vectors {
+        refusal,
+        at,
+        count,
+        all,
+    }
+}
+
+fn no_vectors() -> [Vector; MOST_VECTORS]
+    ensures { λ r. ⌜ r ≡ replicate 256 unusedVector ⌝ }
+{
+    [no_vector(); MOST_VECTORS]
+}
+
+// The vectors from an offset on, read by one reader.
 pub fn read_vectors(file: &[u8], from: usize, inputs: usize) -> Vectors
-    requires { ⌜ from ≤ length (now file) ⌝ }
-    requires { ⌜ inputs ≤ 64 ⌝ }
+    requires { ⌜ (from ≤ length (now file)) × (inputs ≤ 64) ⌝ }
     ensures { λ r. ⌜ VectorsRead (now (file .entry)) from inputs r ⌝ }
 {
-    let mut all = [no_vector(); MOST_VECTORS];
+    let mut reader = reader_at(file, from);
+    let mut all = no_vectors();
     let mut count: usize = 0;
-    let mut at = from;
     loop {
-        let Next::Found(f) = field_of(file, at, Kind::Vector) else {
-            return Vectors {
-                refusal: Refusal::Nothing,
-                at,
-                count,
-                all,
-            };
-        };
-        let refusal = vector_verdict(file, f, inputs, count);
-        if refuses(refusal) {
-            return Vectors {
-                refusal,
-                at,
-                count,
-                all,
-            };
+        let at = reader.at;
+        let found = own_field(next(&mut reader), Kind::Vector);
+        if ends(file, found, inputs, count) {
+            return ended(file, found, inputs, at, count, all);
         }
-        let v = vector_in(file, f);
-        all[count] = v;
+        all[count] = vector_of(file, found);
         count += 1;
-        at = f.body + f.len;
     }
 }

@@ -193,18 +193,18 @@ module _ {M : Type 1} (𝓤 : URA M) (H : Heap 𝓤) (A : Atoms 𝓤) (W : Given
         -- [the struct's cell; what a Reader owns; the open borrow; obs; auth; 'a's token; …; _6; …; _5; …; _4; …; _3; …; _2; …; _1; …; room for _0; …]
         assigns ! (of-opd ! (load ! (from ! (hop ! (look ! 17 refl) (stop !))) (look ! 0 refl))) (from ! (stop !)) (init ! 11 refl wt) $
         move ! (1 ∷ []) $ use1 W (‵ Own ⊛ ‵ Own) twice $ split ! $ move ! (0 ∷ 6 ∷ []) $ use2 W (raw (Place 𝓤 H A at-mem run .pre to-place)) goes-place $
-        called W place.ended (place.clauses 𝓤 H A at-mem run) (to-place .0) tt fm known-place (λ n ws. n ≡ h .at) (λ n ws. id⊢ 𝓤 _) (and-then ! (load ! (from ! (stop !)) (look ! 11 refl)) (no-more !)) (λ n ws u e is. drop ! $ move ! (1 ∷ []) $ drop ! $
+        called W place.ended (place.clauses 𝓤 H A at-mem run) (to-place .0) tt ! fm known-place (λ n ws. n ≡ h .at) (λ n ws. id⊢ 𝓤 _) (and-then ! (load ! (from ! (stop !)) (look ! 11 refl)) (no-more !)) (λ n ws u e is. drop ! $ move ! (1 ∷ []) $ drop ! $
         -- ['a's token; what a Reader owns; the struct's cell; the open borrow; obs; auth; …; _6; …; _5; …; _4; …; _3; …; _2; …; _1; …; room for _0; …]
         land ! (from ! (stop !)) (init ! 15 refl (uint-lawful 𝓤 H A W w64 .typed n _ is .0)) $ rewrite ! 15 (λ (w : Val). ‵ (fat fullShare (tyInt w64) l₂ 0 w)) (ap only (is .0) ∙ ap (vint w64) e) refl $
         assigns ! (of-opd ! (load ! (from ! (hop ! (look ! 17 refl) (fld ! refl (stop !)))) (look-in ! 2 (sub ! 0 refl (whole !))))) (from ! (stop !)) (init ! 9 refl (tt, wt .1 .0)) $
         move ! (1 ∷ []) $ use1 W (‵ Own ⊛ ‵ Own) twice $ split ! $ move ! (0 ∷ 2 ∷ []) $ use2 W (raw (CutAt 𝓤 H A at-mem run .pre to-cut)) (goes-cut (wt .1 .1 .0 .fits)) $
-        called W cut.ended (cut.clauses 𝓤 H A at-mem run) (to-cut .0) tt fm known-cut (λ t ws′. Found t) (λ t ws′. id⊢ 𝓤 _) (and-then ! (load ! (from ! (stop !)) (look ! 9 refl)) (and-then ! (load ! (from ! (stop !)) (look ! 15 refl)) (no-more !))) (λ t ws′ u′ found is′. move ! (2 ∷ []) $ drop ! $
+        called W cut.ended (cut.clauses 𝓤 H A at-mem run) (to-cut .0) tt ! fm known-cut (λ t ws′. Found t) (λ t ws′. id⊢ 𝓤 _) (and-then ! (load ! (from ! (stop !)) (look ! 9 refl)) (and-then ! (load ! (from ! (stop !)) (look ! 15 refl)) (no-more !))) (λ t ws′ u′ found is′. move ! (2 ∷ []) $ drop ! $
         -- [the step; 'a's token; what a Reader owns; the struct's cell; the open borrow; obs; auth; …; _6; …; _5; …; _4; …; _3; …; _2; …; _1; …; room for _0; …]
         let typed = EL.lawful S.the-type S′.the-laws 𝓤 H A W tt .typed t _ is′ .0 in
         land ! (from ! (stop !)) (init ! 14 refl typed) $
         use1 W (‵ (S.the-row .own t (u′ ∷ [])) ⊛ ‵ (S.the-row .own t (u′ ∷ []))) (EL.copy S.the-type S′.the-copy 𝓤 H A W .twice t (u′ ∷ [])) $ split ! $
         use1 W (raw (Behind 𝓤 H A at-mem run .pre (to-behind t u′))) (goes-behind t u′ (wt .1 .1 .0 .fits) (let k = behind-fits (now (h .file)) (h .at) t within found in let l = wt .1 .0 .1 .0 .fits in omega (arith, k, l))) $
-        called W behind.ended (behind.clauses 𝓤 H A at-mem run) (to-behind t u′ .0) tt fm known-behind (λ m ws″. m ≡ behindStep t (h .at)) (λ m ws″. id⊢ 𝓤 _) (and-then ! (load ! (from ! (stop !)) (look ! 15 refl)) (and-then ! (load ! (from ! (stop !)) (look ! 17 refl)) (no-more !))) (λ m ws″ u″ e″ is″. drop ! $ drop ! $ drop ! $
+        called W behind.ended (behind.clauses 𝓤 H A at-mem run) (to-behind t u′ .0) tt ! fm known-behind (λ m ws″. m ≡ behindStep t (h .at)) (λ m ws″. id⊢ 𝓤 _) (and-then ! (load ! (from ! (stop !)) (look ! 15 refl)) (and-then ! (load ! (from ! (stop !)) (look ! 17 refl)) (no-more !))) (λ m ws″ u″ e″ is″. drop ! $ drop ! $ drop ! $
         -- [the step; 'a's token; what a Reader owns; the struct's cell; the open borrow; obs; auth; …; _6; …; _5; …; _4; …; _3; …; _2; …; _1; …; room for _0; …]
         land ! (from ! (stop !)) (init ! 8 refl (uint-lawful 𝓤 H A W w64 .typed m _ is″ .0)) $ rewrite ! 8 (λ (w : Val). ‵ (fat fullShare (tyInt w64) l₆ 0 w)) (ap only (is″ .0)) refl $
         assigns ! (of-opd ! (load ! (from ! (stop !)) (look ! 8 refl))) (from ! (hop ! (look ! 18 refl) (fld ! refl (stop !)))) (store-in ! 3 (sub ! 1 refl (whole !)) (tt, record { fits = is″ .1 })) $

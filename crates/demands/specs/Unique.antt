@@ -91,8 +91,8 @@ pub record SoleWhereMet (F : Ended) (Asked : AskedBy F) (Told : ToldBy F) : Type
 abbrev pub ClausesOf : Ended → Type 2
 ClausesOf F = (M : Type 1) (𝓤 : URA M) → Heap 𝓤 → Atoms 𝓤 → (Memory → SProp 𝓤) → (Routine → Fun 𝓤) → Clauses 𝓤 F
 
--- a function with a slice of records, or a struct that holds a slice, in its signature: the kit has no reading of its clauses, so one is given that they are equal to,
--- in every model of the logic
+-- a function with a slice of records, or a struct that holds a slice, in its signature: the kit has no reading of its clauses, so one is
+-- given that they are equal to, in every model of the logic
 pub record SoleByClauses (F : Ended) (clauses : ClausesOf F) : Type 2 where
   pub Asked : AskedBy F
   pub Told : ToldBy F

@@ -5,6 +5,7 @@ ghost use mathlib.Core.Path.{_≡_};
 ghost use Prim.Native.Nat.{_≤_};
 ghost use lib.ListN.{length};
 ghost use Rattle.grading.specs.Given.{Read};
+ghost use Rattle.program_io.specs.Inputs.{headingRoom};
 ghost use Rattle.program_grade.specs.Handing.{AllHanded, RowsRead};
 use crate::handing::Handed;
 use crate::handing::hand_out;
@@ -76,7 +77,7 @@ fn grade_input(
     matrix: &mut [u64],
     classes: &mut [u16],
 ) -> Output
-    requires { ⌜ 4106 ≤ length (now out) ⌝ }
+    requires { ⌜ headingRoom ≤ length (now out) ⌝ }
     requires { ⌜ (length (now matrix) ≡ 8192) × (length (now classes) ≡ 2048) ⌝ }
 {
     let input = read_input(number, file);

@@ -15,6 +15,10 @@ pub record InputRead (buffer : List ℕ) (input : Input) (buffer′ : List ℕ) 
   pub long : length buffer′ ≡ length buffer
   pub unread-none : input .«is_read» ≡ false → input .count ≡ 0
 
+-- room for the heading of the longest name, which has 4,096 bytes
+abbrev pub headingRoom : ℕ
+headingRoom = 4106
+
 -- an only input has no heading; one of several has that of its name, which comes from outside
 abbrev pub Unheaded : Output → List ℕ → Output → List ℕ → Type 0
 Unheaded before buffer after buffer′ = (after ≡ before) × (buffer′ ≡ buffer)

@@ -1,7 +1,7 @@
 // The inputs of a program, numbered from 1: the files that its arguments name, in their order, or standard input where there are none.
 ghost use Prim.Native.Nat.{_≤_};
 ghost use lib.ListN.{length};
-ghost use Rattle.program_io.specs.Inputs.{InputRead, InputHeaded};
+ghost use Rattle.program_io.specs.Inputs.{InputRead, headingRoom, InputHeaded};
 use crate::input::Input;
 use crate::input::read_named;
 use crate::input::read_standard;
@@ -37,9 +37,9 @@ pub fn read_input(number: usize, buf: &mut [u8]) -> Input
     read_named(&name[..n], buf)
 }
 
-// The heading of an input, where there are several, put into a buffer and written. The buffer has room for the longest name, 4,096 bytes.
+// The heading of an input, where there are several, put into a buffer and written. The buffer has room for the longest name.
 pub fn head_input(out: &mut [u8], output: Output, number: usize) -> Output
-    requires { ⌜ 4106 ≤ length (now out) ⌝ }
+    requires { ⌜ headingRoom ≤ length (now out) ⌝ }
     ensures { λ r. ⌜ InputHeaded output (now (out .entry)) r (now (out .exit)) ⌝ }
 {
     if os::arg_count() < 3 {

@@ -3,6 +3,7 @@ mod handing;
 
 ghost use Prim.Native.Nat.{_≤_};
 ghost use lib.ListN.{length};
+ghost use Rattle.program_io.specs.Inputs.{headingRoom};
 ghost use Rattle.program_show.specs.Handing.{ListingHanded};
 use crate::handing::Handed;
 use crate::handing::hand_out;
@@ -40,7 +41,7 @@ fn show_file(out: &mut [u8], output: Output, file: &[u8]) -> Handed
 
 // Reads an input and prints what it tells, under a heading where there are several; one that cannot be read has none.
 fn show_input(number: usize, out: &mut [u8], output: Output, file: &mut [u8]) -> Output
-    requires { ⌜ 4106 ≤ length (now out) ⌝ }
+    requires { ⌜ headingRoom ≤ length (now out) ⌝ }
 {
     let input = read_input(number, file);
     if !input.is_read {

@@ -222,18 +222,18 @@ module _ (one other : Call) (bodies otherBodies : List (List ℕ)) (graded : Gra
       rw (read .vectors, read .other-vectors) (letters-refine bodies otherBodies v w keeps) in
       let long = gave other d as-d .good .vectors w [] (is-other-vector w k) ∙ sym (read .alike .inputs) in
       let marked = marks-hold-under-every-filling one c as-c (cellOf r v l h) mark (vectorOf d w) long refines in
-      cell-marked other d as-d (otherCell r w l k) .1 (marked-alike (vectorOf d w) r marked)
+      cell-marked other d (gave other d as-d) (otherCell r w l k) .1 (marked-alike (vectorOf d w) r marked)
 
   rows : SameRows one other
   rows =
       let same = same-rows c d (read .alike) in
       record {
         faults = rows-counted one c as-c ∙ ap length same ∙ sym (rows-counted other d as-d);
-        classes = classes-counted one c as-c ∙ ap (λ (rs : List Row). largest (classesOf rs)) same ∙ sym (classes-counted other d as-d);
+        classes = classes-counted one c (gave one c as-c) ∙ ap (λ (rs : List Row). largest (classesOf rs)) same ∙ sym (classes-counted other d (gave other d as-d));
         class = λ r h.
-            class-is one c as-c r (is-row r h)
+            class-is one c (gave one c as-c) r (is-row r h)
             ∙ ap (λ (rs : List Row). getD (classesOf rs) r 0) same
-            ∙ sym (class-is other d as-d r (rw same at (is-row r h)));
+            ∙ sym (class-is other d (gave other d as-d) r (rw same at (is-row r h)));
       }
 
 pub rows-are-of-the-head : RowsAreOfTheHead

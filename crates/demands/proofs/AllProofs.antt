@@ -25,6 +25,7 @@ use Rattle.demands.proofs.AlikeFilesExamples.{not-any-head, nand-refine
 use Rattle.demands.proofs.Determines.{demands-leave-one-outcome, demands-are-the-promise}
 use Rattle.demands.proofs.ContractsProof.{grade-is-kept, entry-is-kept}
 use Rattle.demands.proofs.CircuitCallsProof.{circuit-is-graded-as-file, circuit-answers-as-file, grade-circuit-is-kept}
+use Rattle.demands.proofs.CircuitCallsProof.{circuits-meet-two, circuit-column-is-of-its-vector, circuits-meet-three}
 use Rattle.demands.proofs.UniqueProof.{unique}
 use Rattle.demands.proofs.MetProof.{met-by-every-file}
 use Rattle.demands.proofs.KnownProof.{all-known}
@@ -72,6 +73,9 @@ all-proved = record {
   grade-circuit-is-kept = grade-circuit-is-kept;
   circuit-is-graded-as-file = circuit-is-graded-as-file;
   circuit-answers-as-file = circuit-answers-as-file;
+  circuits-meet-two = circuits-meet-two;
+  circuit-column-is-of-its-vector = circuit-column-is-of-its-vector;
+  circuits-meet-three = circuits-meet-three;
   unique = unique;
   met-by-every-file = met-by-every-file;
   one-piece = one-piece;

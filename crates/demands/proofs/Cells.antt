@@ -29,14 +29,11 @@ use Rattle.grading.proofs.Everywhere.{every-at}
 use Rattle.grade_classes.proofs.FoundMeaning.{words-are}
 use Rattle.grading.proofs.SameClass.{Placed, rows-placed}
 use Rattle.grading.proofs.ValueLaws.{type-good, type-accepted}
-use Rattle.demands.specs.Calls.{Call, GradedAs, cellAt}
-use Rattle.demands.specs.Two.{rowAt, vectorOf, MatrixCell, rowOfCell, vectorOfCell, markIn, valuesIn, CellIsPath}
+use Rattle.demands.specs.Calls.{Call, cellAt}
+use Rattle.demands.specs.Two.{rowAt, vectorOf, MatrixCell, rowOfCell, vectorOfCell, markIn, valuesIn, CellsTell, CellIsPath}
 use Rattle.demands.proofs.Gave.{Gave, gave}
 
-module _ (call : Call) (c : Circuit) (given : GradedAs call c) (r v : ℕ) (h : r < length (rowsOf c)) where
-  here : Gave call c
-  here = gave call c given
-
+module _ (call : Call) (c : Circuit) (here : Gave call c) (r v : ℕ) (h : r < length (rowsOf c)) where
   marks : v < 256 → cellAt (call .after .matrix) r v ≡ upTo (length (c .vectors)) (markOf c (rowAt c r)) v
   unfolding cellAt matrixOf over rowWords markAt markOf
   marks k =
@@ -80,9 +77,9 @@ row-accepted c good r h =
     rw (at .type-is) (type-accepted (typeOfInstance (c .types) (row .instance))
     (type-good c good (row .number - 1) (omega arith) none (row .instance) (sym (at .instance-is))))
 
-module _ (call : Call) (c : Circuit) (given : GradedAs call c) (cell : MatrixCell c) where
+module _ (call : Call) (c : Circuit) (here : Gave call c) (cell : MatrixCell c) where
   is-mark : markIn call cell ≡ markOf c (rowOfCell cell) (cell .vector)
-  is-mark = mark-is call c given (cell .row) (cell .vector) (cell .is-row) (cell .is-vector)
+  is-mark = mark-is call c here (cell .row) (cell .vector) (cell .is-row) (cell .is-vector)
 
   decided : CellMarked c (vectorOfCell cell) (rowOfCell cell) ↔ T (rows.cell c (vectorOfCell cell) (rowOfCell cell))
   decided = cell-decides c (vectorOfCell cell) (rowOfCell cell)
@@ -96,7 +93,7 @@ module _ (call : Call) (c : Circuit) (given : GradedAs call c) (cell : MatrixCel
   cell-not-marked = denies (rows.cell c (vectorOfCell cell) (rowOfCell cell)) decided (markIn call cell) is-mark
 
   accepted : Accepted (rowOfCell cell .type)
-  accepted = row-accepted c (gave call c given .good) (cell .row) (cell .is-row)
+  accepted = row-accepted c (here .good) (cell .row) (cell .is-row)
 
   cell-by-ends : (markIn call cell ≡ 1) ↔ MarkedByEnds (rowOfCell cell .type) (valuesIn cell) (rowOfCell cell .bridge)
   unfolding CellMarked
@@ -104,11 +101,14 @@ module _ (call : Call) (c : Circuit) (given : GradedAs call c) (cell : MatrixCel
       let ends = closed-path-is-ends (rowOfCell cell .type) accepted (valuesIn cell) (rowOfCell cell .bridge) in
       (λ e. ends .0 (cell-marked .0 e), λ m. cell-marked .1 (ends .1 m))
 
-pub cell-is-path : CellIsPath
-cell-is-path call c given = record {
-  marked = cell-marked call c given;
-  not-marked = cell-not-marked call c given;
-  by-ends = cell-by-ends call c given;
-  not-without-the-bridge = λ cell. rails-apart .rails (rowOfCell cell .type) (accepted call c given cell) (valuesIn cell);
-  past-the-last-vector = cell-past call c given;
+pub cells-tell : (call : Call) (c : Circuit) → Gave call c → CellsTell call c
+cells-tell call c here = record {
+  marked = cell-marked call c here;
+  not-marked = cell-not-marked call c here;
+  by-ends = cell-by-ends call c here;
+  not-without-the-bridge = λ cell. rails-apart .rails (rowOfCell cell .type) (accepted call c here cell) (valuesIn cell);
+  past-the-last-vector = cell-past call c here;
 }
+
+pub cell-is-path : CellIsPath
+cell-is-path call c given = cells-tell call c (gave call c given)

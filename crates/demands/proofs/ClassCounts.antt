@@ -15,16 +15,16 @@ use Rattle.grading.specs.Grading as meant
 use Rattle.grading.specs.Statements.{RowOf, ClassNumbers}
 use Rattle.grading.proofs.Everywhere.{every-at}
 use Rattle.grading.proofs.ClassNumbering.{class-numbers}
-use Rattle.demands.specs.Calls.{Call, GradedAs}
+use Rattle.demands.specs.Calls.{Call}
 use Rattle.demands.specs.Two.{rowAt, OneClass, Found, ClassesTell, ClassesCountOnce}
-use Rattle.demands.proofs.Gave.{gave, classes-counted, found-counted, class-is}
+use Rattle.demands.proofs.Gave.{Gave, gave, classes-counted, found-counted, class-is}
 use Rattle.demands.proofs.Cells.{mark-is}
 use Rattle.demands.proofs.FoundClasses.{Shown, found-is-shown}
 use Rattle.demands.proofs.OneClass.{one-class-is-tested}
 
 -- ---- a graded call
 
-module _ (call : Call) (c : Circuit) (g : GradedAs call c) where
+module _ (call : Call) (c : Circuit) (g : Gave call c) where
   -- what is found in the buffers is found in the circuit
   found-shown : (n : ℕ) → Found call c n ↔ Shown c n
   found-shown n = (
@@ -67,12 +67,12 @@ module _ (call : Call) (c : Circuit) (g : GradedAs call c) where
       → (getD (classesOf (rowsOf c)) r 0 ≡ getD (classesOf (rowsOf c)) s 0) ↔ OneClass (rowAt c r) (rowAt c s)
   same r s h k =
       let numbers = class-numbers c .same r s noRow h k in
-      let tested = one-class-is-tested c (gave call c g .good) (rowAt c r) (rowAt c s) (is-row r h) (is-row s k) in
+      let tested = one-class-is-tested c (g .good) (rowAt c r) (rowAt c s) (is-row r h) (is-row s k) in
       (λ e. tested .1 (numbers .0 e), λ o. numbers .1 (tested .0 o))
 
-  tell : ClassesTell call c
+  pub classes-tell : ClassesTell call c
   unfolding meant.countsOfCircuit
-  tell =
+  classes-tell =
       let numbers : ClassNumbers c = class-numbers c in
       let class = class-is call c g in
       let count = classes-counted call c g in
@@ -91,9 +91,9 @@ module _ (call : Call) (c : Circuit) (g : GradedAs call c) where
           λ n. (λ e. told n .0 (set-bit (classFoundAt n) e), λ f. bit-set (classFoundAt n) (told n .1 f)),
           found-counted call c g ∙ rw count found-sum,
         );
-        vectors = ap (λ (counts : meant.Counts). counts .vectors) (gave call c g .counts-are);
-        faults = ap (λ (counts : meant.Counts). counts .faults) (gave call c g .counts-are);
+        vectors = ap (λ (counts : meant.Counts). counts .vectors) (g .counts-are);
+        faults = ap (λ (counts : meant.Counts). counts .faults) (g .counts-are);
       }
 
 pub classes-count-once : ClassesCountOnce
-classes-count-once = tell
+classes-count-once call c given = classes-tell call c (gave call c given)

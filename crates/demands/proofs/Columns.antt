@@ -8,7 +8,9 @@ use Rattle.switch.specs.Conduction.{Value}
 use Rattle.circuit.specs.Circuit.{Circuit}
 use Rattle.grading.specs.Rows as rows
 use Rattle.grading.specs.Rows.{Row, noRow, rowsOf, rowValues, markOf}
-use Rattle.demands.specs.Two.{rowOfCell, vectorOfCell, AlikeButVectors, ColumnIsOfItsVector}
+use Rattle.demands.specs.Calls.{Call}
+use Rattle.demands.specs.Two.{MatrixCell, rowOfCell, vectorOfCell, markIn, AlikeButVectors, ColumnIsOfItsVector}
+use Rattle.demands.proofs.Gave.{Gave, gave}
 use Rattle.demands.proofs.Cells.{mark-is}
 
 module _ (c d : Circuit) (alike : AlikeButVectors c d) where
@@ -20,12 +22,16 @@ module _ (c d : Circuit) (alike : AlikeButVectors c d) where
   unfolding rows.cell rowValues
   same-cell vector row = rw (alike .types, alike .instances)
 
-pub column-is-of-its-vector : ColumnIsOfItsVector
+pub same-column : (one other : Call) (c d : Circuit) → Gave one c → Gave other d → AlikeButVectors c d
+    → (cell : MatrixCell c) (its : MatrixCell d) → cell .row ≡ its .row → vectorOfCell cell ≡ vectorOfCell its → markIn one cell ≡ markIn other its
 unfolding markOf
-column-is-of-its-vector one other c d given given′ alike cell its same-row same-vector =
-    mark-is one c given (cell .row) (cell .vector) (cell .is-row) (cell .is-vector)
+same-column one other c d here here′ alike cell its same-row same-vector =
+    mark-is one c here (cell .row) (cell .vector) (cell .is-row) (cell .is-vector)
     ∙ ap ofBool (same-cell c d alike (vectorOfCell cell) (rowOfCell cell) ∙ ap₂ (rows.cell d) same-vector row-is)
-    ∙ sym (mark-is other d given′ (its .row) (its .vector) (its .is-row) (its .is-vector))
+    ∙ sym (mark-is other d here′ (its .row) (its .vector) (its .is-row) (its .is-vector))
   where
     row-is : rowOfCell cell ≡ rowOfCell its
     row-is = ap₂ (λ (rs : List Row) (r : ℕ). getD rs r noRow) (same-rows c d alike) same-row
+
+pub column-is-of-its-vector : ColumnIsOfItsVector
+column-is-of-its-vector one other c d given given′ = same-column one other c d (gave one c given) (gave other d given′)

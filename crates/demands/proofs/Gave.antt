@@ -38,11 +38,11 @@ no-number (Refused refusal) t = absurd t
 no-number (ShortMatrix words) t = absurd t
 no-number (ShortClasses faults) t = absurd t
 
-pub gave : (call : Call) (c : Circuit) → GradedAs call c → Gave call c
-unfolding gradingOf afterReading gradingOfCircuit numberIn countsIn buffersAfter
-gave call c given =
-    go (ltb words (4 * faults)) (ltb entries faults) refl refl
-    (subst (λ (read : Reading). Kept (afterReading read (roomOf (call .before)))) (given .accepts) (given .kept))
+-- a call that graded a good circuit, whichever file it is read from, if any
+pub gave-of-circuit : (call : Call) (c : Circuit) → CircuitGood c → AnswersAs (gradingOfCircuit c (roomOf (call .before))) (call .answer) (call .before) (call .after)
+    → T (isGraded (call .answer)) → Gave call c
+unfolding gradingOfCircuit numberIn countsIn buffersAfter
+gave-of-circuit call c good answers is = go (ltb words (4 * faults)) (ltb entries faults) refl refl answers
   where
     words : ℕ
     words = length (call .before .matrix)
@@ -58,29 +58,36 @@ gave call c given =
 
     go : (a b : Bool) → ltb words (4 * faults) ≡ a → ltb entries faults ≡ b
         → Kept (cond a (refused 15 (4 * faults)) (cond b (refused 22 faults) (graded c))) → Gave call c
-    go true b p q kept = absurd (omega (arith, kept .number, no-number (call .answer) (given .graded)))
-    go false true p q kept = absurd (omega (arith, kept .number, no-number (call .answer) (given .graded)))
+    go true b p q kept = absurd (omega (arith, kept .number, no-number (call .answer) is))
+    go false true p q kept = absurd (omega (arith, kept .number, no-number (call .answer) is))
     go false false p q kept = record {
-      good = accepted-is-good true (call .file) c (given .accepts);
+      good = good;
       room = record { words = ltb-false words (4 * faults) p; entries = ltb-false entries faults q };
       counts-are = kept .counts;
       matrix-is = matrix-at-exit _ _ _ _ kept;
       classes-are = classes-at-exit _ _ _ _ kept;
     }
 
+pub gave : (call : Call) (c : Circuit) → GradedAs call c → Gave call c
+unfolding gradingOf afterReading
+gave call c given =
+    gave-of-circuit call c (accepted-is-good true (call .file) c (given .accepts))
+    (subst (λ (read : Reading). AnswersAs (afterReading read (roomOf (call .before))) (call .answer) (call .before) (call .after)) (given .accepts) (given .kept))
+    (given .graded)
+
 -- ---- counts and class numbers
 
-module _ (call : Call) (c : Circuit) (given : GradedAs call c) where
+module _ (call : Call) (c : Circuit) (here : Gave call c) where
   pub classes-counted : countsOf (call .answer) .classes ≡ classCount c
   unfolding grading.countsOfCircuit
-  classes-counted = ap (λ (counts : grading.Counts). counts .classes) (gave call c given .counts-are)
+  classes-counted = ap (λ (counts : grading.Counts). counts .classes) (here .counts-are)
 
   pub found-counted : countsOf (call .answer) .found ≡ foundCount c
   unfolding grading.countsOfCircuit
-  found-counted = ap (λ (counts : grading.Counts). counts .found) (gave call c given .counts-are)
+  found-counted = ap (λ (counts : grading.Counts). counts .found) (here .counts-are)
 
   pub class-is : (r : ℕ) → r < length (rowsOf c) → classAt (call .after .classes) r ≡ getD (classesOf (rowsOf c)) r 0
   unfolding classAt over
   class-is r h =
-      ap (λ (classes : List ℕ). getD classes r 0) (gave call c given .classes-are)
+      ap (λ (classes : List ℕ). getD classes r 0) (here .classes-are)
       ∙ numbers-are (rowsOf c) (drop (length (classesOf (rowsOf c))) (call .before .classes)) r h

@@ -21,7 +21,7 @@ use Rattle.grading.specs.Statements.{RowOf}
 use Rattle.demands.specs.Two.{EqualBridges, NamedAgain, NamingAgainAddsNothing, OtherEndAddsNothing}
 use Rattle.demands.proofs.RowFaults.{withBridge, rows-from}
 use Rattle.demands.proofs.OneClass.{equal-itself, equal-turned, equal-tested}
-use Rattle.demands.proofs.Gave.{classes-counted, found-counted}
+use Rattle.demands.proofs.Gave.{gave, classes-counted, found-counted}
 use Rattle.demands.proofs.ClassesCarried.{Carries, carries-within, classes-carried, found-carried}
 
 -- ---- user lists
@@ -179,15 +179,15 @@ pub naming-again-adds-nothing : NamingAgainAddsNothing
 naming-again-adds-nothing one other c d g k again = record {
   classes = omega (
     arith,
-    classes-counted one c g,
-    classes-counted other d k,
+    classes-counted one c (gave one c g),
+    classes-counted other d (gave other d k),
     classes-carried c d d (up c d again),
     classes-carried d d c (down c d again),
   );
   found = omega (
     arith,
-    found-counted one c g,
-    found-counted other d k,
+    found-counted one c (gave one c g),
+    found-counted other d (gave other d k),
     found-carried c d d (up c d again),
     found-carried d d c (down c d again),
   );

@@ -26,8 +26,8 @@ use Rattle.grading.specs.declared.Answer.the-variants.{Graded, Refused, ShortMa
 use Rattle.grading.proofs.ClassLists.{length-classes}
 use Rattle.grading.proofs.MatrixLaws.{length-matrix}
 use Rattle.demands.specs.Calls.{Call, Kept, Accepts, Refuses}
-use Rattle.demands.specs.One.{passed, FirstApplying, tableFor, AnswerFits, One, OneHolds, GradingKeepsTheRest}
-use Rattle.demands.proofs.Gave.{gave}
+use Rattle.demands.specs.One.{passed, FirstApplying, tableFor, AnswerFits, One, OneHolds, RestKept, GradingKeepsTheRest}
+use Rattle.demands.proofs.Gave.{Gave, gave}
 use Rattle.demands.proofs.Verdicts.{none-applies, first-applying}
 use Rattle.demands.proofs.GradingVerdicts.{verdictIn, table-tells, answered, graded-is, refuses-is, answer-is}
 
@@ -156,10 +156,9 @@ put-over answer buffer n size fits =
       as-long = omega (arith, length-append answer (drop (length answer) buffer), length-drop (length answer) buffer);
     }
 
-pub grading-keeps-the-rest : GradingKeepsTheRest
+pub rest-kept : (call : Call) (c : Circuit) → Gave call c → RestKept call c
 unfolding matrixOf
-grading-keeps-the-rest call c given =
-    let here = gave call c given in
+rest-kept call c here =
     let words = put-over (matrixOf c) (call .before .matrix) (4 * length (rowsOf c)) (length-matrix c (rowsOf c)) (here .room .words) in
     let entries = put-over (classesOf (rowsOf c)) (call .before .classes) (length (rowsOf c)) (length-classes sameClass (rowsOf c)) (here .room .entries) in
     record {
@@ -167,3 +166,6 @@ grading-keeps-the-rest call c given =
       entries = rw (here .classes-are) (entries .rest);
       as-long = ap₂ roomFor (ap length (here .matrix-is) ∙ words .as-long) (ap length (here .classes-are) ∙ entries .as-long);
     }
+
+pub grading-keeps-the-rest : GradingKeepsTheRest
+grading-keeps-the-rest call c given = rest-kept call c (gave call c given)

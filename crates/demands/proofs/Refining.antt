@@ -18,12 +18,11 @@ use Rattle.grading.specs.Values.{valueAt, labelValues, outputsAfter, outputsOf}
 use Rattle.grading.specs.Rows.{Row, noRow, rowValues, CellMarked, cell, markOf}
 use Rattle.grading.specs.Classes.{foundCount}
 use Rattle.grading.specs.Grading as grading
-use Rattle.grading.specs.Promise.{countsOf}
 use Rattle.grading.proofs.ValueLaws.{label-value, type-good, type-accepted}
-use Rattle.demands.specs.Calls.{Call, GradedAs}
+use Rattle.demands.specs.Calls.{Call}
 use Rattle.demands.specs.Two.{vectorOf, MatrixCell, rowOfCell, vectorOfCell, markIn, AlikeButVectors}
-use Rattle.demands.specs.Three.{given, Refined, ThreeHolds, MarksHoldUnderEveryFilling}
-use Rattle.demands.proofs.Gave.{gave}
+use Rattle.demands.specs.Three.{given, Refined, Three, ThreeHolds, MarksHoldUnderEveryFilling}
+use Rattle.demands.proofs.Gave.{Gave, gave}
 use Rattle.demands.proofs.Cells.{mark-is, cell-decides, cell-marked}
 use Rattle.demands.proofs.Columns.{same-rows, same-cell}
 use Rattle.demands.proofs.ClassesCarried.{carries-within, found-carried}
@@ -120,7 +119,7 @@ module _ (c d : Circuit) (good : CircuitGood c) (alike : AlikeButVectors c d) (r
 
 -- ---- the demand
 
-module _ (one finer : Call) (c d : Circuit) (graded : GradedAs one c) (graded′ : GradedAs finer d) (alike : AlikeButVectors c d)
+module _ (one finer : Call) (c d : Circuit) (graded : Gave one c) (graded′ : Gave finer d) (alike : AlikeButVectors c d)
     (refined : Refined (c .vectors) (d .vectors)) where
   pub marks-stand : (at : MatrixCell c) → markIn one at ≡ 1 → markIn finer at ≡ 1
   unfolding markOf
@@ -133,20 +132,21 @@ module _ (one finer : Call) (c d : Circuit) (graded : GradedAs one c) (graded′
         mark-is one c graded r v (at .is-row) (at .is-vector),
         mark-is finer d graded′ r v (omega (arith, ap length rows, at .is-row)) (omega (arith, at .is-vector, refined .no-fewer)),
         ap (λ (rs : List Row). ofBool (cell d (vectorOf d v) (getD rs r noRow))) rows,
-        mark-stands c d (gave one c graded .good) alike refined (rowOfCell at) v (at .is-vector),
+        mark-stands c d (graded .good) alike refined (rowOfCell at) v (at .is-vector),
         ofBool-le-one (cell d (vectorOf d v) (rowOfCell at)),
       )
 
+  pub three-stands : Three one finer c
+  unfolding grading.countsOfCircuit
+  three-stands = record {
+    marks = marks-stand;
+    found = rw (graded .counts-are, graded′ .counts-are) (found-stands c d (graded .good) alike refined);
+  }
+
 pub three-holds : ThreeHolds
-unfolding grading.countsOfCircuit
-three-holds one finer c d graded graded′ alike refined =
-    let before = gave one c graded in
-    record {
-      marks = marks-stand one finer c d graded graded′ alike refined;
-      found = rw (before .counts-are, gave finer d graded′ .counts-are) (found-stands c d (before .good) alike refined);
-    }
+three-holds one finer c d graded graded′ = three-stands one finer c d (gave one c graded) (gave finer d graded′)
 
 -- of the filling nothing is used but that it keeps each 0 and 1
 pub marks-hold-under-every-filling : MarksHoldUnderEveryFilling
 marks-hold-under-every-filling call c graded at mark filling long refines =
-    path-stays (vectorOfCell at) filling refines c (gave call c graded .good) (rowOfCell at) (cell-marked call c graded at .0 mark)
+    path-stays (vectorOfCell at) filling refines c (gave call c graded .good) (rowOfCell at) (cell-marked call c (gave call c graded) at .0 mark)

@@ -1,20 +1,27 @@
--- Grading a circuit in place of the file that it was read from: calls of `grade_circuit`, their promise on the code, and that they answer
--- and leave what a call of `grade` on the file does. The proofs are in proofs/CircuitCallsProof.
+-- Grading a circuit in place of the file that it was read from: calls of `grade_circuit`, their promise on the code, that they answer and
+-- leave what a call of `grade` on the file does, and demands 2 and 3 on them, also where there is no file. The proofs are in
+-- proofs/CircuitCallsProof.
 use Prim.Native.Nat.{ℕ}
 use mathlib.Core.Path.{_≡_}
-use mathlib.Core.List.{List}
+use mathlib.Core.List.{List, []}
+use lib.Dec.{T}
 use contract.Lifetimes.{Lfts}
 use denote.Ref.{now}
 use denote.Triple.Entry.{Args}
 use denote.Triple.Clauses.{AtExit}
 use Rattle.circuit.specs.Circuit.{Circuit}
 use Rattle.circuit.specs.Records.{circuitRecord}
+use Rattle.circuit.specs.Laws.{CircuitGood}
 use Rattle.circuit.specs.declared.Circuit.{Circuit as CircuitRecord}
 use Rattle.grading.specs.Buffers.{Buffers, buffersOf}
+use Rattle.grading.specs.Promise.{isGraded}
 use Rattle.grading.specs.CircuitPromise.{PromiseOfCircuit}
 use Rattle.grading.specs.declared.Answer.{Answer}
 use Rattle.grade_file.proofs.grade.grade_circuit as grade-circuit
 use Rattle.demands.specs.Calls.{Call, Kept, Accepts}
+use Rattle.demands.specs.One.{RestKept}
+use Rattle.demands.specs.Two.{MatrixCell, vectorOfCell, markIn, CellsTell, ClassesTell, AlikeButVectors}
+use Rattle.demands.specs.Three.{Refined, Three}
 
 -- a call of `grade_circuit`: the circuit's record and the buffers that it was given; the answer, and the buffers as they are then
 pub record CircuitCall : Type 0 where
@@ -50,6 +57,36 @@ abbrev pub CircuitAnswersAsFile : Type 0
 CircuitAnswersAsFile =
     (one : CircuitCall) (other : Call) → CircuitKept one → Kept other → CircuitOfFile (other .file) one → one .before ≡ other .before
     → SameAnswer one other
+
+-- ---- any good circuit, whether or not a file is read as it
+
+-- a call that graded it
+pub record CircuitGraded (call : CircuitCall) (c : Circuit) : Type 0 where
+  pub good : CircuitGood c
+  pub is : call .circuit ≡ circuitRecord c
+  pub kept : CircuitKept call
+  pub graded : T (isGraded (call .answer))
+
+-- demand 2, and that the rest of the buffers is kept. They do not look at the file of a call, for which none stands
+pub record CircuitTold (call : CircuitCall) (c : Circuit) : Type 0 where
+  pub cells : CellsTell (onFile [] call) c
+  pub classes : ClassesTell (onFile [] call) c
+  pub rest : RestKept (onFile [] call) c
+
+abbrev pub CircuitsMeetTwo : Type 0
+CircuitsMeetTwo = (call : CircuitCall) (c : Circuit) → CircuitGraded call c → CircuitTold call c
+
+abbrev pub CircuitColumnIsOfItsVector : Type 0
+CircuitColumnIsOfItsVector =
+    (one other : CircuitCall) (c d : Circuit) → CircuitGraded one c → CircuitGraded other d → AlikeButVectors c d
+    → (cell : MatrixCell c) (its : MatrixCell d) → cell .row ≡ its .row → vectorOfCell cell ≡ vectorOfCell its
+    → markIn (onFile [] one) cell ≡ markIn (onFile [] other) its
+
+-- demand 3
+abbrev pub CircuitsMeetThree : Type 0
+CircuitsMeetThree =
+    (one finer : CircuitCall) (c d : Circuit) → CircuitGraded one c → CircuitGraded finer d → AlikeButVectors c d
+    → Refined (c .vectors) (d .vectors) → Three (onFile [] one) (onFile [] finer) c
 
 -- ---- the code
 

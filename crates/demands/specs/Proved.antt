@@ -17,6 +17,7 @@ use Rattle.demands.specs.SplitFiles.{AcceptedIsSplit, SplitOnce, OtherVe
 use Rattle.demands.specs.Determined.{DemandsLeaveOneOutcome, DemandsAreThePromise}
 use Rattle.demands.specs.Contracts.{GradeIsKept, EntryIsKept}
 use Rattle.demands.specs.CircuitCalls.{CircuitIsGradedAsFile, CircuitAnswersAsFile, GradeCircuitIsKept}
+use Rattle.demands.specs.CircuitCalls.{CircuitsMeetTwo, CircuitColumnIsOfItsVector, CircuitsMeetThree}
 use Rattle.demands.specs.Unique.{Unique}
 use Rattle.demands.specs.Met.{MetByEveryFile}
 use Rattle.demands.specs.KnownResults.{AllKnown}
@@ -71,6 +72,9 @@ pub record AllProved : Type 2 where
   pub grade-circuit-is-kept : GradeCircuitIsKept
   pub circuit-is-graded-as-file : CircuitIsGradedAsFile
   pub circuit-answers-as-file : CircuitAnswersAsFile
+  pub circuits-meet-two : CircuitsMeetTwo
+  pub circuit-column-is-of-its-vector : CircuitColumnIsOfItsVector
+  pub circuits-meet-three : CircuitsMeetThree
   pub unique : Unique
   pub met-by-every-file : MetByEveryFile
   -- what the programs print, and what was read before a refusal

@@ -28,7 +28,7 @@ use Rattle.circuit.specs.Stages.{readTo}
 use Rattle.circuit.specs.Laws.{Each, TypeGood}
 use Rattle.read_bridges.specs.ListSums.{topNode, labelsNamed, most, listsOf}
 use Rattle.read_instances.specs.Choices.{listNamed, chosenOf, givenBy}
-use Rattle.read_instances.specs.ReadInstances.{shapesOf, gatheredTests, InstanceFits, TypesAndLists}
+use Rattle.read_instances.specs.ReadInstances.{shapesOf, gatheredTests, InstanceFits, TypesAndLists, ShapesAndLists}
 use Rattle.read_instances.specs.declared.choices.Chosen.{Chosen}
 use Rattle.read_instances.specs.declared.shapes.Shapes.{Shapes}
 use Rattle.read_bridges.specs.declared.lists.Lists.{Lists}
@@ -103,15 +103,6 @@ past m f n i h = go (decLt i m)
     go : Dec (i < m) → getD (table m (upTo n f)) i 0 ≡ 0
     go (yes q) = getD-table m (upTo n f) 0 i q ∙ up-past n f i h
     go (no q) = List·getD-eq-default (table m (upTo n f)) 0 {n = i} (omega (arith, length-table m (upTo n f)))
-
--- what the code's columns and sums tell of types and bridges
-pub record ShapesAndLists (types : List ModuleType) (bridges : List Listed) (typeCount : ℕ) (nodes labels : List ℕ) (lists : Lists) : Type 0 where
-  pub counted : typeCount ≡ length types
-  pub nodes-of : (n : ℕ) → numbered nodes n 0 ≡ numbered types n noType .highest
-  pub labels-of : (n : ℕ) → numbered labels n 0 ≡ numbered types n noType .labels
-  pub good : Each (λ (i : ℕ) (t : ModuleType). TypeGood t) types
-  pub few : length bridges ≤ mostBridges
-  pub summed : lists ≡ listsOf bridges
 
 module _ {types : List ModuleType} {bridges : List Listed} {typeCount : ℕ} {all : List TypeRecord} {lists : Lists}
     (held : TypesAndLists types bridges typeCount all lists) where

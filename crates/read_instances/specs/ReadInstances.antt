@@ -9,7 +9,7 @@ use Rattle.switch.specs.Modules.{ModuleType, allOf}
 use Rattle.switch.specs.declared.ModuleType.{ModuleType as TypeRecord}
 use Rattle.circuit.specs.Limits.{mostTypes, mostBridges, mostInstances}
 use Rattle.circuit.specs.Fields.{cutFrom}
-use Rattle.circuit.specs.Circuit.{Instance, Listed, faultCount}
+use Rattle.circuit.specs.Circuit.{Instance, Listed, numbered, noType, faultCount}
 use Rattle.circuit.specs.Table.{Test, listedGood, instanceTestsOf}
 use Rattle.circuit.specs.Records.{padded, unusedType, typeRecord, unusedInstance, instanceRecord}
 use Rattle.circuit.specs.Refusals.{verdictOf}
@@ -57,6 +57,17 @@ pub record HeldTo (typeCount : ℕ) (all : List TypeRecord) (lists : Lists) : Ty
   pub bridges : List Listed
   pub held : TypesAndLists types bridges typeCount all lists
 
+-- what the code's columns and sums tell of types and bridges
+pub record ShapesAndLists (types : List ModuleType) (bridges : List Listed) (typeCount : ℕ) (nodes labels : List ℕ)
+    (lists : Lists) : Type 0 where
+  pub counted : typeCount ≡ length types
+  pub nodes-of : (n : ℕ) → numbered nodes n 0 ≡ numbered types n noType .highest
+  pub labels-of : (n : ℕ) → numbered labels n 0 ≡ numbered types n noType .labels
+  pub good : Each (λ (i : ℕ) (t : ModuleType). TypeGood t) types
+  pub few : length bridges ≤ mostBridges
+  pub summed : lists ≡ listsOf bridges
+
+-- the instances from an offset on
 pub record InstancesRead (file : List ℕ) (from P : ℕ) (types : List ModuleType) (bridges : List Listed) (r : Instances) : Type 0 where
   pub instances : List Instance
   pub stage : instanceStage P types bridges [] (cutFrom file from) ≡ stageOf (verdictOf (r .refusal)) instances (cutFrom file (r .at))

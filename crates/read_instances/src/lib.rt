@@ -23,7 +23,9 @@ use read_bridges::lists::Lists;
 use read_fields::Field;
 use read_fields::Next;
 use read_fields::byte;
-use read_fields::field_of;
+use read_fields::cursor::next;
+use read_fields::cursor::reader_at;
+use read_fields::own_field;
 use read_fields::two_bytes;
 use switch::ModuleType;
 ghost use mathlib.Core.Path.{_≡_};
@@ -31,7 +33,7 @@ ghost use mathlib.Core.Bool.{not, _&&_};
 ghost use mathlib.Core.List.{List};
 ghost use Prim.Native.Nat.{_+_, _%_, _≤_};
 ghost use lib.Dec.{eqb};
-ghost use lib.ListN.{length};
+ghost use lib.ListN.{length, replicate};
 ghost use Rattle.switch.specs.Conduction.{between};
 ghost use Rattle.switch.specs.Modules.{ModuleType as TypeMeant};
 ghost use Rattle.circuit.specs.Circuit.{Listed};
@@ -40,8 +42,9 @@ ghost use Rattle.circuit.specs.Known.{instanceIn};
 ghost use Rattle.circuit.specs.Table.{firstOf};
 ghost use Rattle.circuit.specs.Records.{unusedInstance, instanceRecord};
 ghost use Rattle.circuit.specs.Refusals.{verdictOf};
-ghost use Rattle.read_fields.specs.Steps.{bodyOf};
-ghost use Rattle.read_instances.specs.ReadInstances.{gatheredTests, InstanceFits, TypesAndLists, HeldTo, InstancesRead};
+ghost use Rattle.read_fields.specs.Steps.{bodyOf, NextIn, endsBy, keptBy};
+ghost use Rattle.read_instances.specs.ReadInstances.{gatheredTests, InstanceFits, TypesAndLists, HeldTo, ShapesAndLists, InstancesRead};
+ghost use Rattle.read_instances.specs.Turns.{askedOf, noneAsked, HeldAt, instanceVerdict, FieldGiven, TurnGiven, instanceKept, InstanceNext, InstancesEnded};
 
 pub struct Instances {
     pub refusal: Refusal,
@@ -146,22 +149,173 @@ pub fn no_instance() -> Instance
     }
 }
 
-// What was read, with why reading stopped there.
-fn instances_read(
-    refusal: Refusal,
+// What instances are held to: of each type its highest node and its number of labels, and the lists in sum.
+struct Held {
+    nodes: [u8; MOST_TYPES],
+    labels: [u8; MOST_TYPES],
+    lists: Lists,
+}
+
+// What a field asks of its type and its list: the type's number of labels, and what the choice gives.
+struct Asked {
+    k: u8,
+    given: Chosen,
+}
+
+fn asked_in(file: &[u8], f: Field, held: Held) -> Asked
+    requires { ⌜ f .body + f .len ≤ length (now file) ⌝ }
+    ensures { λ r. ⌜ r ≡ askedOf (now (file .entry)) held f ⌝ }
+{
+    let nodes = held.nodes;
+    let labels = held.labels;
+    let lists = held.lists;
+    let number = byte(file, f, 0);
+    let k = of_type(labels, number);
+    let given = given_by(of_type(nodes, number), k, byte(file, f, 1), lists);
+    Asked { k, given }
+}
+
+fn none_asked() -> Asked
+    ensures { λ r. ⌜ r ≡ noneAsked ⌝ }
+{
+    let given = Chosen {
+        faults: 0,
+        unsuited: false,
+        empty: false,
+    };
+    Asked { k: 0, given }
+}
+
+// What the field that was found asks.
+fn asked_by(file: &[u8], found: Next, held: Held) -> Asked
+    requires { ⌜ NextIn (now file) found ⌝ }
+    ensures { λ r. ⌜ r ≡ keptBy (askedOf (now (file .entry)) held) noneAsked found ⌝ }
+{
+    match found {
+        Next::Found(f) => asked_in(file, f, held),
+        Next::Other => none_asked(),
+    }
+}
+
+// The verdict on a field that asks this.
+fn verdict_on(
+    file: &[u8],
+    f: Field,
+    inputs: usize,
+    type_count: usize,
+    asked: Asked,
+    count: usize,
+    faults: usize,
+) -> Refusal
+    requires { ⌜ FieldGiven (now file) f asked faults ⌝ }
+    ensures { λ r. ⌜ verdictOf r ≡ instanceVerdict (now (file .entry)) inputs «type_count» asked count faults f ⌝ }
+{
+    let given = asked.given;
+    instance_verdict(file, f, inputs, type_count, asked.k, given, count, faults)
+}
+
+// Whether the stage ends here: no instance stands next, or one that is refused.
+fn ends(
+    file: &[u8],
+    found: Next,
+    inputs: usize,
+    type_count: usize,
+    asked: Asked,
+    count: usize,
+    faults: usize,
+) -> bool
+    requires { ⌜ TurnGiven (now file) found asked faults ⌝ }
+    ensures { λ r. ⌜ r ≡ endsBy (instanceVerdict (now (file .entry)) inputs «type_count» asked count faults) found ⌝ }
+{
+    match found {
+        Next::Found(f) => refuses(verdict_on(file, f, inputs, type_count, asked, count, faults)),
+        Next::Other => true,
+    }
+}
+
+// The instance that was found.
+fn instance_of(file: &[u8], found: Next) -> Instance
+    requires { ⌜ InstanceNext (now file) found ⌝ }
+    ensures { λ r. ⌜ r ≡ keptBy (instanceKept (now (file .entry))) unusedInstance found ⌝ }
+{
+    match found {
+        Next::Found(f) => instance_in(file, f),
+        Next::Other => no_instance(),
+    }
+}
+
+// The faults with those of a field that asks this.
+fn faults_with(asked: Asked, faults: usize) -> usize
+    requires { ⌜ faults + asked .given .faults ≤ 2048 ⌝ }
+    ensures { λ r. ⌜ r ≡ faults + asked .given .faults ⌝ }
+{
+    let given = asked.given;
+    faults + given.faults
+}
+
+// What was read, with why the stage ended there.
+fn ended(
+    file: &[u8],
+    found: Next,
+    inputs: usize,
+    type_count: usize,
+    asked: Asked,
     at: usize,
     count: usize,
     faults: usize,
     all: [Instance; MOST_INSTANCES],
 ) -> Instances
-    ensures { λ r. ⌜ r ≡ record { refusal = refusal; at = at; count = count; faults = faults; all = all } ⌝ }
+    requires { ⌜ TurnGiven (now file) found asked faults ⌝ }
+    ensures { λ r. ⌜ InstancesEnded (now (file .entry)) found inputs «type_count» asked at count faults all r ⌝ }
 {
+    let refusal = match found {
+        Next::Found(f) => verdict_on(file, f, inputs, type_count, asked, count, faults),
+        Next::Other => Refusal::Nothing,
+    };
     Instances {
         refusal,
         at,
         count,
         faults,
         all,
+    }
+}
+
+fn no_instances() -> [Instance; MOST_INSTANCES]
+    ensures { λ r. ⌜ r ≡ replicate 128 unusedInstance ⌝ }
+{
+    [no_instance(); MOST_INSTANCES]
+}
+
+// The instances from an offset on, held to this, read by one reader.
+fn instances_by(file: &[u8], from: usize, inputs: usize, type_count: usize, held: Held) -> Instances
+    requires { ⌜ (from ≤ length (now file)) × ((inputs ≤ 64) × HeldAt «type_count» held) ⌝ }
+    ensures { λ r. ⌜ ((ts : List TypeMeant) (bs : List Listed) → ShapesAndLists ts bs «type_count» (held .nodes) (held .labels) (held .lists) → InstancesRead (now (file .entry)) from inputs ts bs r) ⌝ }
+{
+    let mut reader = reader_at(file, from);
+    let mut all = no_instances();
+    let mut count: usize = 0;
+    let mut faults: usize = 0;
+    loop {
+        let at = reader.at;
+        let found = own_field(next(&mut reader), Kind::Instance);
+        let asked = asked_by(file, found, held);
+        if ends(file, found, inputs, type_count, asked, count, faults) {
+            return ended(
+                file,
+                found,
+                inputs,
+                type_count,
+                asked,
+                at,
+                count,
+                faults,
+                all,
+            );
+        }
+        faults = faults_with(asked, faults);
+        all[count] = instance_of(file, found);
+        count += 1;
     }
 }
 
@@ -182,25 +336,10 @@ pub fn read_instances(
     let shapes = shapes_of(types, type_count);
     let nodes = shapes.nodes;
     let labels = shapes.labels;
-    let mut all = [no_instance(); MOST_INSTANCES];
-    let mut count: usize = 0;
-    let mut faults: usize = 0;
-    let mut at = from;
-    loop {
-        let Next::Found(f) = field_of(file, at, Kind::Instance) else {
-            return instances_read(Refusal::Nothing, at, count, faults, all);
-        };
-        let number = byte(file, f, 0);
-        let k = of_type(labels, number);
-        let given = given_by(of_type(nodes, number), k, byte(file, f, 1), lists);
-        let refusal = instance_verdict(file, f, inputs, type_count, k, given, count, faults);
-        if refuses(refusal) {
-            return instances_read(refusal, at, count, faults, all);
-        }
-        let one = instance_in(file, f);
-        all[count] = one;
-        count += 1;
-        faults += given.faults;
-        at = f.body + f.len;
-    }
+    let held = Held {
+        nodes,
+        labels,
+        lists,
+    };
+    instances_by(file, from, inputs, type_count, held)
 }

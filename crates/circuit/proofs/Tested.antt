@@ -4,7 +4,7 @@ use Prim.Native.Nat.{ℕ, zero, suc, _+_, _-_, _*_, _≤_, _<_}
 use mathlib.Core.Path.{_≡_, refl, sym, ap, subst, _∙_}
 use mathlib.Core.Bool.{Bool, true, false, cond, not, _&&_}
 use mathlib.Core.List.{List, [], _∷_, _++_}
-use native.Mathlib.Nat.{not-suc-le-zero}
+use native.Mathlib.Nat.{not-suc-le-zero, le-of-suc-le-suc}
 use native.Mathlib.Decide.{decLt}
 use native.Mathlib.Omega.{arith}
 use borrow.Author.Tests.{ltb-true, ltb-false, leb-false}
@@ -20,7 +20,7 @@ use Rattle.circuit.specs.Fields.{twoBytes}
 use Rattle.circuit.specs.Circuit.{Circuit, Instance, Listed, typeOfInstance, chosenSize, faultCount}
 use Rattle.circuit.specs.Numbers.{plus, minus, signed, choiceOf, choiceInRange, referenceGood}
 use Rattle.circuit.specs.Known.{typeIn, edgeIn, listedIn, instanceIn, letterOf, vectorIn, withEdge}
-use Rattle.circuit.specs.Table.{Test, Verdict, passes, refusedAt, firstOf, listedGood, bridgeInRange, inputsTests, typeTests, edgeTests, edgeTestsOf, bridgeTests, instanceTests, instanceTestsOf, vectorTests}
+use Rattle.circuit.specs.Table.{Test, Verdict, passes, refusedAt, firstOf, isEmpty, listedGood, bridgeInRange, inputsTests, typeTests, edgeTests, edgeTestsOf, bridgeTests, instanceTests, instanceTestsOf, vectorTests}
 use Rattle.circuit.specs.Laws.{Each, endsGood, TypeSound, choiceGood, InstanceGood, RefusalGood}
 use Rattle.circuit.proofs.RangeLaws.{in-between}
 use Rattle.circuit.proofs.TypeLaws.{accepts, all-snoc}
@@ -45,6 +45,21 @@ each-snoc {A} Holds as′ a each last i none h = go (decLt i (length as′))
     go (no q) =
         let e : i ≡ length as′ = omega (arith, length-snoc as′ a) in
         rw (e, getD-append-seam as′ a [] none) last
+
+pub getD-any : {A : Type 0} (as′ : List A) (i : ℕ) (d e : A) → i < length as′ → getD as′ i d ≡ getD as′ i e
+getD-any [] i d e h = absurd (not-suc-le-zero h)
+getD-any (a ∷ as′) zero d e h = refl
+getD-any (a ∷ as′) (suc i) d e h = getD-any as′ i d e (le-of-suc-le-suc h)
+
+pub some-length : {A : Type 0} (as′ : List A) → isEmpty as′ ≡ false → 1 ≤ length as′
+unfolding isEmpty
+some-length [] e = let z : _≡_ {A = ℕ} 0 1 = cc in omega arith
+some-length (a ∷ as′) e = omega arith
+
+pub no-length : {A : Type 0} (as′ : List A) → isEmpty as′ ≡ true → length as′ ≡ 0
+unfolding isEmpty
+no-length [] e = refl
+no-length (a ∷ as′) e = cc
 
 -- ---- what tests can refuse with
 

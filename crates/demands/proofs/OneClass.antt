@@ -11,7 +11,7 @@ use Rattle.switch.proofs.Paths.{both}
 use Rattle.switch.proofs.Deciding.{and-both}
 use Rattle.circuit.specs.Circuit.{Circuit, Instance, Reference, primary}
 use Rattle.circuit.specs.Laws.{CircuitGood}
-use Rattle.circuit.proofs.CircuitLaws.{getD-any}
+use Rattle.circuit.proofs.Tested.{getD-any}
 use Rattle.grading.specs.Rows.{Row}
 use Rattle.grading.specs.Classes.{sameReference, sameLabel, sameBridge, sameClass}
 use Rattle.grading.specs.Statements.{RowOf}

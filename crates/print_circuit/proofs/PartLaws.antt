@@ -15,7 +15,7 @@ use Rattle.switch.specs.Conduction.{Value, Edge}
 use Rattle.switch.specs.Modules.{ModuleType}
 use Rattle.switch.specs.Records.{typeOf}
 use Rattle.switch.specs.declared.ModuleType.{ModuleType as TypeRecord}
-use Rattle.circuit.proofs.CircuitLaws.{getD-any}
+use Rattle.circuit.proofs.Tested.{getD-any}
 use Rattle.circuit.specs.Circuit.{Circuit, Instance, Listed, numbered, noType}
 use Rattle.circuit.specs.Reading.{Reading, accepted, refusal}
 use Rattle.circuit.specs.declared.Reading.{Reading as ReadingRecord}

@@ -9,7 +9,7 @@ use Rattle.words.specs.Tables.{table, upTo}
 use Rattle.words.proofs.Tables.{fill-none, fill-more}
 use Rattle.switch.specs.declared.ModuleType.{ModuleType as TypeRecord}
 use Rattle.circuit.specs.Records.{unusedType}
-use Rattle.circuit.proofs.CircuitLaws.{getD-any}
+use Rattle.circuit.proofs.Tested.{getD-any}
 use Rattle.read_instances.proofs.shapes.shapes_of.Statement.{statement}
 use Rattle.read_instances.proofs.shapes.shapes_of.Tie as tie
 

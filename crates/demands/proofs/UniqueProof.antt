@@ -137,6 +137,11 @@ unique = record {
   grading-number-of = record { asks-nothing = λ κs a. tt; one-outcome = λ κs a asked one other p q. both (p ∙ sym q) refl };
   grading-place-of = record { asks-nothing = λ κs a. tt; one-outcome = λ κs a asked one other p q. both (p ∙ sym q) refl };
   grading-counts-of = record { asks-nothing = λ κs a. tt; one-outcome = λ κs a asked one other p q. both (same-counts (one .0) (other .0) (p ∙ sym q)) refl };
+  grading-pack = record { can-be-met = λ κs. ((0, (0, (0, (0, tt)))), (omega arith, omega arith, omega arith, omega arith)); one-outcome = λ κs a asked one other p q. both (p ∙ sym q) refl };
+  grading-instance-in = record { asks-nothing = λ κs a. tt; one-outcome = λ κs a asked one other p q. both (p ∙ sym q) refl };
+  grading-kind-in = record { asks-nothing = λ κs a. tt; one-outcome = λ κs a asked one other p q. both (p ∙ sym q) refl };
+  grading-first-in = record { asks-nothing = λ κs a. tt; one-outcome = λ κs a asked one other p q. both (p ∙ sym q) refl };
+  grading-second-in = record { asks-nothing = λ κs a. tt; one-outcome = λ κs a asked one other p q. both (p ∙ sym q) refl };
   grade-rows-list-rows = record { can-be-met = λ κs. ((unusedInstance, (bareType, (noBridges, (0, (0, (lent [], (0, tt))))))), ((omega arith, omega arith, omega arith, omega arith), omega (arith, codes-of-none 2 1 (take 0 noBridges)))); one-outcome = λ κs a asked one other p q. both (p .end ∙ sym (q .end)) (ap (λ x. (tt, (tt, (tt, (tt, (tt, (x, (tt, tt)))))))) (p .listed ∙ sym (q .listed))) };
   grade-rows-rows-of = record { can-be-met = λ κs. ((circuit-given .0, tt), circuit-given .1); one-outcome = λ κs a given one other p q. both (p (given .circuit) (given .is) (given .good) ∙ sym (q (given .circuit) (given .is) (given .good))) refl };
   grade-inputs-put-signals = record { can-be-met = λ κs. ((replicate 256 unusedVector, (0, (lent (replicate 768 0), (lent (replicate 768 0), tt)))), (omega arith, (refl, refl))); one-outcome = λ κs a asked one other p q. both refl (λ i. (tt, (tt, ((p .0 ∙ sym (q .0)) i, ((p .1 ∙ sym (q .1)) i, tt))))) };
@@ -166,13 +171,16 @@ unique = record {
           ),
         ));
   };
-  grade-classes-class-instance = record {
-    can-be-met = λ κs. ((lent (replicate 2048 0), (0, (0, (unusedInstance, (lent [], (lent [], (0, tt))))))), ((omega arith, omega arith, omega arith), (codes-fit (replicate 2048 0), (omega arith, omega arith, refl))));
+  grade-classes-write-keys = record {
+    can-be-met = λ κs. ((lent (replicate 2048 0), (0, (0, (unusedInstance, tt)))), ((omega arith, omega arith), (refl, codes-fit (replicate 2048 0))));
+    one-outcome = λ κs a asked one other p q. both refl (λ i. ((p ∙ sym q) i, (tt, (tt, (tt, tt)))));
+  };
+  grade-classes-class-rows = record {
+    can-be-met = λ κs. ((lent (replicate 2048 0), (0, (lent [], (lent [], tt)))), ((omega arith, refl), (omega arith, omega arith)));
     one-outcome = λ κs a asked one other p q.
         let classes = p .classes-are ∙ sym (q .classes-are) in
         let found : one .0 .found ≡ other .0 .found = p .found-is ∙ rw classes (sym (q .found-is)) in
-        both (λ i. record { count = (p .count-is ∙ sym (q .count-is)) i; found = found i })
-        (λ i. ((p .keys-are ∙ sym (q .keys-are)) i, (tt, (tt, (tt, (tt, (classes i, (tt, tt))))))));
+        both (λ i. record { count = (p .count-is ∙ sym (q .count-is)) i; found = found i }) (λ i. (tt, (tt, (tt, (classes i, tt)))));
   };
   grade-file-grade-circuit = record {
     can-be-met = λ κs. ((circuit-given .0, (lent [], (lent [], tt))), circuit-given .1);

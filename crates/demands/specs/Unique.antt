@@ -55,11 +55,17 @@ use Rattle.read_file.proofs.read.read as read-file-read
 use Rattle.grading.proofs.answers.number_of as grading-number-of
 use Rattle.grading.proofs.answers.place_of as grading-place-of
 use Rattle.grading.proofs.answers.counts_of as grading-counts-of
+use Rattle.grading.proofs.codes.pack as grading-pack
+use Rattle.grading.proofs.codes.instance_in as grading-instance-in
+use Rattle.grading.proofs.codes.kind_in as grading-kind-in
+use Rattle.grading.proofs.codes.first_in as grading-first-in
+use Rattle.grading.proofs.codes.second_in as grading-second-in
 use Rattle.grade_rows.proofs.list_rows as grade-rows-list-rows
 use Rattle.grade_rows.proofs.rows_of as grade-rows-rows-of
 use Rattle.grade_inputs.proofs.put_signals as grade-inputs-put-signals
 use Rattle.grade_marks.proofs.instance.mark_instance as grade-marks-mark-instance
-use Rattle.grade_classes.proofs.class_instance as grade-classes-class-instance
+use Rattle.grade_classes.proofs.write_keys as grade-classes-write-keys
+use Rattle.grade_classes.proofs.class_rows as grade-classes-class-rows
 use Rattle.grade_file.proofs.grade.grade_circuit as grade-file-grade-circuit
 use Rattle.grade_file.proofs.grade.grade_read as grade-file-grade-read
 use Rattle.grade_file.proofs.grade.grade as grade-file-grade
@@ -154,14 +160,21 @@ pub record Unique : Type 2 where
   pub grading-number-of : Sole grading-number-of.ended grading-number-of.Reads.Asked grading-number-of.Reads.Learnt
   pub grading-place-of : Sole grading-place-of.ended grading-place-of.Reads.Asked grading-place-of.Reads.Learnt
   pub grading-counts-of : Sole grading-counts-of.ended grading-counts-of.Reads.Asked grading-counts-of.Reads.Learnt
+  pub grading-pack : SoleWhereMet grading-pack.ended grading-pack.Reads.Asked grading-pack.Reads.Learnt
+  pub grading-instance-in : Sole grading-instance-in.ended grading-instance-in.Reads.Asked grading-instance-in.Reads.Learnt
+  pub grading-kind-in : Sole grading-kind-in.ended grading-kind-in.Reads.Asked grading-kind-in.Reads.Learnt
+  pub grading-first-in : Sole grading-first-in.ended grading-first-in.Reads.Asked grading-first-in.Reads.Learnt
+  pub grading-second-in : Sole grading-second-in.ended grading-second-in.Reads.Asked grading-second-in.Reads.Learnt
   pub grade-rows-list-rows : SoleWhereMet grade-rows-list-rows.ended grade-rows-list-rows.Reads.Asked grade-rows-list-rows.Reads.Learnt
   pub grade-rows-rows-of : SoleWhereMet grade-rows-rows-of.ended grade-rows-rows-of.Reads.Asked grade-rows-rows-of.Reads.Learnt
   pub grade-inputs-put-signals :
       SoleWhereMet grade-inputs-put-signals.ended grade-inputs-put-signals.Reads.Asked grade-inputs-put-signals.Reads.Learnt
   pub grade-marks-mark-instance :
       SoleWhereMet grade-marks-mark-instance.ended grade-marks-mark-instance.Reads.Asked grade-marks-mark-instance.Reads.Learnt
-  pub grade-classes-class-instance :
-      SoleWhereMet grade-classes-class-instance.ended grade-classes-class-instance.Reads.Asked grade-classes-class-instance.Reads.Learnt
+  pub grade-classes-write-keys :
+      SoleWhereMet grade-classes-write-keys.ended grade-classes-write-keys.Reads.Asked grade-classes-write-keys.Reads.Learnt
+  pub grade-classes-class-rows :
+      SoleWhereMet grade-classes-class-rows.ended grade-classes-class-rows.Reads.Asked grade-classes-class-rows.Reads.Learnt
   pub grade-file-grade-circuit :
       SoleWhereMet grade-file-grade-circuit.ended grade-file-grade-circuit.Reads.Asked grade-file-grade-circuit.Reads.Learnt
   pub grade-file-grade-read : SoleWhereMet grade-file-grade-read.ended grade-file-grade-read.Reads.Asked grade-file-grade-read.Reads.Learnt

@@ -1,26 +1,25 @@
--- Found classes by the code's count, instance by instance: at the first row of each class the or of the row's four words tells whether it has a mark.
+-- Found classes by the code's count: at the first row of each class the or of the row's four words tells whether it has a mark.
 -- Assumes nothing.
 use Prim.Native.Nat.{ℕ, zero, suc, _+_, _*_, _<_, _≤_, max}
 use mathlib.Core.Path.{_≡_, sym, ap, ap₂, _∙_}
 use mathlib.Core.Bool.{Bool, true, false, cond, not, Bool·not-not as not-not}
 use mathlib.Core.List.{List, [], _∷_, _++_, map}
-use native.Mathlib.Nat.{add-zero, add-suc, suc-add}
+use native.Mathlib.Nat.{zero-add, add-zero, add-suc, suc-add}
 use native.Mathlib.Omega.{arith}
 use lib.Dec.{eqb, ltb}
-use lib.ListN.{length, getD, take, drop, length-append, length-take, take-append-drop, List·getD-append}
-use lib.Seq.{take-suc, take-length, take-append-seam, getD-at}
-use Rattle.words.specs.Bits.{ofBool}
+use lib.ListN.{length, getD, take, drop, length-take, take-append-drop, List·getD-append}
+use lib.Seq.{take-suc, take-length, getD-at}
+use Rattle.words.specs.Bits.{ofBool, sumTo}
 use Rattle.words.specs.Rows.{rowOf}
 use Rattle.words.proofs.Laws.{ofBool-le-one}
 use Rattle.words.proofs.AnyMark.{any-mark}
-use Rattle.circuit.specs.Circuit.{Circuit, Instance, joinLists}
+use Rattle.circuit.specs.Circuit.{Circuit, joinLists}
 use Rattle.circuit.specs.Laws.{CircuitGood}
-use Rattle.grading.specs.Rows.{Row, noRow, rowsOfInstance, cell, markOf, rowWords}
-use Rattle.grading.specs.Classes.{sameClass, largest, classesOf, hasMarkBy, hasMark, foundAmong}
+use Rattle.grading.specs.Rows.{Row, noRow, rowsOf, cell, markOf, rowWords}
+use Rattle.grading.specs.Classes.{sameClass, largest, classesAfterBy, classesBy, classesOf, hasMarkBy, hasMark, foundBy, foundAmong, foundCount}
 use Rattle.grading.specs.Statements.{RowOf}
 use Rattle.grading.proofs.Everywhere.{Every, every-at, every-first}
 use Rattle.grading.proofs.MatrixLaws.{row-long, word-in}
-use Rattle.grading.proofs.RowLaws.{rowsBefore, rowsAfter, rows-split, grown}
 use Rattle.grading.proofs.FoundLaws.{found-more, same-mark}
 use Rattle.grading.proofs.ClassLists.{classOf, length-classes, largest-append, classes-first, classes-snoc}
 use Rattle.grade_classes.specs.Model.{rowMarked, foundFrom}
@@ -118,33 +117,18 @@ module _ (c : Circuit) (few : length (c .vectors) ≤ 256) (rows : List Row) (ou
           sum-later (ltb (countIn from) (getD classes from 0)) (eqb (rowMarked matrix from) 0) later,
         )
 
--- ---- instance by instance
+-- ---- all rows
 
-rows-ours : (c : Circuit) (i : ℕ) → Every (RowOf c) (rowsBefore c i)
-rows-ours c i = every-first (RowOf c) (rowsBefore c i) (rowsAfter c i) (λ row m. rw (rows-split c i) m)
-
--- of the first i instances, how many classes are found
-abbrev pub foundBefore : Circuit → ℕ → ℕ
-foundBefore c i = foundAmong c (rowsBefore c i) (classesOf (rowsBefore c i)) (largest (classesOf (rowsBefore c i)))
-
-module _ (c : Circuit) (good : CircuitGood c) (i : ℕ) (within : i < length (c .instances)) (none inst : Instance) (is : getD (c .instances) i none ≡ inst) where
-  pub found-step : (matrix classes : List ℕ) → WordsOf c (rowsBefore c (suc i)) matrix → ClassesOf (rowsBefore c (suc i)) classes
-      → foundBefore c (suc i)
-      ≡ foundBefore c i
-      + foundFrom matrix classes (length (rowsBefore c i)) (length (rowsOfInstance (c .types) (c .bridges) (suc i) inst)) (largest (classesOf (rowsBefore c i)))
-  unfolding foundIn countIn
-  found-step matrix classes words numbered =
-      let old : List Row = rowsBefore c i in
-      let new : List Row = rowsOfInstance (c .types) (c .bridges) (suc i) inst in
-      let all : List Row = rowsBefore c (suc i) in
-      let joined : all ≡ old ++ new = grown c i within none inst is in
-      let size : length all ≡ length old + length new = ap length joined ∙ length-append old new in
-      let whole : take (length old + length new) all ≡ all = ap (λ (n : ℕ). take n all) (sym size) ∙ take-length all in
-      let front : take (length old) all ≡ old = ap (take (length old)) joined ∙ take-append-seam old new in
-      let found : List Row → ℕ = λ (rows : List Row). foundAmong c rows (classesOf rows) (largest (classesOf rows)) in
-      ap found (sym whole)
-      ∙ found-on c (good .few-vectors) all (rows-ours c (suc i)) noRow matrix classes words numbered (length new) (length old) (omega arith)
-      ∙ ap (λ (rows : List Row). found rows + foundFrom matrix classes (length old) (length new) (largest (classesOf rows))) front
+pub found-all : (c : Circuit) → CircuitGood c → (matrix classes : List ℕ) → WordsOf c (rowsOf c) matrix → ClassesOf (rowsOf c) classes
+    → foundCount c ≡ foundFrom matrix classes 0 (length (rowsOf c)) 0
+unfolding foundIn countIn foundCount foundBy classesBy classesAfterBy largest sumTo
+found-all c good matrix classes words numbered =
+    let rows : List Row = rowsOf c in
+    let found : List Row → ℕ = λ (l : List Row). foundAmong c l (classesOf l) (largest (classesOf l)) in
+    ap found (sym (take-length rows))
+    ∙ ap (λ (n : ℕ). found (take n rows)) (sym (zero-add (length rows)))
+    ∙ found-on c (good .few-vectors) rows (λ row m. m) noRow matrix classes words numbered (length rows) 0 (omega arith)
+    ∙ zero-add (foundFrom matrix classes 0 (length rows) 0)
 
 -- ---- buffers that begin with the rows' words, and with their numbers
 

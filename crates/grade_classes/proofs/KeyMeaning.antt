@@ -1,6 +1,6 @@
--- The key of a row tells its class within its instance: two bridges of an instance have equal keys exactly when they are one class.
+-- The key of a row tells its class: two rows of a circuit have equal keys exactly when they are one class.
 -- Kind 0: a pair of numbers is known by its lower and its higher one. Kind 1: of the labels with one reference the first stands for all. Assumes nothing.
-use Prim.Native.Nat.{ℕ, zero, suc, _+_, _*_, _/_, _%_, _<_, _≤_, min, max}
+use Prim.Native.Nat.{ℕ, zero, suc, _+_, _*_, _<_, _≤_, min, max}
 use mathlib.Core.Path.{_≡_, refl, sym, ap, _∙_}
 use mathlib.Core.Bool.{Bool, true, false, cond, _&&_, _||_, Bool·beq, and-true, and-false, false≢true}
 use mathlib.Core.List.{List}
@@ -15,8 +15,10 @@ use Rattle.switch.specs.Bridges.{Bridge, nodes, input}
 use Rattle.circuit.specs.Circuit.{Reference, primary, outputOf, Instance}
 use Rattle.circuit.specs.Records.{referenceRecord, unusedReference}
 use Rattle.circuit.specs.declared.Reference.{Reference as ReferenceRecord}
-use Rattle.grading.specs.Classes.{sameReference, sameLabel, sameBridge}
-use Rattle.grading.specs.Codes.{codeOf}
+use Rattle.grading.specs.Classes.{sameReference, sameLabel, sameBridge, sameClass}
+use Rattle.grading.specs.Rows.{Row}
+use Rattle.grading.specs.Codes.{kindOf, firstEnd, secondEnd, codeOf}
+use Rattle.grading.proofs.CodeLaws.{code-instance, code-kind, code-first, code-second}
 use Rattle.grading.proofs.FaultRanges.{BridgeFits}
 use Rattle.grading.proofs.RecordReads.{referencesOf, reference-at}
 use Rattle.grade_classes.specs.Model.{sameRecord, firstLabelFrom, firstLabels, keyOf}
@@ -127,6 +129,14 @@ digit-key m h x y p q = go (eqb m h) refl (eqb x y) refl
     go true i false j = ne-eqb (1024 + 16 * m + x) (1024 + 16 * h + y) (omega (arith, eqb-true m h i, eqb-false x y j))
     go false i j e = ne-eqb (1024 + 16 * m + x) (1024 + 16 * h + y) (omega (arith, eqb-false m h i))
 
+-- the lower part tells, where the higher is one
+same-part : (n m x y : ℕ) → n ≡ m → eqb (2048 * n + x) (2048 * m + y) ≡ eqb x y
+same-part n m x y e = go (ℕ-discrete x y)
+  where
+    go : Dec (x ≡ y) → eqb (2048 * n + x) (2048 * m + y) ≡ eqb x y
+    go (yes p) = rw (eq-eqb x y p) (eq-eqb (2048 * n + x) (2048 * m + y) (omega arith))
+    go (no p) = rw (ne-eqb x y p) (ne-eqb (2048 * n + x) (2048 * m + y) (omega arith))
+
 -- ---- keys
 
 module _ (i : Instance) where
@@ -157,32 +167,59 @@ module _ (i : Instance) where
       (λ e. eq-eqb x y (one-first refs l k x y (first-at l p) (first-at k q) (record-eq (at refs l) (at refs k) e)))
       ∙ label-record l k p q
 
-  key-nodes : (n a b : ℕ) → a < 32 → b < 32 → keyOf firsts (codeOf n (nodes a b)) ≡ 32 * min a b + max a b
-  unfolding keyOf codeOf
-  key-nodes n a b p q =
-      let row : ℕ = ((n * 256 + 0) * 256 + a) * 256 + b in
-      let kind : row / 65536 % 256 ≡ 0 = omega arith in
-      let first : row / 256 % 256 ≡ a = omega arith in
-      let second : row % 256 ≡ b = omega arith in
-      rw (kind, first, second)
+  -- the part of a key that tells the bridge
+  bridgeKey : Bridge → ℕ
+  bridgeKey (nodes a b) = 32 * min a b + max a b
+  bridgeKey (input m l) = 1024 + 16 * m + getD firsts l 0
 
-  key-input : (n m l : ℕ) → m < 32 → l < 12 → keyOf firsts (codeOf n (input m l)) ≡ 1024 + 16 * m + getD firsts l 0
-  unfolding keyOf codeOf
-  key-input n m l p q =
-      let row : ℕ = ((n * 256 + 1) * 256 + m) * 256 + l in
-      let kind : row / 65536 % 256 ≡ 1 = omega arith in
-      let first : row / 256 % 256 ≡ m = omega arith in
-      let second : row % 256 ≡ l = omega arith in
-      rw (kind, first, second)
+  key-is : (n : ℕ) (b : Bridge) → BridgeFits b → keyOf firsts (codeOf n b) ≡ 2048 * n + bridgeKey b
+  unfolding keyOf bridgeKey kindOf firstEnd secondEnd
+  key-is n (nodes a b) fits =
+      let d : Bridge = nodes a b in rw (code-instance n d fits, code-kind n d fits, code-first n d fits, code-second n d fits)
+  key-is n (input m l) fits =
+      let d : Bridge = input m l in rw (code-instance n d fits, code-kind n d fits, code-first n d fits, code-second n d fits)
 
-  pub same-key : (n : ℕ) (b d : Bridge) → BridgeFits b → BridgeFits d
-      → eqb (keyOf (firstLabels (referencesOf i)) (codeOf n b)) (keyOf (firstLabels (referencesOf i)) (codeOf n d)) ≡ sameBridge i b d
-  unfolding sameBridge
-  same-key n (nodes a b) (nodes c d) p q = rw (key-nodes n a b (p .0) (p .1), key-nodes n c d (q .0) (q .1)) (pair-key a b c d (p .0) (p .1) (q .0) (q .1))
-  same-key n (nodes a b) (input m l) p q =
-      rw (key-nodes n a b (p .0) (p .1), key-input n m l (q .0) (q .1)) (ne-eqb (32 * min a b + max a b) (1024 + 16 * m + getD firsts l 0) (omega arith))
-  same-key n (input m l) (nodes a b) p q =
-      rw (key-nodes n a b (q .0) (q .1), key-input n m l (p .0) (p .1)) (ne-eqb (1024 + 16 * m + getD firsts l 0) (32 * min a b + max a b) (omega arith))
-  same-key n (input m l) (input h k) p q =
-      rw (key-input n m l (p .0) (p .1), key-input n h k (q .0) (q .1), ← (same-first l k (p .1) (q .1)))
+  bridge-key-few : (b : Bridge) → BridgeFits b → bridgeKey b < 2048
+  unfolding bridgeKey
+  bridge-key-few (nodes a b) fits = omega (arith, fits .0, fits .1)
+  bridge-key-few (input m l) fits = omega (arith, fits .0, fits .1, first-at l (fits .1) .within)
+
+  same-bridge-key : (b d : Bridge) → BridgeFits b → BridgeFits d → eqb (bridgeKey b) (bridgeKey d) ≡ sameBridge i b d
+  unfolding bridgeKey sameBridge
+  same-bridge-key (nodes a b) (nodes c d) p q = pair-key a b c d (p .0) (p .1) (q .0) (q .1)
+  same-bridge-key (nodes a b) (input m l) p q = ne-eqb (32 * min a b + max a b) (1024 + 16 * m + getD firsts l 0) (omega (arith, p .0, p .1))
+  same-bridge-key (input m l) (nodes a b) p q = ne-eqb (1024 + 16 * m + getD firsts l 0) (32 * min a b + max a b) (omega (arith, q .0, q .1))
+  same-bridge-key (input m l) (input h k) p q =
+      rw (← (same-first l k (p .1) (q .1)))
       (digit-key m h (getD firsts l 0) (getD firsts k 0) (omega (arith, first-at l (p .1) .within)) (omega (arith, first-at k (q .1) .within)))
+
+-- ---- the key of a row
+
+abbrev pub rowKey : Row → ℕ
+rowKey r = keyOf (firstLabels (referencesOf (r .instance))) (codeOf (r .number) (r .bridge))
+
+-- two rows whose instance is one where their numbers are equal, as of a circuit
+pub same-key : (r s : Row) → BridgeFits (r .bridge) → BridgeFits (s .bridge) → (r .number ≡ s .number → r .instance ≡ s .instance)
+    → eqb (rowKey r) (rowKey s) ≡ sameClass r s
+unfolding sameClass
+same-key r s p q one = go (ℕ-discrete (r .number) (s .number))
+  where
+    x : ℕ
+    x = bridgeKey (r .instance) (r .bridge)
+
+    y : ℕ
+    y = bridgeKey (s .instance) (s .bridge)
+
+    few : (x < 2048) × (y < 2048)
+    few = (bridge-key-few (r .instance) (r .bridge) p, bridge-key-few (s .instance) (s .bridge) q)
+
+    keys-are : eqb (rowKey r) (rowKey s) ≡ eqb (2048 * r .number + x) (2048 * s .number + y)
+    keys-are = rw (key-is (r .instance) (r .number) (r .bridge) p, key-is (s .instance) (s .number) (s .bridge) q)
+
+    go : Dec (r .number ≡ s .number) → eqb (rowKey r) (rowKey s) ≡ (eqb (r .number) (s .number) && sameBridge (r .instance) (r .bridge) (s .bridge))
+    go (yes e) =
+        keys-are
+        ∙ same-part (r .number) (s .number) x y e
+        ∙ ap (λ (i : Instance). eqb x (bridgeKey i (s .bridge))) (sym (one e))
+        ∙ rw (eq-eqb (r .number) (s .number) e) (same-bridge-key (r .instance) (r .bridge) (s .bridge) p q)
+    go (no e) = keys-are ∙ rw (ne-eqb (r .number) (s .number) e) (ne-eqb (2048 * r .number + x) (2048 * s .number + y) (omega (arith, few)))

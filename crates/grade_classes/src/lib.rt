@@ -1,11 +1,18 @@
-// Classes: a key for each row that two rows of an instance share exactly when they are one class, the search for a row's class, and the found ones.
+// Classes: a key for each row, which two rows share exactly when they are one class; one search for the class of each row; and the found classes.
 use circuit::Instance;
+use circuit::limits::MOST_FAULTS;
+use grading::codes::first_in;
+use grading::codes::instance_in;
+use grading::codes::kind_in;
+use grading::codes::second_in;
 ghost use mathlib.Core.Path.{_≡_};
-ghost use Prim.Native.Nat.{_-_, _*_, _≤_};
-ghost use lib.ListN.{length, take, drop};
+ghost use Prim.Native.Nat.{_*_, _≤_};
+ghost use lib.Dec.{eqb};
+ghost use lib.ListN.{length, take};
 ghost use Rattle.words.specs.Written.{written};
+ghost use Rattle.grading.specs.Classes.{largest, classesBy};
 ghost use Rattle.grading.specs.Codes.{CodeFits, CodesFit};
-ghost use Rattle.grade_classes.specs.Model.{firstLabels, keyOf, keysOf, numbers, countAfter, foundFrom, InstanceClassed};
+ghost use Rattle.grade_classes.specs.Model.{firstLabels, keyOf, keysOf, bucketOf, foundFrom, RowsClassed};
 
 // For each label the first label with an equal reference.
 fn first_labels(one: Instance) -> [u8; 12]
@@ -33,75 +40,92 @@ fn first_labels(one: Instance) -> [u8; 12]
     firsts
 }
 
-// Kind 0: both nodes, the lower one first. Kind 1: the node, and the first label with its reference.
-fn key_of(row: u32, firsts: [u8; 12]) -> u32
-    requires { ⌜ CodeFits row ⌝ }
-    ensures { λ r. ⌜ r ≡ keyOf firsts row ⌝ }
+// The instance, and of kind 0 both nodes, the lower one first; of kind 1 the node, and the first label with its reference.
+fn key_of(code: u32, firsts: [u8; 12]) -> u32
+    requires { ⌜ CodeFits code ⌝ }
+    ensures { λ r. ⌜ r ≡ keyOf firsts code ⌝ }
 {
-    let kind = row / 65536 % 256;
-    let a = row / 256 % 256;
-    let b = row % 256;
+    let own = 2048 * instance_in(code);
+    let a = first_in(code);
+    let b = second_in(code);
+    let kind = kind_in(code);
     if kind == 0 {
         if a < b {
-            return 32 * a + b;
+            return own + (32 * a + b);
         }
-        return 32 * b + a;
+        return own + (32 * b + a);
     }
-    1024 + 16 * a + (firsts[b as usize] as u32)
+    own + (1024 + 16 * a + (firsts[b as usize] as u32))
 }
 
-// Writes each row's key over the row.
-fn write_keys(rows: &mut [u32; 2048], from: usize, to: usize, one: Instance)
+// Writes the key of each row of an instance over its code, which is not read again.
+pub fn write_keys(codes: &mut [u32; MOST_FAULTS], from: usize, to: usize, one: Instance)
     requires { ⌜ (from ≤ to) × (to ≤ 2048) ⌝ }
-    requires { ⌜ length (now rows) ≡ 2048 ⌝ }
-    requires { ⌜ CodesFit (now rows) from to ⌝ }
-    ensures { λ _. ⌜ now (rows .exit) ≡ written (now (rows .entry)) from (keysOf (now (rows .entry)) (firstLabels (one .references)) from to) ⌝ }
+    requires { ⌜ length (now codes) ≡ 2048 ⌝ }
+    requires { ⌜ CodesFit (now codes) from to ⌝ }
+    ensures { λ _. ⌜ now (codes .exit) ≡ written (now (codes .entry)) from (keysOf (now (codes .entry)) (firstLabels (one .references)) from to) ⌝ }
 {
     let firsts = first_labels(one);
     let mut r = from;
     while r < to {
-        rows[r] = key_of(rows[r], firsts);
+        codes[r] = key_of(codes[r], firsts);
         r += 1;
     }
 }
 
-// Numbers the rows of an instance, after `count` classes: each takes the class of the first earlier row with its key, or else the next new number.
-fn number_rows(keys: &[u32; 2048], from: usize, to: usize, classes: &mut [u16], count: u16) -> u16
-    requires { ⌜ (from ≤ to) × (to ≤ 2048) × (count ≤ from) ⌝ }
-    requires { ⌜ (to ≤ length (now classes)) × (length (now keys) ≡ 2048) ⌝ }
-    ensures { λ r. ⌜ (r ≡ countAfter count (numbers count (take (to - from) (drop from (now (keys .entry)))))) × (now (classes .exit) ≡ written (now (classes .entry)) from (numbers count (take (to - from) (drop from (now (keys .entry)))))) ⌝ }
+// Rows with one key have one bucket.
+fn bucket_of(key: u32) -> usize
+    ensures { λ r. ⌜ r ≡ bucketOf key ⌝ }
 {
-    let mut new = count;
-    let mut r = from;
-    while r < to {
+    (key % 251) as usize
+}
+
+// Numbers the rows: each takes the class of the first earlier row with its key, or else the next new number. The search looks at first rows of classes
+// alone, those of the key's bucket from the last to the first: `heads` has a bucket's last one and `nexts` the one before a row, each as the row's place
+// plus 1, with 0 for none.
+fn number_rows(keys: &[u32; MOST_FAULTS], rows: usize, classes: &mut [u16]) -> u16
+    requires { ⌜ (rows ≤ 2048) × (rows ≤ length (now classes)) × (length (now keys) ≡ 2048) ⌝ }
+    ensures { λ r. ⌜ (r ≡ largest (classesBy eqb (take rows (now (keys .entry))))) × (now (classes .exit) ≡ written (now (classes .entry)) 0 (classesBy eqb (take rows (now (keys .entry))))) ⌝ }
+{
+    let mut heads = [0u16; 251];
+    let mut nexts = [0u16; MOST_FAULTS];
+    let mut count: u16 = 0;
+    let mut r: usize = 0;
+    while r < rows {
         let key = keys[r];
-        let mut j = from;
+        let bucket = bucket_of(key);
+        let mut next = heads[bucket];
         let class = loop {
-            if j == r {
-                new += 1;
-                break new;
+            if next == 0 {
+                break count + 1;
             }
+            let j = (next as usize) - 1;
             if keys[j] == key {
                 break classes[j];
             }
-            j += 1;
+            next = nexts[j];
         };
+        if count < class {
+            count = class;
+            nexts[r] = heads[bucket];
+            heads[bucket] = (r as u16) + 1;
+        }
         classes[r] = class;
         r += 1;
     }
-    new
+    count
 }
 
-// How many of the classes that begin in these rows are found: rows of one class have equal marks, so the first row tells.
-fn found_in(matrix: &[u64], classes: &[u16], from: usize, to: usize, count: u16) -> usize
-    requires { ⌜ (from ≤ to) × (to ≤ 2048) ⌝ }
-    requires { ⌜ (4 * to ≤ length (now matrix)) × (to ≤ length (now classes)) ⌝ }
-    ensures { λ r. ⌜ r ≡ foundFrom (now (matrix .entry)) (now (classes .entry)) from (to - from) count ⌝ }
+// How many classes are found: rows of one class have equal marks, so the first row tells.
+fn found_in(matrix: &[u64], classes: &[u16], rows: usize) -> usize
+    requires { ⌜ rows ≤ 2048 ⌝ }
+    requires { ⌜ (4 * rows ≤ length (now matrix)) × (rows ≤ length (now classes)) ⌝ }
+    ensures { λ r. ⌜ r ≡ foundFrom (now (matrix .entry)) (now (classes .entry)) 0 rows 0 ⌝ }
 {
     let mut found: usize = 0;
-    let mut last = count;
-    let mut r = from;
-    while r < to {
+    let mut last: u16 = 0;
+    let mut r: usize = 0;
+    while r < rows {
         if last < classes[r] {
             last = classes[r];
             if (matrix[4 * r] | matrix[4 * r + 1] | matrix[4 * r + 2] | matrix[4 * r + 3]) != 0 {
@@ -113,32 +137,24 @@ fn found_in(matrix: &[u64], classes: &[u16], from: usize, to: usize, count: u16)
     found
 }
 
-// The number of classes after an instance, and how many of those that begin in it are found.
+// The number of classes, and how many of them are found.
 pub struct Classed {
     pub count: u16,
     pub found: usize,
 }
 
-// Numbers the rows of an instance, after `count` classes. They are marked already and not read again, so their keys are written over them.
-pub fn class_instance(
-    rows: &mut [u32; 2048],
-    from: usize,
-    to: usize,
-    one: Instance,
+// The classes of all rows, by their keys, and how many of them the matrix finds.
+pub fn class_rows(
+    keys: &[u32; MOST_FAULTS],
+    rows: usize,
     matrix: &[u64],
     classes: &mut [u16],
-    count: u16,
 ) -> Classed
-    requires { ⌜ (from ≤ to) × (to ≤ 2048) × (count ≤ from) ⌝ }
-    requires { ⌜ CodesFit (now rows) from to ⌝ }
-    requires { ⌜ (4 * to ≤ length (now matrix)) × (to ≤ length (now classes)) × (length (now rows) ≡ 2048) ⌝ }
-    ensures { λ r. ⌜ InstanceClassed (now (rows .entry)) (one .references) from to count (now (matrix .entry)) (now (classes .entry)) r (now (rows .exit)) (now (classes .exit)) ⌝ }
+    requires { ⌜ (rows ≤ 2048) × (length (now keys) ≡ 2048) ⌝ }
+    requires { ⌜ (4 * rows ≤ length (now matrix)) × (rows ≤ length (now classes)) ⌝ }
+    ensures { λ r. ⌜ RowsClassed (take rows (now (keys .entry))) (now (matrix .entry)) (now (classes .entry)) r (now (classes .exit)) ⌝ }
 {
-    write_keys(rows, from, to, one);
-    let after = number_rows(rows, from, to, classes, count);
-    let found = found_in(matrix, classes, from, to, count);
-    Classed {
-        count: after,
-        found,
-    }
+    let count = number_rows(keys, rows, classes);
+    let found = found_in(matrix, classes, rows);
+    Classed { count, found }
 }

@@ -1,19 +1,17 @@
--- Grading a circuit instance by instance: what stands in signals, matrix, classes and counts after the first instances, that one turn of the loop
--- goes from one instance to the next, given what each call answers, and that after the last the circuit is graded. Assumes nothing.
+-- Grading a circuit instance by instance: what stands in signals, matrix and codes after the first instances (`Turned`), that one turn of the loop goes from
+-- one instance to the next, given what each call answers, and that with all rows classed after the last the circuit is graded. Assumes nothing.
 use Prim.Native.Nat.{ℕ, suc, _+_, _-_, _*_, _/_, _<_, _≤_}
 use mathlib.Core.Path.{_≡_, refl, sym, ap, _∙_}
-use mathlib.Core.List.{List, _++_, map}
+use mathlib.Core.List.{List, _++_, map, map-append}
 use native.Mathlib.Nat.{zero-add}
 use native.Mathlib.Numerals.{add-one}
 use native.Mathlib.Omega.{arith}
-use lib.Dec.{T}
-use lib.ListN.{length, getD, take}
-use Rattle.words.specs.Bits.{ofBool, sumTo}
+use lib.Dec.{T, eqb}
+use lib.ListN.{length, getD, take, length-append, length-map}
+use lib.Seq.{length-take-le, take-append-le, take-take}
 use Rattle.words.specs.Written.{written}
-use Rattle.words.proofs.Laws.{ofBool-le-one}
 use Rattle.words.proofs.Tables.{length-table}
 use Rattle.words.proofs.WrittenLaws.{written-nothing, length-written, written-written}
-use Rattle.words.proofs.Counting.{sum-few}
 use Rattle.switch.specs.Modules.{ModuleType}
 use Rattle.switch.specs.Bridges.{Bridge, nodes}
 use Rattle.switch.specs.Promises.{isAt0, isAt1}
@@ -29,14 +27,14 @@ use Rattle.circuit.specs.declared.Instance.{Instance as InstanceRecord}
 use Rattle.circuit.proofs.Padding.{getD-padded}
 use Rattle.circuit.proofs.RangeLaws.{in-between}
 use Rattle.circuit.proofs.TypeLaws.{type-back, type-given}
+use Rattle.grading.specs.Given.{CircuitGiven}
 use Rattle.grading.specs.Rows.{Row, noInstance, rowsOfInstance, rowsFrom, rowsOf, rowWords, matrixOf}
-use Rattle.grading.specs.Classes.{sameClass, largest, classesAfterBy, classesBy, classesOf, classFound, foundBy, foundCount}
+use Rattle.grading.specs.Classes.{largest, classesBy, classesOf, foundCount}
 use Rattle.grading.specs.Grading.{over, countsOfCircuit}
 use Rattle.grading.specs.Codes.{codeOf}
 use Rattle.grading.proofs.ValueLaws.{InstanceAt, good-at, type-at, type-ranges}
 use Rattle.grading.proofs.RecordReads.{referencesOf, instance-is, type-read}
-use Rattle.grading.proofs.RowLaws.{rowsBefore, grown as rows-grown, rows-all, length-rows, length-of-instance, rows-grow, rows-few, rows-within, few-rows, faultsAt}
-use Rattle.grading.proofs.ClassLists.{length-classes, largest-most}
+use Rattle.grading.proofs.RowLaws.{rowsBefore, grown as rows-grown, rows-all, length-rows, rows-grow, rows-few, rows-within, few-rows, faultsAt}
 use Rattle.grading.proofs.Lists.{getD-map}
 use Rattle.grading.proofs.MatrixLaws.{length-matrix, matrix-append}
 use Rattle.grade_rows.specs.Model.{instanceCodes, RowsListed}
@@ -46,53 +44,36 @@ use Rattle.grade_marks.specs.Model.{InstanceGiven}
 use Rattle.grade_inputs.specs.Inputs.{onesOf, zerosOf, inputWords}
 use Rattle.grade_marks.proofs.SignalMeaning.{wordsOf, signals-start, signals-more}
 use Rattle.grade_marks.proofs.RowMeaning.{rows-words}
-use Rattle.grade_classes.specs.Model.{numbersOf, InstanceClassed, firstLabels, keysOf, numbers, foundFrom}
+use Rattle.grade_classes.specs.Model.{firstLabels, keysOf, foundFrom, RowsClassed}
 use Rattle.grade_classes.specs.declared.Classed.{Classed}
-use Rattle.grade_classes.proofs.ClassLaws.{rows-long}
-use Rattle.grade_classes.proofs.ClassMeaning.{faultKeys, class-next, count-next, keys-are}
-use Rattle.grade_classes.proofs.FoundMeaning.{foundBefore, found-step, words-are, numbers-are}
+use Rattle.grade_classes.proofs.ClassLaws.{keyed-long, keyed-take}
+use Rattle.grade_classes.proofs.KeyMeaning.{rowKey}
+use Rattle.grade_classes.proofs.ClassMeaning.{classes-by-key, keys-are}
+use Rattle.grade_classes.proofs.FoundMeaning.{found-all, words-are, numbers-are}
 use Rattle.grade_file.specs.Model.{Graded}
 
--- ---- the matrix, row after row
+-- ---- after the first instances
 
-module _ (c : Circuit) where
-  abbrev matrixTo : ℕ → List ℕ
-  matrixTo i = joinLists (map (rowWords c) (rowsBefore c i))
+-- what the loop changes: signals, the matrix, codes with keys in the place of those that are marked, and where the next instance and its rows begin
+pub record State : Type 0 where
+  pub ones : List ℕ
+  pub zeros : List ℕ
+  pub matrix : List ℕ
+  pub codes : List ℕ
+  pub from : ℕ
+  pub place : ℕ
 
--- ---- after the first i instances
+abbrev matrixTo : Circuit → ℕ → List ℕ
+matrixTo c i = joinLists (map (rowWords c) (rowsBefore c i))
 
-pub record Turned (c : Circuit) (matrix₀ classes₀ ones zeros matrix classes : List ℕ) (count found from i : ℕ) : Type 0 where
-  pub inside : i ≤ length (c .instances)
-  pub ones-are : ones ≡ signalWords isAt1 c i
-  pub zeros-are : zeros ≡ signalWords isAt0 c i
-  pub from-is : from ≡ length (rowsBefore c i)
-  pub matrix-is : matrix ≡ written matrix₀ 0 (joinLists (map (rowWords c) (rowsBefore c i)))
-  pub classes-are : classes ≡ written classes₀ 0 (classesOf (rowsBefore c i))
-  pub count-is : count ≡ largest (classesOf (rowsBefore c i))
-  pub found-is : found ≡ foundBefore c i
-
--- no more classes are found than there are
-pub found-few : (c : Circuit) → CircuitGood c → (i : ℕ) → foundBefore c i ≤ 2048
-unfolding foundBy
-found-few c good i =
-    let rows : List Row = rowsBefore c i in
-    omega (
-      arith,
-      sum-few
-          (largest (classesOf rows))
-          (λ (n : ℕ). ofBool (classFound c (suc n) rows (classesOf rows)))
-          (λ n. ofBool-le-one (classFound c (suc n) rows (classesOf rows))),
-      largest-most sameClass rows,
-      rows-within c i,
-      few-rows c good,
-    )
-
--- what the calls of a turn ask of an instance of type t whose codes are listed from one place to another
-pub record TurnFits (t : TypeRecord) (one : InstanceRecord) (place : ℕ) (codes ones zeros matrix classes : List ℕ) (count from to : ℕ) : Type 0 where
-  pub codes-long : length codes ≡ 2048
-  pub marks : InstanceGiven t (one .references) place codes from to ones zeros matrix
-  pub count-few : count ≤ from
-  pub entries : to ≤ length classes
+pub record Turned (c : Circuit) (matrix₀ : List ℕ) (s : State) : Type 0 where
+  pub inside : s .place ≤ length (c .instances)
+  pub ones-are : s .ones ≡ signalWords isAt1 c (s .place)
+  pub zeros-are : s .zeros ≡ signalWords isAt0 c (s .place)
+  pub from-is : s .from ≡ length (rowsBefore c (s .place))
+  pub matrix-is : s .matrix ≡ written matrix₀ 0 (joinLists (map (rowWords c) (rowsBefore c (s .place))))
+  pub codes-long : length (s .codes) ≡ 2048
+  pub keys-are : take (s .from) (s .codes) ≡ map rowKey (rowsBefore c (s .place))
 
 -- the buffers are long enough
 pub record Room (m : CircuitRecord) (matrix classes : List ℕ) : Type 0 where
@@ -103,6 +84,15 @@ pub record Room (m : CircuitRecord) (matrix classes : List ℕ) : Type 0 where
 over-is : (text buffer : List ℕ) → written buffer 0 text ≡ over text buffer
 unfolding written over
 over-is text buffer = rw (zero-add (length text))
+
+-- what stands before a text is as it was
+take-kept : (buffer : List ℕ) (at : ℕ) (text : List ℕ) → at ≤ length buffer → take at (written buffer at text) ≡ take at buffer
+unfolding written
+take-kept buffer at text h =
+    let front : length (take at buffer) ≡ at = length-take-le at buffer h in
+    take-append-le at (take at buffer ++ text) _ (omega (arith, front, length-append (take at buffer) text))
+    ∙ take-append-le at (take at buffer) text (omega (arith, front))
+    ∙ take-take at at buffer (omega arith)
 
 module _ (c : Circuit) (m : CircuitRecord) (is : m ≡ circuitRecord c) where
   pub vectors-are : m .«vector_count» ≡ length (c .vectors)
@@ -118,47 +108,86 @@ module _ (c : Circuit) (m : CircuitRecord) (is : m ≡ circuitRecord c) where
   unfolding circuitRecord rowsOf
   faults-are = ap (λ (x : CircuitRecord). x .faults) is ∙ sym (length-rows (c .types) (c .bridges) 1 (c .instances))
 
-  pub turned-none : (matrix classes ones zeros : List ℕ) → ones ≡ inputWords (onesOf (m .vectors)) ((m .«vector_count» + 63) / 64)
-      → zeros ≡ inputWords (zerosOf (m .vectors)) ((m .«vector_count» + 63) / 64) → Turned c matrix classes ones zeros matrix classes 0 0 0 0
-  unfolding circuitRecord joinLists rowsFrom classesBy classesAfterBy largest foundBy sumTo
-  turned-none matrix classes ones zeros e g = record {
+  pub turned-none : (matrix ones zeros codes : List ℕ) → length codes ≡ 2048
+      → ones ≡ inputWords (onesOf (m .vectors)) ((m .«vector_count» + 63) / 64)
+      → zeros ≡ inputWords (zerosOf (m .vectors)) ((m .«vector_count» + 63) / 64)
+      → Turned c matrix record { ones = ones; zeros = zeros; matrix = matrix; codes = codes; from = 0; place = 0 }
+  unfolding circuitRecord joinLists rowsFrom
+  turned-none matrix ones zeros codes long e g = record {
     inside = omega arith;
     ones-are = e ∙ ap (λ (x : CircuitRecord). inputWords (onesOf (x .vectors)) ((x .«vector_count» + 63) / 64)) is ∙ signals-start c .0;
     zeros-are = g ∙ ap (λ (x : CircuitRecord). inputWords (zerosOf (x .vectors)) ((x .«vector_count» + 63) / 64)) is ∙ signals-start c .1;
     from-is = refl;
     matrix-is = sym (written-nothing matrix 0);
-    classes-are = sym (written-nothing classes 0);
-    count-is = refl;
-    found-is = refl;
+    codes-long = long;
+    keys-are = refl;
   }
 
-  -- the buffers keep their lengths
-  module _ {matrix₀ classes₀ ones zeros matrix classes : List ℕ} {count found from i : ℕ}
-      (room : Room m matrix₀ classes₀) (so-far : Turned c matrix₀ classes₀ ones zeros matrix classes count found from i) where
-    pub turned-long : (length matrix ≡ length matrix₀) × (length classes ≡ length classes₀)
-    turned-long =
-        let rows : List Row = rowsBefore c i in (
-          ap length (so-far .matrix-is)
-              ∙ length-written matrix₀ 0 (matrixTo c i) (omega (arith, length-matrix c rows, rows-within c i, room .words, faults-are)),
-          ap length (so-far .classes-are)
-              ∙ length-written classes₀ 0 (classesOf rows) (omega (arith, length-classes sameClass rows, rows-within c i, room .entries, faults-are)),
-        )
+-- ---- at any turn
 
-  pub turned-end : (matrix₀ classes₀ ones zeros matrix classes : List ℕ) (count found from i : ℕ)
-      → Turned c matrix₀ classes₀ ones zeros matrix classes count found from i → m .«instance_count» ≤ i
-      → Graded c record { vectors = m .«vector_count»; faults = m .faults; classes = count; found = found } matrix₀ classes₀ matrix classes
-  unfolding countsOfCircuit foundCount matrixOf
-  turned-end matrix₀ classes₀ ones zeros matrix classes count found from i all past =
-      let last : i ≡ length (c .instances) = omega (arith, all .inside, instances-are) in
-      let rows : rowsBefore c i ≡ rowsOf c = rows-all c i (omega arith) in
+module _ (m : CircuitRecord) (told : CircuitGiven m) (matrix₀ classes₀ : List ℕ) (room : Room m matrix₀ classes₀) (s : State)
+    (so-far : Turned (told .circuit) matrix₀ s) where
+  abbrev c : Circuit
+  c = told .circuit
+
+  abbrev rows : List Row
+  rows = rowsBefore c (s .place)
+
+  -- the matrix is as long as it was, and has the rows so far
+  pub matrix-long : length (s .matrix) ≡ length matrix₀
+  matrix-long =
+      ap length (so-far .matrix-is)
+      ∙ length-written matrix₀ 0 (matrixTo c (s .place))
+      (omega (arith, length-matrix c rows, rows-within c (s .place), room .words, faults-are c m (told .is)))
+
+  pub from-few : (s .from ≤ 2048) × (s .from ≤ m .faults)
+  from-few =
+      let most : s .from ≤ m .faults = omega (arith, so-far .from-is, rows-within c (s .place), faults-are c m (told .is)) in
+      (omega (arith, most, faults-are c m (told .is), few-rows c (told .good)), most)
+
+  -- after the last, with the rows classed
+  pub turned-end : m .«instance_count» ≤ s .place → (r : Classed) (classes′ : List ℕ)
+      → RowsClassed (take (s .from) (s .codes)) (s .matrix) classes₀ r classes′
+      → Graded c record { vectors = m .«vector_count»; faults = m .faults; classes = r .count; found = r .found } matrix₀ classes₀ (s .matrix) classes′
+  unfolding countsOfCircuit matrixOf written
+  turned-end past r classes′ classed =
       record {
-        counts-are = rw (vectors-are, faults-are, all .count-is, all .found-is, rows);
-        matrix-is = all .matrix-is ∙ over-is (joinLists (map (rowWords c) (rowsBefore c i))) matrix₀ ∙ rw rows;
-        classes-are = all .classes-are ∙ over-is (classesOf (rowsBefore c i)) classes₀ ∙ rw rows;
+        counts-are = λ j. record {
+          vectors = vectors-are c m (told .is) j;
+          faults = faults-are c m (told .is) j;
+          classes = count-is j;
+          found = found-is j;
+        };
+        matrix-is = matrix-is ∙ over-is (matrixOf c) matrix₀;
+        classes-are = classes-are ∙ over-is (classesOf (rowsOf c)) classes₀;
       }
+    where
+      all : rows ≡ rowsOf c
+      all = rows-all c (s .place) (omega (arith, so-far .inside, instances-are c m (told .is)))
 
-found-same : (matrix classes : List ℕ) {a b n k x y : ℕ} → a ≡ b → n ≡ k → x ≡ y → foundFrom matrix classes a n x ≡ foundFrom matrix classes b k y
-found-same matrix classes p q r = rw (p, q, r)
+      keys : take (s .from) (s .codes) ≡ map rowKey (rowsOf c)
+      keys = so-far .keys-are ∙ ap (map rowKey) all
+
+      numbers : classesBy eqb (take (s .from) (s .codes)) ≡ classesOf (rowsOf c)
+      numbers = ap (classesBy eqb) keys ∙ sym (classes-by-key c (told .good))
+
+      matrix-is : s .matrix ≡ written matrix₀ 0 (joinLists (map (rowWords c) (rowsOf c)))
+      matrix-is = so-far .matrix-is ∙ ap (λ (l : List Row). written matrix₀ 0 (joinLists (map (rowWords c) l))) all
+
+      classes-are : classes′ ≡ written classes₀ 0 (classesOf (rowsOf c))
+      classes-are = classed .classes-are ∙ ap (written classes₀ 0) numbers
+
+      count-is : r .count ≡ largest (classesOf (rowsOf c))
+      count-is = classed .count-is ∙ ap largest numbers
+
+      many : length (take (s .from) (s .codes)) ≡ length (rowsOf c)
+      many = ap length keys ∙ length-map (rowsOf c) rowKey
+
+      found-is : r .found ≡ foundCount c
+      found-is =
+          classed .found-is
+          ∙ ap (λ (n : ℕ). foundFrom (s .matrix) classes′ 0 n 0) many
+          ∙ sym (found-all c (told .good) (s .matrix) classes′ (rw matrix-is (words-are c (rowsOf c) _)) (rw classes-are (numbers-are (rowsOf c) _)))
 
 -- ---- one instance
 
@@ -233,160 +262,166 @@ module _ (c : Circuit) (good : CircuitGood c) (m : CircuitRecord) (is : m ≡ ci
               ∙ getD-map referenceRecord (inst .references) l (primary 0) unusedReference here in
               rw is-at (number-range (c .inputs) i (getD (inst .references) l (primary 0)) (good .few-inputs) place-few tied)
 
-      -- ---- one turn
+-- ---- one turn, with e and u what stands past the places for instances and types
 
-      abbrev faults : List Bridge
-      faults = faultsAt c noInstance i
+-- what the calls of a turn ask of an instance of type t whose codes are listed up to a place
+pub record TurnFits (t : TypeRecord) (one : InstanceRecord) (s : State) (codes : List ℕ) (to : ℕ) : Type 0 where
+  pub codes-long : length codes ≡ 2048
+  pub marks : InstanceGiven t (one .references) (s .place) codes (s .from) to (s .ones) (s .zeros) (s .matrix)
 
-      abbrev given : List ℕ
-      given = instanceCodes i (one .choice) (t .highest) (t .labels) (take (m .«bridge_count») (m .bridges))
+module _ (m : CircuitRecord) (told : CircuitGiven m) (matrix₀ classes₀ : List ℕ) (room : Room m matrix₀ classes₀) (s : State)
+    (so-far : Turned (told .circuit) matrix₀ s) (h : s .place < length (told .circuit .instances)) (e : InstanceRecord) (u : TypeRecord) where
+  abbrev d : Circuit
+  d = told .circuit
 
-      module _ (matrix₀ classes₀ ones zeros matrix classes : List ℕ) (count found from : ℕ) (room : Room m matrix₀ classes₀)
-          (so-far : Turned c matrix₀ classes₀ ones zeros matrix classes count found from i) (codes₀ : List ℕ) (codes-long : length codes₀ ≡ 2048) where
-        few-faults : from + length faults ≤ length codes₀
-        few-faults = omega (arith, so-far .from-is, rows-few c good i noInstance h)
+  abbrev good : CircuitGood d
+  good = told .good
 
-        -- there is room for the instance's codes
-        pub codes-room : from + length given ≤ length codes₀
-        codes-room = omega (arith, few-faults, length-codes c good m is i noInstance h e u)
+  abbrev is : m ≡ circuitRecord d
+  is = told .is
 
-        -- its codes listed
-        module _ (codes : List ℕ) (to : ℕ) (listed : RowsListed codes₀ from given to codes) where
-          abbrev new : List Row
-          new = rowsOfInstance (c .types) (c .bridges) (suc i) inst
+  abbrev i : ℕ
+  i = s .place
 
-          long : to ≡ from + length faults
-          long = listed-to c good m is i noInstance h e u codes₀ from to codes listed few-faults
+  abbrev its : InstanceRecord
+  its = getD (m .instances) i e
 
-          to-is : to ≡ length (rowsBefore c (suc i))
-          to-is = omega (arith, long, so-far .from-is, rows-grow c i noInstance h)
+  abbrev type′ : TypeRecord
+  type′ = getD (m .types) (its .«type_number» - 1) u
 
-          within : to ≤ length (rowsOf c)
-          within = omega (arith, to-is, rows-within c (suc i))
+  abbrev faults : List Bridge
+  faults = faultsAt d noInstance i
 
-          order : (from ≤ to) × (to ≤ 2048)
-          order = (omega (arith, long), omega (arith, within, few-rows c good))
+  abbrev given : List ℕ
+  given = instanceCodes i (its .choice) (type′ .highest) (type′ .labels) (take (m .«bridge_count») (m .bridges))
 
-          signals-long : (length ones ≡ 768) × (length zeros ≡ 768)
-          unfolding signalWords
-          signals-long = (ap length (so-far .ones-are) ∙ length-table 768 _, ap length (so-far .zeros-are) ∙ length-table 768 _)
+  few-faults : s .from + length faults ≤ length (s .codes)
+  few-faults = omega (arith, so-far .from-is, rows-few d good i noInstance h, so-far .codes-long)
 
-          -- what the calls of a turn ask
-          pub turn-fits : TurnFits t one i codes ones zeros matrix classes count from to
-          turn-fits = record {
-            codes-long = listed-long c good m is i noInstance h e u codes₀ from to codes listed few-faults ∙ codes-long;
-            marks = record {
-              sound = type-there;
-              tied = references-fit;
-              placed = place-few;
-              ones-long = signals-long .0;
-              zeros-long = signals-long .1;
-              order = order .0;
-              most = order .1;
-              room = omega (arith, turned-long c m is room so-far .0, within, room .words, faults-are c m is);
-              codes = listed-fit c good m is i noInstance h e u codes₀ from to codes listed few-faults;
-            };
-            count-few = omega (arith, so-far .count-is, so-far .from-is, largest-most sameClass (rowsBefore c i));
-            entries = omega (arith, turned-long c m is room so-far .1, within, room .entries, faults-are c m is);
+  -- there is room for the instance's codes
+  pub codes-room : s .from + length given ≤ length (s .codes)
+  codes-room = omega (arith, few-faults, length-codes d good m is i noInstance h e u)
+
+  -- its codes listed
+  module _ (codes : List ℕ) (to : ℕ) (listed : RowsListed (s .codes) (s .from) given to codes) where
+    abbrev new : List Row
+    new = rowsOfInstance (d .types) (d .bridges) (suc i) (inst d good m is i h)
+
+    long : to ≡ s .from + length faults
+    long = listed-to d good m is i noInstance h e u (s .codes) (s .from) to codes listed few-faults
+
+    to-is : to ≡ length (rowsBefore d (suc i))
+    to-is = omega (arith, long, so-far .from-is, rows-grow d i noInstance h)
+
+    within : to ≤ length (rowsOf d)
+    within = omega (arith, to-is, rows-within d (suc i))
+
+    pub order : (s .from ≤ to) × (to ≤ 2048)
+    order = (omega (arith, long), omega (arith, within, few-rows d good))
+
+    signals-long : (length (s .ones) ≡ 768) × (length (s .zeros) ≡ 768)
+    unfolding signalWords
+    signals-long = (ap length (so-far .ones-are) ∙ length-table 768 _, ap length (so-far .zeros-are) ∙ length-table 768 _)
+
+    -- what the calls of a turn ask
+    pub turn-fits : TurnFits type′ its s codes to
+    turn-fits = record {
+      codes-long = listed-long d good m is i noInstance h e u (s .codes) (s .from) to codes listed few-faults ∙ so-far .codes-long;
+      marks = record {
+        sound = type-there d good m is i h e u;
+        tied = references-fit d good m is i h e u;
+        placed = place-few d good m is i h;
+        ones-long = signals-long .0;
+        zeros-long = signals-long .1;
+        order = order .0;
+        most = order .1;
+        room = omega (arith, matrix-long m told matrix₀ classes₀ room s so-far, within, room .words, faults-are d m is);
+        codes = listed-fit d good m is i noInstance h e u (s .codes) (s .from) to codes listed few-faults;
+      };
+    }
+
+    -- what the calls of a turn answer
+    module _ (ones′ zeros′ matrix′ : List ℕ)
+        (marked : InstanceMarked type′ (its .references) i (m .«vector_count») codes (s .from) to (s .ones) (s .zeros) (s .matrix) ones′ zeros′ matrix′)
+        (codes′ : List ℕ) (keyed : codes′ ≡ written codes (s .from) (keysOf codes (firstLabels (its .references)) (s .from) to)) where
+      stand : Bridge
+      stand = nodes 0 0
+
+      abbrev read : InstanceWords
+      read = instanceWords (typeOf type′) (its .references) (s .ones) (s .zeros)
+
+      abbrev its-words : InstanceWords
+      its-words = wordsOf d i (inst d good m is i h)
+
+      words-here : read ≡ its-words
+      words-here = rw (type-meant d good m is i h e u, references-are d good m is i h e, so-far .ones-are, so-far .zeros-are)
+
+      codes-here : (j : ℕ) → j < to - s .from → getD codes (s .from + j) 0 ≡ codeOf (suc i) (getD faults j stand)
+      codes-here j q = listed-at d good m is i noInstance h e u (s .codes) (s .from) to codes listed few-faults j (omega (arith, long)) stand
+
+      grown : rowsBefore d (suc i) ≡ rowsBefore d i ++ new
+      grown = rows-grown d i h noInstance (inst d good m is i h) refl
+
+      -- the matrix
+      texts : rowsWords codes (read .supply) (read .ground) (read .ones) (read .zeros) (m .«vector_count») (s .from) to
+          ≡ joinLists (map (rowWords d) new)
+      texts =
+          ap (λ (r : InstanceWords). rowsWords codes (r .supply) (r .ground) (r .ones) (r .zeros) (m .«vector_count») (s .from) to) words-here
+          ∙ ap (λ (n : ℕ). rowsWords codes (its-words .supply) (its-words .ground) (its-words .ones) (its-words .zeros) n (s .from) to) (vectors-are d m is)
+          ∙ rows-words d i (inst d good m is i h) (at d good m is i h) codes (s .from) to stand (omega (arith, long)) codes-here
+
+      matrix-next : matrix′ ≡ written matrix₀ 0 (matrixTo d (suc i))
+      matrix-next =
+          let added : List ℕ = joinLists (map (rowWords d) new) in
+          let whole : matrixTo d (suc i) ≡ matrixTo d i ++ added
+          = ap (λ (l : List Row). joinLists (map (rowWords d) l)) grown ∙ matrix-append d (rowsBefore d i) new in
+          let place : 4 * s .from ≡ 0 + length (matrixTo d i) = omega (arith, so-far .from-is, length-matrix d (rowsBefore d i)) in
+          let fits : 0 + length (matrixTo d i ++ added) ≤ length matrix₀
+          = rw (← whole) (omega (arith, length-matrix d (rowsBefore d (suc i)), rows-within d (suc i), room .words, faults-are d m is)) in
+          marked .rows-are
+          ∙ rw (texts, so-far .matrix-is, place)
+          (written-written matrix₀ 0 (matrixTo d i) added fits ∙ ap (written matrix₀ 0) (sym whole))
+
+      -- the keys
+      abbrev firsts : List ℕ
+      firsts = firstLabels (its .references)
+
+      inside : (s .from ≤ to) × (to ≤ length codes)
+      inside = (order .0, omega (arith, order .1, turn-fits .codes-long))
+
+      keys-here : keysOf codes firsts (s .from) to ≡ map rowKey new
+      keys-here =
+          rw (references-are d good m is i h e) (keys-are d (suc i) (inst d good m is i h) codes (s .from) to stand (omega (arith, long)) codes-here)
+
+      old-here : take (s .from) codes ≡ map rowKey (rowsBefore d i)
+      old-here =
+          ap (take (s .from)) (listed .listed)
+          ∙ take-kept (s .codes) (s .from) given (omega (arith, few-faults))
+          ∙ so-far .keys-are
+
+      keys-next : take to codes′ ≡ map rowKey (rowsBefore d (suc i))
+      keys-next =
+          ap (take to) keyed
+          ∙ keyed-take codes firsts (s .from) to inside
+          ∙ rw (old-here, keys-here)
+          (sym (map-append rowKey (rowsBefore d i) new) ∙ ap (map rowKey) (sym grown))
+
+      turned : Turned d matrix₀ record { ones = ones′; zeros = zeros′; matrix = matrix′; codes = codes′; from = to; place = suc i }
+      turned =
+          let signals = signals-more d i (inst d good m is i h) (at d good m is i h) in
+          record {
+            inside = h;
+            ones-are = marked .ones-are
+                ∙ ap (λ (r : InstanceWords). written (s .ones) (4 * (64 + i)) (outputOnes (r .supply) (r .ground) (type′ .output))) words-here
+                ∙ rw (so-far .ones-are, output-is d good m is i h e u) (signals .0);
+            zeros-are = marked .zeros-are
+                ∙ ap (λ (r : InstanceWords). written (s .zeros) (4 * (64 + i)) (outputZeros (r .supply) (r .ground) (type′ .output))) words-here
+                ∙ rw (so-far .zeros-are, output-is d good m is i h e u) (signals .1);
+            from-is = to-is;
+            matrix-is = matrix-next;
+            codes-long = ap length keyed ∙ keyed-long codes firsts (s .from) to inside ∙ turn-fits .codes-long;
+            keys-are = keys-next;
           }
 
-          -- keys take the place of codes, which are as many as they were
-          pub codes-kept : {matrix′ codes′ classes′ : List ℕ} {r : Classed}
-              → InstanceClassed codes (one .references) from to count matrix′ classes r codes′ classes′ → length codes′ ≡ 2048
-          codes-kept {codes′ = codes′} classed = rows-long codes (one .references) from to order (turn-fits .codes-long) codes′ (classed .keys-are)
-
-          -- what the calls of a turn answer
-          module _ (ones′ zeros′ matrix′ : List ℕ)
-              (marked : InstanceMarked t (one .references) i (m .«vector_count») codes from to ones zeros matrix ones′ zeros′ matrix′)
-              (codes′ classes′ : List ℕ) (r : Classed) (classed : InstanceClassed codes (one .references) from to count matrix′ classes r codes′ classes′) where
-            stand : Bridge
-            stand = nodes 0 0
-
-            abbrev read : InstanceWords
-            read = instanceWords (typeOf t) (one .references) ones zeros
-
-            words-here : read ≡ wordsOf c i inst
-            words-here = rw (type-meant, references-are, so-far .ones-are, so-far .zeros-are)
-
-            codes-here : (j : ℕ) → j < to - from → getD codes (from + j) 0 ≡ codeOf (suc i) (getD faults j stand)
-            codes-here j q = listed-at c good m is i noInstance h e u codes₀ from to codes listed few-faults j (omega (arith, long)) stand
-
-            grown : rowsBefore c (suc i) ≡ rowsBefore c i ++ new
-            grown = rows-grown c i h noInstance inst refl
-
-            -- the matrix
-            texts : rowsWords codes (read .supply) (read .ground) (read .ones) (read .zeros) (m .«vector_count») from to
-                ≡ joinLists (map (rowWords c) new)
-            texts =
-                ap (λ (r : InstanceWords). rowsWords codes (r .supply) (r .ground) (r .ones) (r .zeros) (m .«vector_count») from to) words-here
-                ∙ rw (vectors-are c m is) (rows-words c i inst at codes from to stand (omega (arith, long)) codes-here)
-
-            matrix-next : matrix′ ≡ written matrix₀ 0 (matrixTo c (suc i))
-            matrix-next =
-                let added : List ℕ = joinLists (map (rowWords c) new) in
-                let whole : matrixTo c (suc i) ≡ matrixTo c i ++ added
-                = ap (λ (l : List Row). joinLists (map (rowWords c) l)) grown ∙ matrix-append c (rowsBefore c i) new in
-                let place : 4 * from ≡ 0 + length (matrixTo c i) = omega (arith, so-far .from-is, length-matrix c (rowsBefore c i)) in
-                let fits : 0 + length (matrixTo c i ++ added) ≤ length matrix₀
-                = rw (← whole) (omega (arith, length-matrix c (rowsBefore c (suc i)), rows-within c (suc i), room .words, faults-are c m is)) in
-                marked .rows-are
-                ∙ rw (texts, so-far .matrix-is, place)
-                (written-written matrix₀ 0 (matrixTo c i) added fits ∙ ap (written matrix₀ 0) (sym whole))
-
-            -- the keys
-            keys-here : keysOf codes (firstLabels (one .references)) from to ≡ faultKeys c (suc i) inst
-            keys-here = rw references-are (keys-are c (suc i) inst codes from to stand (omega (arith, long)) codes-here)
-
-            -- the classes
-            numbers-here : numbersOf codes (one .references) from to count
-                ≡ numbers (largest (classesOf (rowsBefore c i))) (faultKeys c (suc i) inst)
-            numbers-here = rw (keys-here, so-far .count-is)
-
-            stepped : classesOf (rowsBefore c (suc i))
-                ≡ classesOf (rowsBefore c i) ++ numbers (largest (classesOf (rowsBefore c i))) (faultKeys c (suc i) inst)
-            stepped = class-next c good i h noInstance inst refl
-
-            classes-next : classes′ ≡ written classes₀ 0 (classesOf (rowsBefore c (suc i)))
-            classes-next =
-                let old : List ℕ = classesOf (rowsBefore c i) in
-                let added : List ℕ = numbers (largest old) (faultKeys c (suc i) inst) in
-                let place : from ≡ 0 + length old = omega (arith, so-far .from-is, length-classes sameClass (rowsBefore c i)) in
-                let fits : 0 + length (old ++ added) ≤ length classes₀
-                = rw (← stepped) (omega (arith, length-classes sameClass (rowsBefore c (suc i)), rows-within c (suc i), room .entries, faults-are c m is)) in
-                classed .classes-are
-                ∙ rw (numbers-here, so-far .classes-are, place) (written-written classes₀ 0 old added fits ∙ ap (written classes₀ 0) (sym stepped))
-
-            count-here : r .count ≡ largest (classesOf (rowsBefore c (suc i)))
-            count-here = classed .count-is ∙ rw (numbers-here, so-far .count-is) (count-next c good i h noInstance inst refl)
-
-            -- the found classes
-            found-next : found + r .found ≡ foundBefore c (suc i)
-            unfolding written
-            found-next =
-                let size : to - from ≡ length new = omega (arith, long, length-of-instance (c .types) (c .bridges) (suc i) inst) in
-                let step = found-step c good i h noInstance inst refl matrix′ classes′
-                (rw matrix-next (words-are c (rowsBefore c (suc i)) _)) (rw classes-next (numbers-are (rowsBefore c (suc i)) _)) in
-                let added : r .found ≡ foundFrom matrix′ classes′ (length (rowsBefore c i)) (length new) (largest (classesOf (rowsBefore c i)))
-                = classed .found-is ∙ found-same matrix′ classes′ (so-far .from-is) size (so-far .count-is) in
-                omega (arith, so-far .found-is, step, added)
-
-            turned : Turned c matrix₀ classes₀ ones′ zeros′ matrix′ classes′ (r .count) (found + r .found) to (suc i)
-            turned =
-                let signals = signals-more c i inst at in
-                record {
-                  inside = h;
-                  ones-are = marked .ones-are
-                      ∙ ap (λ (r : InstanceWords). written ones (4 * (64 + i)) (outputOnes (r .supply) (r .ground) (t .output))) words-here
-                      ∙ rw (so-far .ones-are, output-is) (signals .0);
-                  zeros-are = marked .zeros-are
-                      ∙ ap (λ (r : InstanceWords). written zeros (4 * (64 + i)) (outputZeros (r .supply) (r .ground) (t .output))) words-here
-                      ∙ rw (so-far .zeros-are, output-is) (signals .1);
-                  from-is = to-is;
-                  matrix-is = matrix-next;
-                  classes-are = classes-next;
-                  count-is = count-here;
-                  found-is = found-next;
-                }
-
-            pub turn : Turned c matrix₀ classes₀ ones′ zeros′ matrix′ classes′ (r .count) (found + r .found) to (i + 1)
-            turn = rw (add-one i) turned
+      pub turn : Turned d matrix₀ record { ones = ones′; zeros = zeros′; matrix = matrix′; codes = codes′; from = to; place = i + 1 }
+      turn = rw (add-one i) turned

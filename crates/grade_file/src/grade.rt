@@ -1,9 +1,10 @@
-// Grading a file or a circuit: reading, the refusals of the buffers, and then the rows, instance by instance.
+// Grading a file or a circuit: reading, the refusals of the buffers, then the rows, instance by instance, and the classes of all of them.
 use circuit::Circuit;
 use circuit::Reading;
 use circuit::limits::MOST_FAULTS;
 use circuit::refusal::refuses;
-use grade_classes::class_instance;
+use grade_classes::class_rows;
+use grade_classes::write_keys;
 use grade_inputs::put_signals;
 use grade_marks::instance::mark_instance;
 use grade_rows::list_rows;
@@ -44,8 +45,6 @@ fn fill_buffers(c: Circuit, matrix: &mut [u64], classes: &mut [u16]) -> Counts
     let mut zeros = [0u64; 768];
     put_signals(c.vectors, (vectors + 63) / 64, &mut ones, &mut zeros);
     let mut codes = [0u32; MOST_FAULTS];
-    let mut count: u16 = 0;
-    let mut found: usize = 0;
     let mut from: usize = 0;
     let mut i: usize = 0;
     while i < c.instance_count {
@@ -64,13 +63,12 @@ fn fill_buffers(c: Circuit, matrix: &mut [u64], classes: &mut [u16]) -> Counts
             &mut zeros,
             matrix,
         );
-        let new = class_instance(&mut codes, from, to, one, matrix, classes, count);
-        count = new.count;
-        found += new.found;
+        write_keys(&mut codes, from, to, one);
         from = to;
         i += 1;
     }
-    counted(vectors, c.faults, count, found)
+    let classed = class_rows(&codes, from, matrix, classes);
+    counted(vectors, c.faults, classed.count, classed.found)
 }
 
 // A circuit that reading gives: the counts, with the matrix and the classes written, or the buffer that is too short, with both as they were.

@@ -8,7 +8,7 @@ use mathlib.Core.List.{List, [], map}
 use native.Mathlib.Nat.{not-suc-le-zero}
 use native.Mathlib.Decide.{decLt}
 use native.Mathlib.Omega.{arith}
-use borrow.Author.Tests.{lt-ltb, le-ltb, eq-eqb}
+use borrow.Author.Tests.{lt-ltb, le-ltb}
 use lib.Bits.{bitAnd, and-le-r}
 use lib.Dec.{T, leb, ltb, leb→le, ltb→lt, le→leb, lt→ltb}
 use lib.ListN.{length, getD, length-map, List·getD-map}
@@ -34,7 +34,8 @@ use Rattle.circuit.specs.Table.{bridgeSuits, listUnsuited}
 use Rattle.circuit.proofs.TypeLaws.{accepts}
 use Rattle.grading.specs.Values.{labelValues}
 use Rattle.grading.specs.Rows.{Row, rowWith, rowsOfInstance, rowValues, cell, markOf, rowWords}
-use Rattle.grading.specs.Codes.{codeOf}
+use Rattle.grading.specs.Codes.{kindOf, firstEnd, secondEnd, codeOf}
+use Rattle.grading.proofs.CodeLaws.{code-kind, code-first, code-second}
 use Rattle.grading.proofs.MatrixLaws.{matrix-table}
 use Rattle.grading.proofs.SameClass.{in-first, in-second, or-cases}
 use Rattle.grading.proofs.Everywhere.{Every, every-append, every-at, every-table, every-join}
@@ -164,29 +165,18 @@ module _ (t : ModuleType) (accepted : Accepted t) (values : ℕ → Value) where
 
 -- ---- a code's word
 
-low-byte : (x n k : ℕ) → x ≡ n * 256 + k → k < 256 → x % 256 ≡ k
-low-byte x n k e h = omega arith
-
 module _ (toSupply toGround ones zeros : List ℕ) (w : ℕ) where
   nodes-word : (n a b : ℕ) → a < 32 → b < 32
       → markWord toSupply toGround ones zeros (codeOf n (nodes a b)) w ≡ pairWord toSupply toGround (4 * a + w) (4 * b + w)
-  unfolding markWord codeOf
+  unfolding markWord kindOf firstEnd secondEnd
   nodes-word n a b ha hb =
-      let code : ℕ = ((n * 256 + 0) * 256 + a) * 256 + b in
-      let first : code / 256 % 256 ≡ a = omega arith in
-      let second : code % 256 ≡ b = omega arith in
-      let kind : code / 65536 % 256 ≡ 0 = low-byte (code / 65536) n 0 (omega arith) (omega arith) in
-      rw (eq-eqb (code / 65536 % 256) 0 kind, first, second)
+      let d : Bridge = nodes a b in rw (code-kind n d (ha, hb), code-first n d (ha, hb), code-second n d (ha, hb))
 
   input-word : (n m l : ℕ) → m < 32 → l < 12
       → markWord toSupply toGround ones zeros (codeOf n (input m l)) w ≡ inputMarkWord toSupply toGround ones zeros (4 * m + w) (4 * l + w)
-  unfolding markWord codeOf
+  unfolding markWord kindOf firstEnd secondEnd
   input-word n m l hm hl =
-      let code : ℕ = ((n * 256 + 1) * 256 + m) * 256 + l in
-      let first : code / 256 % 256 ≡ m = omega arith in
-      let second : code % 256 ≡ l = omega arith in
-      let kind : code / 65536 % 256 ≡ 1 = low-byte (code / 65536) n 1 (omega arith) (omega arith) in
-      rw (kind, first, second)
+      let d : Bridge = input m l in rw (code-kind n d (hm, hl), code-first n d (hm, hl), code-second n d (hm, hl))
 
 -- ---- the rows of an instance
 

@@ -19,7 +19,7 @@ use Rattle.switch.specs.declared.ModuleType.{ModuleType as TypeRecord}
 use Rattle.circuit.specs.Circuit.{Circuit}
 use Rattle.circuit.specs.Records.{unusedReference}
 use Rattle.circuit.specs.declared.Reference.{Reference as ReferenceRecord}
-use Rattle.grading.specs.Codes.{CodesFit}
+use Rattle.grading.specs.Codes.{kindIn, firstIn, secondIn, CodesFit}
 use Rattle.grading.specs.Values.{outputsOf}
 
 -- ---- signals: primary inputs at 0 to 63, the outputs of instances from 64 on
@@ -97,9 +97,9 @@ inputMarkWord toSupply toGround ones zeros m l =
 -- word w of a row, from its code
 unfoldable pub markWord : List ℕ → List ℕ → List ℕ → List ℕ → ℕ → ℕ → ℕ
 markWord toSupply toGround ones zeros row w =
-    cond (eqb (row / 65536 % 256) 0)
-    (pairWord toSupply toGround (4 * (row / 256 % 256) + w) (4 * (row % 256) + w))
-    (inputMarkWord toSupply toGround ones zeros (4 * (row / 256 % 256) + w) (4 * (row % 256) + w))
+    cond (eqb (kindIn row) 0)
+    (pairWord toSupply toGround (4 * firstIn row + w) (4 * secondIn row + w))
+    (inputMarkWord toSupply toGround ones zeros (4 * firstIn row + w) (4 * secondIn row + w))
 
 -- the places of the vectors in word w
 unfoldable pub vectorsIn : ℕ → ℕ → ℕ

@@ -1,12 +1,12 @@
 -- The codes of one instance: what its choice gives, that for a circuit's record they are the codes of the instance's faults, and that, listed, they fit.
-use Prim.Native.Nat.{ℕ, suc, _+_, _-_, _*_, _/_, _%_, _≤_, _<_}
+use Prim.Native.Nat.{ℕ, suc, _+_, _-_, _≤_, _<_}
 use mathlib.Core.Path.{_≡_, refl, sym, ap, _∙_}
 use mathlib.Core.Bool.{Bool, true, false, cond}
 use mathlib.Core.List.{List, [], _∷_, _++_, map}
 use native.Mathlib.Decide.{ℕ-discrete}
 use native.Mathlib.Numerals.{add-one}
 use native.Mathlib.Omega.{arith}
-use borrow.Author.Tests.{eq-eqb, ne-eqb, eqb-false}
+use borrow.Author.Tests.{eq-eqb, ne-eqb}
 use lib.Dec.{T, eqb}
 use lib.ListN.{length, getD, take, length-map}
 use Rattle.words.proofs.WrittenLaws.{length-written, written-here}
@@ -21,9 +21,10 @@ use Rattle.circuit.specs.declared.Bridge.{Bridge as BridgeRecord}
 use Rattle.circuit.specs.declared.Circuit.{Circuit as CircuitRecord}
 use Rattle.circuit.specs.declared.Instance.{Instance as InstanceRecord}
 use Rattle.circuit.proofs.RangeLaws.{in-between}
-use Rattle.grading.specs.Codes.{codeOf, CodeFits, CodesFit}
+use Rattle.grading.specs.Codes.{kindOf, firstEnd, secondEnd, codeOf, CodeFits, CodesFit}
+use Rattle.grading.proofs.CodeLaws.{code-fits}
 use Rattle.grading.proofs.Everywhere.{Every, every-at, every-map}
-use Rattle.grading.proofs.FaultRanges.{faults-fit, BridgeFits}
+use Rattle.grading.proofs.FaultRanges.{faults-fit}
 use Rattle.grading.proofs.Lists.{getD-map}
 use Rattle.grading.proofs.RecordReads.{bridges-are, choice-is, typeRead, highest-is, labels-are}
 use Rattle.grading.proofs.RowLaws.{faultsAt}
@@ -74,7 +75,7 @@ is-list (list n) p q = refl
 -- the codes of a user list, from its bridges' records
 module _ (n : ℕ) where
   record-code : (l : ℕ) (b : Bridge) → recordCode n (bridgeRecordIn l b) ≡ codeOf n b
-  unfolding recordCode bridgeRecordIn codeOf
+  unfolding recordCode bridgeRecordIn codeOf kindOf firstEnd secondEnd
   record-code l (nodes a b) = refl
   record-code l (input m k) = refl
 
@@ -96,14 +97,6 @@ module _ (n : ℕ) where
       go false rest e = refl
 
 -- ---- an instance of a good circuit c, from the circuit's record r
-
--- every code has its nodes and its label
-code-fits : (n : ℕ) (b : Bridge) → BridgeFits b → CodeFits (codeOf n b)
-unfolding CodeFits codeOf
-code-fits n (nodes a b) fits =
-    let row : ℕ = ((n * 256 + 0) * 256 + a) * 256 + b in
-    (omega arith, omega arith, λ e. absurd (eqb-false (row / 65536 % 256) 0 e (omega arith)))
-code-fits n (input m l) fits = (omega arith, omega arith, λ e. omega arith)
 
 module _ (c : Circuit) (good : CircuitGood c) (r : CircuitRecord) (is : r ≡ circuitRecord c)
     (i : ℕ) (d : Instance) (h : i < length (c .instances)) (e : InstanceRecord) (u : TypeRecord) where

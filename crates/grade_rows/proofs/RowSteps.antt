@@ -14,10 +14,10 @@ use Rattle.switch.specs.Modules.{ModuleType}
 use Rattle.circuit.specs.Circuit.{Circuit, Instance, Listed, faultsOf}
 use Rattle.circuit.specs.Records.{padded}
 use Rattle.circuit.specs.Laws.{CircuitGood}
-use Rattle.grading.specs.Codes.{codeOf}
+use Rattle.grading.specs.Codes.{codeOf, codesOf}
 use Rattle.grading.specs.Rows.{Row, rowsOfInstance, rowsFrom, rowsOf}
 use Rattle.grading.proofs.RowLaws.{rows-more, rowsBefore, faultsAt, rows-few, rows-all, few-rows}
-use Rattle.grade_rows.specs.Model.{codesOf, RowsListed}
+use Rattle.grade_rows.specs.Model.{RowsListed}
 use Rattle.grade_rows.proofs.RowWriting.{Wrote, wrote-nothing, wrote-more}
 
 codes-of-instance : (types : List ModuleType) (bridges : List Listed) (n : ℕ) (i : Instance)

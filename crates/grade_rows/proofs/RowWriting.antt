@@ -1,7 +1,7 @@
 -- Rows as codes, written piece by piece: a buffer into which the first pieces of a text are written, and one piece more. The texts are the codes
 -- of one node's faults, of the nodes' in a line, and of a user list.
 use native.Mathlib.Numerals.{add-one}
-use Prim.Native.Nat.{_-_, ℕ, suc, _+_, _*_, _≤_, _<_}
+use Prim.Native.Nat.{_-_, ℕ, suc, _+_, _≤_, _<_}
 use mathlib.Core.Path.{_≡_, refl, sym, ap, _∙_}
 use mathlib.Core.Bool.{Bool, true, false, cond}
 use mathlib.Core.List.{List, [], _∷_, _++_, map, map-append, append-nil}
@@ -18,7 +18,7 @@ use Rattle.words.proofs.WrittenLaws.{written-nothing, written-written, set-writ
 use Rattle.switch.specs.Bridges.{nodes, input, Bridge}
 use Rattle.circuit.specs.Circuit.{joinLists}
 use Rattle.circuit.specs.declared.Bridge.{Bridge as BridgeRecord}
-use Rattle.grading.specs.Codes.{codeOf}
+use Rattle.grading.specs.Codes.{kindOf, firstEnd, secondEnd, packed, codeOf}
 use Rattle.grading.proofs.Lists.{join-append, join-one}
 use Rattle.grade_rows.specs.Model.{codesFrom, listedCodes}
 
@@ -59,10 +59,10 @@ length-from n kind first from to = length-table (to - from) _
 -- one second more
 pub from-more : (n kind first from second to : ℕ) (buffer : List ℕ) (at : ℕ) (rows : List ℕ) (next code : ℕ)
     → Wrote buffer at (codesFrom n kind first from second) rows next → from ≤ second → second < to → at + length (codesFrom n kind first from to) ≤ length buffer
-    → code ≡ ((n * 256 + kind) * 256 + first) * 256 + second → Wrote buffer at (codesFrom n kind first from (second + 1)) (set rows next code) (next + 1)
+    → code ≡ packed n kind first second → Wrote buffer at (codesFrom n kind first from (second + 1)) (set rows next code) (next + 1)
 unfolding codesFrom
 from-more n kind first from second to buffer at rows next code w low high fits e =
-    let f : ℕ → ℕ = λ (j : ℕ). ((n * 256 + kind) * 256 + first) * 256 + (from + j) in
+    let f : ℕ → ℕ = λ (j : ℕ). packed n kind first (from + j) in
     let size : second + 1 - from ≡ suc (second - from) = omega arith in
     let last : code ≡ f (second - from) = omega (arith, e) in
     let more : table (second + 1 - from) f ≡ table (second - from) f ++ (code ∷ []) = rw (size, last) (table-more (second - from) f) in
@@ -78,17 +78,17 @@ inputsAt k m = table k (λ (l : ℕ). input m l)
 
 module _ (n : ℕ) where
   pub pair-codes : (h a : ℕ) → map (codeOf n) (pairsOf h a) ≡ codesFrom n 0 a (a + 1) (h + 1)
-  unfolding codeOf codesFrom
+  unfolding codeOf kindOf firstEnd secondEnd codesFrom
   pair-codes h a =
       let size : h + 1 - (a + 1) ≡ h - a = omega arith in
       rw size (map-table (codeOf n) (h - a) (λ (j : ℕ). nodes a (a + 1 + j)))
 
   pub input-codes : (k m : ℕ) → map (codeOf n) (inputsAt k m) ≡ codesFrom n 1 m 0 k
-  unfolding codeOf codesFrom
+  unfolding codeOf kindOf firstEnd secondEnd codesFrom
   input-codes k m =
       rw (sub-zero k)
       (map-table (codeOf n) k (input m)
-      ∙ table-cong k (λ (j : ℕ). codeOf n (input m j)) (λ (j : ℕ). ((n * 256 + 1) * 256 + m) * 256 + (0 + j)) (λ j h. omega arith))
+      ∙ table-cong k (λ (j : ℕ). codeOf n (input m j)) (λ (j : ℕ). packed n 1 m (0 + j)) (λ j h. omega arith))
 
 -- ---- lists in a line
 
@@ -143,7 +143,7 @@ module _ (instance h : ℕ) (faults : ℕ → List Bridge) where
 -- ---- the codes of a user list
 
 unfoldable pub recordCode : ℕ → BridgeRecord → ℕ
-recordCode n b = ((n * 256 + b .kind) * 256 + b .first) * 256 + b .second
+recordCode n b = packed n (b .kind) (b .first) (b .second)
 
 module _ (instance list : ℕ) where
   listed-append : (as′ bs : List BridgeRecord) → listedCodes instance list (as′ ++ bs) ≡ listedCodes instance list as′ ++ listedCodes instance list bs

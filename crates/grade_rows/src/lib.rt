@@ -1,29 +1,23 @@
-// The rows of a circuit, a number each: instance, kind, first and second, a byte each, highest first.
+// The rows of a circuit, a number each.
 use circuit::Bridge;
 use circuit::Circuit;
 use circuit::Instance;
 use circuit::limits::MOST_BRIDGES;
 use circuit::limits::MOST_FAULTS;
+use grading::codes::pack;
 use switch::ModuleType;
 ghost use mathlib.Core.Path.{_≡_};
 ghost use mathlib.Core.List.{map};
-ghost use Prim.Native.Nat.{_+_, _*_, _<_, _≤_};
+ghost use Prim.Native.Nat.{_+_, _<_, _≤_};
 ghost use lib.ListN.{length, take};
 ghost use Rattle.words.specs.Written.{written};
 ghost use Rattle.circuit.specs.Circuit.{Circuit as CircuitMeant, nodePairs, nodeInputs};
 ghost use Rattle.circuit.specs.Records.{padded, circuitRecord};
 ghost use Rattle.circuit.specs.Laws.{CircuitGood};
-ghost use Rattle.grading.specs.Codes.{codeOf};
+ghost use Rattle.grading.specs.Codes.{codeOf, codesOf};
 ghost use Rattle.grading.specs.Rows.{rowsOf};
 ghost use Rattle.grading.specs.Given.{CircuitGiven};
-ghost use Rattle.grade_rows.specs.Model.{codesFrom, listedCodes, instanceCodes, codesOf, RowsListed};
-
-fn code(instance: u32, kind: u32, first: u32, second: u32) -> u32
-    requires { ⌜ (instance < 256) × (kind < 256) × (first < 256) × (second < 256) ⌝ }
-    ensures { λ r. ⌜ r ≡ ((instance * 256 + kind) * 256 + first) * 256 + second ⌝ }
-{
-    ((instance * 256 + kind) * 256 + first) * 256 + second
-}
+ghost use Rattle.grade_rows.specs.Model.{codesFrom, listedCodes, instanceCodes, RowsListed};
 
 // The rows of one kind and one first, with each second from `from` to below `to`.
 fn put_codes(
@@ -42,7 +36,7 @@ fn put_codes(
     let mut next = at;
     let mut second = from;
     while second < to {
-        rows[next] = code(instance, kind, first, second);
+        rows[next] = pack(instance, kind, first, second);
         next += 1;
         second += 1;
     }
@@ -97,7 +91,7 @@ fn listed(
     while i < count {
         let b = bridges[i];
         if b.list == list {
-            rows[next] = code(instance, b.kind as u32, b.first as u32, b.second as u32);
+            rows[next] = pack(instance, b.kind as u32, b.first as u32, b.second as u32);
             next += 1;
         }
         i += 1;

@@ -16,7 +16,8 @@ use Rattle.circuit.specs.Circuit.{Circuit, Instance, Listed, Choice, exhaustive
 use Rattle.circuit.specs.Circuit.{userList, chosen, faultsOf}
 use Rattle.circuit.specs.Table.{bridgeGood, listedGood}
 use Rattle.circuit.specs.Laws.{Each, CircuitGood}
-use Rattle.grading.proofs.Everywhere.{Every, every-nil, every-cons, every-append, every-table, every-join}
+use Rattle.grading.specs.Rows.{Row, rowWith, rowsOfInstance, rowsFrom, rowsOf}
+use Rattle.grading.proofs.Everywhere.{Every, every-nil, every-cons, every-append, every-table, every-join, every-map}
 use Rattle.grading.proofs.ValueLaws.{type-ranges, type-good}
 
 -- a bridge whose nodes are below 32, and whose label is below 12
@@ -86,3 +87,22 @@ faults-fit c good i none h = go (types-fit c good i none h) (getD (c .instances)
     go fits exhaustive = exhaustive-fits (t .highest) (t .labels) (fits .nodes-are) (fits .labels-are)
     go fits no-faults = every-nil BridgeFits
     go fits (list n) = list-fits n (c .bridges) (good .bridges)
+
+-- ---- rows
+
+-- a row whose number tells its parts
+abbrev pub RowFits : Row → Type 0
+RowFits row = (row .number < 256) × BridgeFits (row .bridge)
+
+rows-fit-from : (types : List ModuleType) (bridges : List Listed) (n : ℕ) (is : List Instance) → n + length is ≤ 256
+    → ((j : ℕ) (none : Instance) → j < length is → Every BridgeFits (faultsOf types bridges (getD is j none))) → Every RowFits (rowsFrom types bridges n is)
+unfolding rowsFrom rowsOfInstance
+rows-fit-from types bridges n [] few fit = every-nil RowFits
+rows-fit-from types bridges n (i ∷ is) few fit =
+    every-append RowFits (rowsOfInstance types bridges n i) (rowsFrom types bridges (suc n) is)
+    (every-map RowFits (rowWith types n i) (faultsOf types bridges i) (λ b m. (omega arith, fit 0 i (omega arith) b m)))
+    (rows-fit-from types bridges (suc n) is (omega arith) (λ j none h. fit (suc j) none (omega arith)))
+
+pub rows-fit : (c : Circuit) → CircuitGood c → Every RowFits (rowsOf c)
+unfolding rowsOf
+rows-fit c good = rows-fit-from (c .types) (c .bridges) 1 (c .instances) (omega (arith, good .few-instances)) (faults-fit c good)

@@ -4,6 +4,7 @@ pub mod Lists
 pub mod ValueLaws
 pub mod FaultRanges
 pub mod RecordReads
+pub mod CodeLaws
 pub mod RowLaws
 pub mod MatrixLaws
 pub mod SameClass

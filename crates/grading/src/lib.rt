@@ -1,5 +1,6 @@
-// What a grading answers: the four counts, or why there are none.
+// What a grading answers: the four counts, or why there are none. And a row as one number.
 pub mod answers;
+pub mod codes;
 
 use circuit::refusal::Refusal;
 

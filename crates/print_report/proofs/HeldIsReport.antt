@@ -1,5 +1,5 @@
 -- What is held is the report: under an outcome of a file the held lines are the report's. Assumes nothing.
-use Prim.Native.Nat.{ℕ, zero, suc, _+_, _*_, _/_, _%_, _≤_, _<_, min}
+use Prim.Native.Nat.{ℕ, zero, suc, _+_, _*_, _≤_, _<_, min}
 use mathlib.Core.Path.{_≡_, refl, sym, ap, subst, _∙_}
 use mathlib.Core.Bool.{true}
 use mathlib.Core.List.{List, [], _∷_, _++_}
@@ -9,32 +9,31 @@ use Rattle.print_lines.specs.Pieces.{lineIn, PieceGiven}
 use Rattle.print_lines.specs.declared.Piece.{Piece}
 use Rattle.words.specs.Rows as marks
 use Rattle.words.proofs.Tables.{length-table, is-table}
-use Rattle.switch.specs.Modules.{ModuleType}
-use Rattle.switch.specs.Bridges.{Bridge, nodes, input}
-use Rattle.circuit.specs.Circuit.{Circuit, Instance, Listed, faultsOf}
+use Rattle.switch.specs.Bridges.{Bridge}
+use Rattle.circuit.specs.Circuit.{Circuit}
 use Rattle.circuit.specs.Records.{padded}
 use Rattle.circuit.specs.Reading.{accepted, readingOf}
 use Rattle.circuit.specs.Laws.{CircuitGood}
 use Rattle.circuit.proofs.CircuitLaws.{accepted-is-good}
 use Rattle.circuit.proofs.Padding.{getD-padded}
 use Rattle.grading.specs.Buffers.{Buffers, roomOf}
-use Rattle.grading.specs.Rows.{Row, noRow, rowWith, rowsOfInstance, rowsFrom, rowsOf, rowWords, matrixOf}
+use Rattle.grading.specs.Rows.{Row, noRow, rowsOf, rowWords, matrixOf}
 use Rattle.grading.specs.Classes.{classesOf}
-use Rattle.grading.specs.Codes.{codeOf}
+use Rattle.grading.specs.Codes.{kindOf, firstEnd, secondEnd, codeOf, codesOf}
+use Rattle.grading.proofs.CodeLaws.{code-instance, code-kind, code-first, code-second}
 use Rattle.grading.specs.Grading.{Grading, graded, refused, Counts, countsOfCircuit as countsOfCircuit, gradingOf}
 use Rattle.grading.specs.Grading.{countsIn, numberIn, placeIn, over, buffersAfter}
 use Rattle.grading.specs.Promise.{placeOf, countsOf}
 use Rattle.grading.specs.declared.Answer.{Answer}
 use Rattle.grading.proofs.PromiseLaws.{matrix-at-exit, classes-at-exit}
-use Rattle.grading.proofs.Everywhere.{Every, every-nil, every-append, every-map, every-at}
-use Rattle.grading.proofs.FaultRanges.{BridgeFits, faults-fit}
+use Rattle.grading.proofs.Everywhere.{every-at}
+use Rattle.grading.proofs.FaultRanges.{BridgeFits, RowFits, rows-fit}
 use Rattle.grading.proofs.Lists.{getD-map}
 use Rattle.grading.proofs.MatrixLaws.{length-matrix, row-long, word-in}
 use Rattle.grading.proofs.RowLaws.{few-rows}
 use Rattle.grading.proofs.ClassNumbering.{class-numbers}
-use Rattle.grade_rows.specs.Model.{codesOf}
 use Rattle.print_report.specs.Lines.{rowLine}
-use Rattle.print_report.specs.Report.{kindOf, firstEnd, secondEnd, lineOf, rowLines, countsLine, reportLines, reportLine, lineCount}
+use Rattle.print_report.specs.Report.{lineOf, rowLines, countsLine, reportLines, reportLine, lineCount}
 use Rattle.print_report.specs.Held.{headOf, headLine, wordsAt, heldRow, gradedLines, toldLines, heldLines, heldLine, heldCount, RowsHeld}
 use Rattle.print_report.specs.Promise.{OutcomeOf, ReportPiece, RowsAreHeld}
 use Rattle.print_report.specs.declared.RowHead.{RowHead}
@@ -43,46 +42,15 @@ use Rattle.print_report.proofs.ReportLaws.{length-lines, line-at, Gradi
 
 -- ---- a row as a number
 
--- a row whose number tells its parts
-abbrev RowFits : Row → Type 0
-RowFits row = (row .number < 256) × BridgeFits (row .bridge)
-
-rows-fit-from : (types : List ModuleType) (bridges : List Listed) (n : ℕ) (is : List Instance) → n + length is ≤ 256
-    → ((j : ℕ) (none : Instance) → j < length is → Every BridgeFits (faultsOf types bridges (getD is j none))) → Every RowFits (rowsFrom types bridges n is)
-unfolding rowsFrom rowsOfInstance
-rows-fit-from types bridges n [] few fit = every-nil RowFits
-rows-fit-from types bridges n (i ∷ is) few fit =
-    every-append RowFits (rowsOfInstance types bridges n i) (rowsFrom types bridges (suc n) is)
-    (every-map RowFits (rowWith types n i) (faultsOf types bridges i) (λ b m. (omega arith, fit 0 i (omega arith) b m)))
-    (rows-fit-from types bridges (suc n) is (omega arith) (λ j none h. fit (suc j) none (omega arith)))
-
-rows-fit : (c : Circuit) → CircuitGood c → Every RowFits (rowsOf c)
-unfolding rowsOf
-rows-fit c good = rows-fit-from (c .types) (c .bridges) 1 (c .instances) (omega (arith, good .few-instances)) (faults-fit c good)
-
 head-back : (n : ℕ) (b : Bridge) (class : ℕ) → BridgeFits b
     → headOf (codeOf n b) class ≡ record { instance = n; kind = kindOf b; first = firstEnd b; second = secondEnd b; class = class }
-unfolding codeOf kindOf firstEnd secondEnd
-head-back n (nodes a b) class fits =
-    let code : ℕ = ((n * 256 + 0) * 256 + a) * 256 + b in
-    let i : code / 16777216 ≡ n = omega (arith, fits .0, fits .1) in
-    let k : code / 65536 % 256 ≡ 0 = omega (arith, fits .0, fits .1) in
-    let f : code / 256 % 256 ≡ a = omega (arith, fits .0, fits .1) in
-    let s : code % 256 ≡ b = omega (arith, fits .1) in
-    ap (λ (x : ℕ). record { instance = x; kind = code / 65536 % 256; first = code / 256 % 256; second = code % 256; class = class }) i
-    ∙ ap (λ (x : ℕ). record { instance = n; kind = x; first = code / 256 % 256; second = code % 256; class = class }) k
-    ∙ ap (λ (x : ℕ). record { instance = n; kind = 0; first = x; second = code % 256; class = class }) f
-    ∙ ap (λ (x : ℕ). record { instance = n; kind = 0; first = a; second = x; class = class }) s
-head-back n (input m l) class fits =
-    let code : ℕ = ((n * 256 + 1) * 256 + m) * 256 + l in
-    let i : code / 16777216 ≡ n = omega (arith, fits .0, fits .1) in
-    let k : code / 65536 % 256 ≡ 1 = omega (arith, fits .0, fits .1) in
-    let f : code / 256 % 256 ≡ m = omega (arith, fits .0, fits .1) in
-    let s : code % 256 ≡ l = omega (arith, fits .1) in
-    ap (λ (x : ℕ). record { instance = x; kind = code / 65536 % 256; first = code / 256 % 256; second = code % 256; class = class }) i
-    ∙ ap (λ (x : ℕ). record { instance = n; kind = x; first = code / 256 % 256; second = code % 256; class = class }) k
-    ∙ ap (λ (x : ℕ). record { instance = n; kind = 1; first = x; second = code % 256; class = class }) f
-    ∙ ap (λ (x : ℕ). record { instance = n; kind = 1; first = m; second = x; class = class }) s
+head-back n b class fits = λ i. record {
+  instance = code-instance n b fits i;
+  kind = code-kind n b fits i;
+  first = code-first n b fits i;
+  second = code-second n b fits i;
+  class = class;
+}
 
 -- ---- a row as it is held
 

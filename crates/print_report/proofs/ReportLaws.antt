@@ -16,8 +16,8 @@ use Rattle.grading.specs.Buffers.{Room}
 use Rattle.grading.specs.Rows.{Row, noRow, rowsOf, rowWords}
 use Rattle.grading.specs.Classes.{classesOf}
 use Rattle.grading.specs.Grading.{Grading, graded, refused, countsOfCircuit, gradingOfCircuit, afterReading, gradingOf}
-use Rattle.grading.proofs.ClassNumbering.{class-numbers}
-use Rattle.print_report.specs.Report.{kindOf, firstEnd, secondEnd, lineOf, rowLines, reportLines, reportLine, lineCount, reportOf}
+use Rattle.grading.specs.Codes.{kindOf, firstEnd, secondEnd}
+use Rattle.print_report.specs.Report.{lineOf, rowLines, reportLines, reportLine, lineCount, reportOf}
 use Rattle.print_report.specs.Promise.{ReportIsLines, LinesFit}
 use Rattle.print_report.proofs.LineSizes.{counts-sized, row-sized}
 

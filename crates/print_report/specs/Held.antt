@@ -1,11 +1,12 @@
 -- What the code computes: the report's lines from what a grading leaves in memory.
 -- That is the answer, the rows as numbers, the matrix and the classes.
-use Prim.Native.Nat.{ℕ, zero, suc, _+_, _*_, _/_, _%_, _≤_, min}
+use Prim.Native.Nat.{ℕ, zero, suc, _+_, _*_, _≤_, min}
 use mathlib.Core.List.{List, [], _∷_}
 use lib.ListN.{length, getD}
 use Rattle.words.specs.Tables.{table}
 use Rattle.print_lines.specs.Lines.{refusalLine}
 use Rattle.print_lines.specs.Pieces.{lineIn}
+use Rattle.grading.specs.Codes.{instanceIn, kindIn, firstIn, secondIn}
 use Rattle.grading.specs.Grading.{Counts}
 use Rattle.grading.specs.Promise.{numberOf, placeOf, countsOf}
 use Rattle.grading.specs.declared.Answer.{Answer}
@@ -13,13 +14,13 @@ use Rattle.print_report.specs.Lines.{rowLine}
 use Rattle.print_report.specs.Report.{countsLine}
 use Rattle.print_report.specs.declared.RowHead.{RowHead}
 
--- a row but for its marks, from the number that it is kept as: instance, kind, first and second, a byte each, highest first
+-- a row but for its marks, from the number that it is kept as
 abbrev pub headOf : ℕ → ℕ → RowHead
 headOf code class = record {
-  instance = code / 16777216;
-  kind = code / 65536 % 256;
-  first = code / 256 % 256;
-  second = code % 256;
+  instance = instanceIn code;
+  kind = kindIn code;
+  first = firstIn code;
+  second = secondIn code;
   class = class;
 }
 

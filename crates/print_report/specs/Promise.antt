@@ -13,7 +13,7 @@ use Rattle.grading.specs.Rows.{rowsOf}
 use Rattle.grading.specs.Grading.{Grading, gradingOf}
 use Rattle.grading.specs.Promise.{Promise}
 use Rattle.grading.specs.declared.Answer.{Answer}
-use Rattle.grade_rows.specs.Model.{codesOf}
+use Rattle.grading.specs.Codes.{codesOf}
 use Rattle.print_report.specs.Report.{reportLine, lineCount, reportOf}
 use Rattle.print_report.specs.Held.{heldLine, heldCount, RowsHeld}
 

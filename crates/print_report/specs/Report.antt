@@ -5,24 +5,12 @@ use mathlib.Core.List.{List, [], _∷_}
 use lib.ListN.{length}
 use Rattle.print_lines.specs.Lines.{refusalLine}
 use Rattle.print_lines.specs.Pieces.{lineIn}
-use Rattle.switch.specs.Bridges.{Bridge, nodes, input}
 use Rattle.circuit.specs.Circuit.{Circuit, joinLists}
 use Rattle.grading.specs.Rows.{Row, rowsOf, rowWords}
+use Rattle.grading.specs.Codes.{kindOf, firstEnd, secondEnd}
 use Rattle.grading.specs.Classes.{classesOf}
 use Rattle.grading.specs.Grading.{Grading, graded, refused, Counts, countsOfCircuit}
 use Rattle.print_report.specs.Lines.{firstLine, rowLine}
-
-unfoldable pub kindOf : Bridge → ℕ
-kindOf (nodes a b) = 0
-kindOf (input m l) = 1
-
-unfoldable pub firstEnd : Bridge → ℕ
-firstEnd (nodes a b) = a
-firstEnd (input m l) = m
-
-unfoldable pub secondEnd : Bridge → ℕ
-secondEnd (nodes a b) = b
-secondEnd (input m l) = l
 
 unfoldable pub lineOf : Circuit → Row → ℕ → List ℕ
 lineOf c row class =

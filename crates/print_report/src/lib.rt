@@ -4,6 +4,10 @@ use grading::Answer;
 use grading::answers::counts_of;
 use grading::answers::number_of;
 use grading::answers::place_of;
+use grading::codes::first_in;
+use grading::codes::instance_in;
+use grading::codes::kind_in;
+use grading::codes::second_in;
 use print_lines::Piece;
 use print_lines::give;
 use print_lines::put_byte;
@@ -118,10 +122,10 @@ fn head_of(code: u32, class: u16) -> RowHead
     ensures { λ r. ⌜ r ≡ headOf code class ⌝ }
 {
     RowHead {
-        instance: (code / 16777216) as u8,
-        kind: (code / 65536 % 256) as u8,
-        first: (code / 256 % 256) as u8,
-        second: (code % 256) as u8,
+        instance: instance_in(code) as u8,
+        kind: kind_in(code) as u8,
+        first: first_in(code) as u8,
+        second: second_in(code) as u8,
         class,
     }
 }

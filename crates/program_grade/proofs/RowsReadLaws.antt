@@ -16,7 +16,7 @@ use Rattle.circuit.specs.declared.Reading.{Reading as ReadingRecord}
 use Rattle.circuit.proofs.CircuitLaws.{accepted-is-good}
 use Rattle.grading.specs.Given.{CircuitGiven}
 use Rattle.grading.specs.Rows.{rowsOf}
-use Rattle.grade_rows.specs.Model.{codesOf}
+use Rattle.grading.specs.Codes.{codesOf}
 use Rattle.program_grade.specs.Handing.{RowsRead}
 
 module _ (reading : ReadingRecord) where

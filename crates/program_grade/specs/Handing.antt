@@ -13,7 +13,7 @@ use Rattle.circuit.specs.declared.Reading.{Reading as ReadingRecord}
 use Rattle.grading.specs.Buffers.{roomForAll}
 use Rattle.grading.specs.Rows.{rowsOf}
 use Rattle.grading.specs.Grading.{Grading, gradingOf}
-use Rattle.grade_rows.specs.Model.{codesOf}
+use Rattle.grading.specs.Codes.{codesOf}
 use Rattle.print_report.specs.Report.{reportLine, lineCount}
 
 -- a file's grading: the buffers are long enough for every file, so that 15 and 22 never come

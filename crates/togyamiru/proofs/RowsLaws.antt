@@ -28,7 +28,7 @@ use Rattle.grading.specs.declared.Answer.the-variants.{Graded, Refused, ShortCl
 use Rattle.grading.proofs.RowLaws.{few-rows}
 use Rattle.grade_file.proofs.Assembly.{faults-are}
 use Rattle.grade_file.proofs.GradingLaws.{refused-answers, Accepted, good-here}
-use Rattle.grade_rows.specs.Model.{codesOf}
+use Rattle.grading.specs.Codes.{codesOf}
 use Rattle.togyamiru.specs.RowsEntry.{rowsAfterReading, threeNumbers, rowsBufferAfter, RowsMeets, RowsPromise}
 use Rattle.togyamiru.specs.RowsModel.{RowsAnswered, RowsAnswer}
 

@@ -8,7 +8,7 @@ use lib.ListN.{length}
 use Rattle.circuit.specs.Reading.{Reading, accepted, refusal, readingOf}
 use Rattle.grading.specs.Rows.{rowsOf}
 use Rattle.grading.specs.Grading.{Grading, graded, refused, countsIn, numberIn, placeIn, over}
-use Rattle.grade_rows.specs.Model.{codesOf}
+use Rattle.grading.specs.Codes.{codesOf}
 
 -- 01, "Refusal numbers": the table's refusals first; then a row buffer shorter than the faults, as a class buffer is refused: 22, faults
 unfoldable pub rowsAfterReading : Reading → ℕ → Grading

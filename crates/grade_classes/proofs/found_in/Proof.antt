@@ -1,4 +1,4 @@
--- `classes::found_in` meets its contract. The loop's invariant: what is found so far, with what the rows that are left add to it, is all.
+-- `grade_classes::found_in` meets its contract. The loop's invariant: what is found so far, with what the rows that are left add to it, is all.
 -- Assumes nothing.
 use mathlib.Core.Path.{_≡_}
 use mathlib.Core.Logic.{⊎-elim}
@@ -6,20 +6,20 @@ use Prim.Native.Nat.{ℕ, _+_, _-_, _≤_, _<_}
 use native.Mathlib.Numerals.{add-one}
 use native.Mathlib.Omega.{arith}
 use denote.Ref.{now}
-use Rattle.grade_classes.specs.Model.{rowMarked}
-use Rattle.grade_classes.proofs.ClassLaws.{foundLeft, found-none, found-old, found-marked, found-unmarked}
+use Rattle.grade_classes.specs.Model.{rowMarked, foundFrom}
+use Rattle.grade_classes.proofs.ClassLaws.{foundLeft, found-begin, found-none, found-old, found-marked, found-unmarked}
 use Rattle.grade_classes.proofs.found_in.Statement.{statement}
 use Rattle.grade_classes.proofs.found_in.Tie as tie
 
 abbrev Inv-loop : tie.InvT-loop
-Inv-loop matrix classes from to count found₀ last₀ r₀ found last r =
-    (from ≤ r) × (r ≤ to) × (found ≤ r - from) × (found + foundLeft matrix classes to r last ≡ foundLeft matrix classes to from count)
+Inv-loop matrix classes rows found₀ last₀ r₀ found last r =
+    (r ≤ rows) × (found ≤ r) × (found + foundLeft matrix classes rows r last ≡ foundFrom matrix classes 0 rows 0)
 
 abbrev μ-loop : tie.MeasureT-loop
-μ-loop matrix classes from to count found₀ last₀ r₀ found last r = to - r
+μ-loop matrix classes rows found₀ last₀ r₀ found last r = rows - r
 
 loop-holds : tie.Need-loop-holds Inv-loop μ-loop
-loop-holds c = omega arith
+loop-holds c = (omega arith, omega arith, omega (arith, found-begin (now (c .args .matrix)) (now (c .args .classes)) (c .args .rows) 0))
 
 mul-if1 : tie.Need-mul-if1 Inv-loop μ-loop
 mul-if1 c = omega arith
@@ -95,27 +95,27 @@ loop-again c =
     let matrix = now (x .matrix) in
     let classes = now (x .classes) in
     let r : ℕ = h .loop .r in
-    let inside : r < x .to = c .before .before .loop-test .taken in
+    let inside : r < x .rows = c .before .before .loop-test .taken in
     ⊎-elim
     (λ w.
-    let marked = found-marked matrix classes (x .to) r (h .loop .last) inside (w .0 .taken) (w .6 .taken) in
-    (omega arith, omega arith, rw (w .7) (omega arith), rw (add-one, w .7, w .8) (omega (arith, marked, h .loop .inv .3))))
+    let marked = found-marked matrix classes (x .rows) r (h .loop .last) inside (w .0 .taken) (w .6 .taken) in
+    (omega arith, rw (w .7) (omega arith), rw (add-one, w .7, w .8) (omega (arith, marked, h .loop .inv .2))))
     (⊎-elim
     (λ w.
-    let unmarked = found-unmarked matrix classes (x .to) r (h .loop .last) inside (w .0 .taken) (w .6 .left) in
-    (omega arith, omega arith, rw (w .7) (omega arith), rw (add-one, w .7, w .8) (omega (arith, unmarked, h .loop .inv .3))))
+    let unmarked = found-unmarked matrix classes (x .rows) r (h .loop .last) inside (w .0 .taken) (w .6 .left) in
+    (omega arith, rw (w .7) (omega arith), rw (add-one, w .7, w .8) (omega (arith, unmarked, h .loop .inv .2))))
     (λ w.
-    let old = found-old matrix classes (x .to) r (h .loop .last) inside (w .0 .left) in
-    (omega arith, omega arith, rw (w .1) (omega arith), rw (add-one, w .1, w .2) (omega (arith, old, h .loop .inv .3)))))
+    let old = found-old matrix classes (x .rows) r (h .loop .last) inside (w .0 .left) in
+    (omega arith, rw (w .1) (omega arith), rw (add-one, w .1, w .2) (omega (arith, old, h .loop .inv .2)))))
     (c .if1 .came)
 
 returns : tie.Need-returns Inv-loop μ-loop
 unfolding foundLeft
 returns c =
     let h = c .before in
-    let last : h .loop .r ≡ h .before .args .to = omega arith in
+    let last : h .loop .r ≡ h .before .args .rows = omega arith in
     let x = h .before .args in
-    omega (arith, rw last at (h .loop .inv .3), found-none (now (x .matrix)) (now (x .classes)) (x .to) (h .loop .last))
+    omega (arith, rw last at (h .loop .inv .2), found-none (now (x .matrix)) (now (x .classes)) (x .rows) (h .loop .last))
 
 pub found-in-spec : {M : Type 1} → statement M
 found-in-spec =

@@ -1,4 +1,4 @@
--- `classes::write_keys` meets its contract. The loop's invariant: the keys of the rows before the present one are written, so that this and later rows are
+-- `grade_classes::write_keys` meets its contract. The loop's invariant: the keys of the rows before the present one are written, so that this and later rows are
 -- as they were. Assumes nothing.
 use mathlib.Core.Path.{_≡_, sym}
 use Prim.Native.Nat.{_-_, _≤_}
@@ -8,15 +8,15 @@ use borrow.Author.Needs.{needs}
 use Rattle.words.specs.Written.{written}
 use Rattle.grading.specs.Codes.{CodesFit}
 use Rattle.grade_classes.specs.Model.{keysOf}
-use Rattle.grade_classes.proofs.ClassLaws.{keyed-none, row-kept, keyed-more}
+use Rattle.grade_classes.proofs.ClassLaws.{keyed-none, code-kept, keyed-more}
 use Rattle.grade_classes.proofs.write_keys.Statement.{statement}
 use Rattle.grade_classes.proofs.write_keys.Tie as tie
 
 abbrev Inv-loop : tie.InvT-loop
-Inv-loop rows₀ from to firsts r₀ rows r = (from ≤ r) × (r ≤ to) × (rows ≡ written rows₀ from (keysOf rows₀ firsts from r))
+Inv-loop codes₀ from to firsts r₀ codes r = (from ≤ r) × (r ≤ to) × (codes ≡ written codes₀ from (keysOf codes₀ firsts from r))
 
 abbrev μ-loop : tie.MeasureT-loop
-μ-loop rows₀ from to firsts r₀ rows r = to - r
+μ-loop codes₀ from to firsts r₀ codes r = to - r
 
 first-labels-requires : tie.Need-first-labels-requires Inv-loop μ-loop
 first-labels-requires c κs = search needs
@@ -35,14 +35,14 @@ unfolding CodesFit
 key-of-requires c κs =
     let h = c .before .before in
     let start = h .before .before in
-    rw (row-kept (now (start .args .rows)) _ (start .args .from) (h .loop .r) (omega arith) (omega arith) (h .loop .inv .2))
+    rw (code-kept (now (start .args .codes)) _ (start .args .from) (h .loop .r) (omega arith) (omega arith) (h .loop .inv .2))
     (start .pre .1 .1 (h .loop .r) (omega arith) (omega arith))
 
-mul-rows : tie.Need-mul-rows Inv-loop μ-loop
-mul-rows c = search needs
+mul-codes : tie.Need-mul-codes Inv-loop μ-loop
+mul-codes c = search needs
 
-element-write-rows : tie.Need-element-write-rows Inv-loop μ-loop
-element-write-rows c = search needs
+element-write-codes : tie.Need-element-write-codes Inv-loop μ-loop
+element-write-codes c = search needs
 
 add-r : tie.Need-add-r Inv-loop μ-loop
 add-r c = search needs
@@ -56,7 +56,7 @@ loop-again c =
     let x = h .before .before .args in (
       omega arith,
       omega arith,
-      rw (c .key-of .ensures) (keyed-more (now (x .rows)) _ (x .from) (h .loop .r) (omega arith) (omega arith) (h .loop .inv .2)),
+      rw (c .key-of .ensures) (keyed-more (now (x .codes)) _ (x .from) (h .loop .r) (omega arith) (omega arith) (h .loop .inv .2)),
     )
 
 returns : tie.Need-returns Inv-loop μ-loop
@@ -76,8 +76,8 @@ write-keys-spec =
     mul-key-of
     element-copy-out-key-of
     key-of-requires
-    mul-rows
-    element-write-rows
+    mul-codes
+    element-write-codes
     add-r
     loop-less
     loop-again

@@ -43,17 +43,17 @@ mul-b c = omega arith
 array-copy-out-b : tie.Need-array-copy-out-b Inv-loop μ-loop
 array-copy-out-b c = omega arith
 
-cast-code : tie.Need-cast-code Inv-loop μ-loop
-cast-code c = omega (arith, c .struct-known2 .given)
+cast-pack : tie.Need-cast-pack Inv-loop μ-loop
+cast-pack c = omega (arith, c .struct-known2 .given)
 
-cast-code-2 : tie.Need-cast-code-2 Inv-loop μ-loop
-cast-code-2 c = omega (arith, c .struct-known3 .given)
+cast-pack-2 : tie.Need-cast-pack-2 Inv-loop μ-loop
+cast-pack-2 c = omega (arith, c .struct-known3 .given)
 
-cast-code-3 : tie.Need-cast-code-3 Inv-loop μ-loop
-cast-code-3 c = omega (arith, c .struct-known4 .given)
+cast-pack-3 : tie.Need-cast-pack-3 Inv-loop μ-loop
+cast-pack-3 c = omega (arith, c .struct-known4 .given)
 
-code-requires : tie.Need-code-requires Inv-loop μ-loop
-code-requires c κs = omega (arith, c .struct-known4 .given, c .before .struct-known3 .given, c .before .before .struct-known2 .given)
+pack-requires : tie.Need-pack-requires Inv-loop μ-loop
+pack-requires c κs = omega (arith, c .struct-known4 .given, c .before .struct-known3 .given, c .before .before .struct-known2 .given)
 
 mul-rows : tie.Need-mul-rows Inv-loop μ-loop
 mul-rows c = omega (arith, place (c .before .before .before .before))
@@ -110,10 +110,10 @@ listed-spec =
     loop-holds
     mul-b
     array-copy-out-b
-    cast-code
-    cast-code-2
-    cast-code-3
-    code-requires
+    cast-pack
+    cast-pack-2
+    cast-pack-3
+    pack-requires
     mul-rows
     slice-write-rows
     add-next

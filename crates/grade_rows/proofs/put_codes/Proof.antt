@@ -37,8 +37,8 @@ loop-holds c =
     let none : a .from - a .from ≡ 0 = omega arith in
     (omega arith, omega arith, rw none wrote-nothing)
 
-code-requires : tie.Need-code-requires Inv-loop μ-loop
-code-requires c κs = omega arith
+pack-requires : tie.Need-pack-requires Inv-loop μ-loop
+pack-requires c κs = omega arith
 
 mul-rows : tie.Need-mul-rows Inv-loop μ-loop
 mul-rows c = omega (arith, place (c .before))
@@ -63,7 +63,7 @@ loop-again c =
       omega arith,
       omega arith,
       from-more (a .instance) (a .kind) (a .first) (a .from) (l .second) (a .to) (a .rows .now) (a .at) (l .rows) (l .next) _ (l .inv .2) (l .inv .0)
-          (c .before .loop-test .taken) (start .pre .1) (c .code .ensures),
+          (c .before .loop-test .taken) (start .pre .1) (c .pack .ensures),
     )
 
 same-length : tie.Need-same-length Inv-loop μ-loop
@@ -82,7 +82,7 @@ put-codes-spec =
     Inv-loop
     μ-loop
     loop-holds
-    code-requires
+    pack-requires
     mul-rows
     slice-write-rows
     add-next

@@ -1,33 +1,29 @@
--- `grade_file::grade::fill_buffers` meets its contract. The loop's invariant: whatever good circuit the record tells, its first `i` instances are graded.
--- The measure is what is left of the instances. Assumes nothing.
+-- `grade_file::grade::fill_buffers` meets its contract. The loop's invariant: whatever good circuit the record tells, its first `i` instances are marked and
+-- their rows keyed (`Turned`). The measure is what is left of the instances. Assumes nothing.
 use Prim.Native.Nat.{ℕ, _+_, _-_, _≤_, _<_}
 use mathlib.Core.Path.{_≡_, refl}
 use mathlib.Core.List.{List, []}
 use native.Mathlib.Omega.{arith}
 use borrow.Author.Needs.{needs}
-use lib.ListN.{length, getD}
+use lib.ListN.{length, getD, length-replicate}
 use Rattle.switch.specs.declared.ModuleType.{ModuleType as TypeRecord}
-use Rattle.circuit.specs.Circuit.{Circuit}
-use Rattle.circuit.specs.Records.{circuitRecord}
-use Rattle.circuit.specs.Laws.{CircuitGood}
 use Rattle.circuit.specs.declared.Circuit.{Circuit as CircuitRecord}
 use Rattle.circuit.specs.declared.Instance.{Instance as InstanceRecord}
+use Rattle.grading.specs.Given.{CircuitGiven}
 use Rattle.grading.specs.Rows.{noInstance}
 use Rattle.grading.proofs.RecordReads.{bridges-few, type-place, type-few}
 use Rattle.grade_file.proofs.Assembly as assembly
-use Rattle.grade_file.proofs.Assembly.{Turned, TurnFits, Room}
+use Rattle.grade_file.proofs.Assembly.{State, Turned, TurnFits, Room}
 use Rattle.grade_file.proofs.grade.fill_buffers.Statement.{statement}
 use Rattle.grade_file.proofs.grade.fill_buffers.Tie as tie
 
 abbrev Inv-loop : tie.InvT-loop
-Inv-loop matrix₀ classes₀ c vectors bridges ones₀ zeros₀ codes₀ count₀ found₀ from₀ i₀ matrix classes ones zeros codes count found from i =
-    (length codes ≡ 2048)
-    × ((meant : Circuit) → c ≡ circuitRecord meant → CircuitGood meant
-    → Turned meant matrix₀ classes₀ ones zeros matrix classes count found from i)
+Inv-loop matrix₀ classes c vectors bridges ones₀ zeros₀ codes₀ from₀ i₀ matrix ones zeros codes from i =
+    (told : CircuitGiven c)
+    → Turned (told .circuit) matrix₀ record { ones = ones; zeros = zeros; matrix = matrix; codes = codes; from = from; place = i }
 
 abbrev μ-loop : tie.MeasureT-loop
-μ-loop matrix₀ classes₀ c vectors bridges ones₀ zeros₀ codes₀ count₀ found₀ from₀ i₀ matrix classes ones zeros codes count found from i =
-    c .«instance_count» - i
+μ-loop matrix₀ classes c vectors bridges ones₀ zeros₀ codes₀ from₀ i₀ matrix ones zeros codes from i = c .«instance_count» - i
 
 -- what an array read past its end gives
 abbrev noOne : InstanceRecord
@@ -36,28 +32,25 @@ noOne = record { «type_number» = 0; choice = 0; references = [] }
 abbrev noType : TypeRecord
 noType = record { highest = 0; output = 0; labels = 0; count = 0; edges = [] }
 
--- ---- paths
+-- ---- where things stand
 
 abbrev start-at : tie.After-put-signals Inv-loop μ-loop → tie.Start Inv-loop μ-loop
 start-at c = c .before .before .before .before .before .before .before
 
-abbrev begin : tie.In-loop Inv-loop μ-loop → tie.Start Inv-loop μ-loop
-begin c = start-at (c .before .before)
+abbrev turn-listed : tie.After-list-rows Inv-loop μ-loop → tie.In-loop Inv-loop μ-loop
+turn-listed c = c .before .before .before .before .before
 
-abbrev whole : tie.In-loop Inv-loop μ-loop → CircuitRecord
-whole c = begin c .args .t1
+abbrev listed-marked : tie.After-mark-instance Inv-loop μ-loop → tie.After-list-rows Inv-loop μ-loop
+listed-marked c = c .before .before .before .before .before
 
-abbrev listed-turn : tie.After-list-rows Inv-loop μ-loop → tie.In-loop Inv-loop μ-loop
-listed-turn c = c .before .before .before .before .before
+abbrev marked-keyed : tie.After-write-keys Inv-loop μ-loop → tie.After-mark-instance Inv-loop μ-loop
+marked-keyed c = c .before .before .before .before
 
-abbrev marked-listed : tie.After-mark-instance Inv-loop μ-loop → tie.After-list-rows Inv-loop μ-loop
-marked-listed c = c .before .before .before .before .before
+abbrev turn-keyed : tie.After-write-keys Inv-loop μ-loop → tie.In-loop Inv-loop μ-loop
+turn-keyed c = turn-listed (listed-marked (marked-keyed c))
 
-abbrev classed-marked : tie.After-class-instance Inv-loop μ-loop → tie.After-mark-instance Inv-loop μ-loop
-classed-marked c = c .before .before .before .before .before .before
-
-abbrev classed-turn : tie.After-class-instance Inv-loop μ-loop → tie.In-loop Inv-loop μ-loop
-classed-turn c = listed-turn (marked-listed (classed-marked c))
+abbrev loop-classed : tie.After-class-rows Inv-loop μ-loop → tie.After-loop Inv-loop μ-loop
+loop-classed c = c .before .before .before .before
 
 -- the circuit is known to have few vectors
 vectors-few : (start : tie.Start Inv-loop μ-loop) → start .args .t1 .«vector_count» ≤ 256
@@ -65,45 +58,75 @@ vectors-few start =
     let p = start .pre .0 in
     omega (arith, assembly.vectors-are (p .circuit) (start .args .t1) (p .is), p .good .few-vectors)
 
--- the buffers are long enough
-roomy : (start : tie.Start Inv-loop μ-loop) → Room (start .args .t1) (start .args .matrix .now) (start .args .classes .now)
-roomy start = record { words = start .pre .1; entries = start .pre .2 }
+-- ---- the loop, at any turn
 
--- ---- a turn, for the circuit that the record is known to tell
+module _ (c : tie.At-loop Inv-loop μ-loop) where
+  abbrev begin : tie.Start Inv-loop μ-loop
+  begin = start-at (c .before)
+
+  abbrev whole : CircuitRecord
+  whole = begin .args .t1
+
+  abbrev known : CircuitGiven whole
+  known = begin .pre .0
+
+  abbrev matrix₀ : List ℕ
+  matrix₀ = begin .args .matrix .now
+
+  abbrev classes₀ : List ℕ
+  classes₀ = begin .args .classes .now
+
+  abbrev state : State
+  state = record {
+    ones = c .loop .ones;
+    zeros = c .loop .zeros;
+    matrix = c .loop .matrix;
+    codes = c .loop .codes;
+    from = c .loop .from;
+    place = c .loop .i;
+  }
+
+  -- the buffers are long enough
+  roomy : Room whole matrix₀ classes₀
+  roomy = record { words = begin .pre .1; entries = begin .pre .2 }
+
+  so-far : (told : CircuitGiven whole) → Turned (told .circuit) matrix₀ state
+  so-far told = c .loop .inv told
+
+  matrix-long : length (c .loop .matrix) ≡ length matrix₀
+  matrix-long = assembly.matrix-long whole known matrix₀ classes₀ roomy state (so-far known)
+
+  from-few : (c .loop .from ≤ 2048) × (c .loop .from ≤ whole .faults)
+  from-few = assembly.from-few whole known matrix₀ classes₀ roomy state (so-far known)
+
+-- ---- a turn
 
 module _ (c : tie.In-loop Inv-loop μ-loop) where
-  abbrev known : Circuit
-  known = begin c .pre .0 .circuit
-
-  abbrev is : whole c ≡ circuitRecord known
-  is = begin c .pre .0 .is
-
-  abbrev good : CircuitGood known
-  good = begin c .pre .0 .good
+  abbrev at : tie.At-loop Inv-loop μ-loop
+  at = c .before
 
   abbrev place : ℕ
-  place = c .before .loop .i
+  place = at .loop .i
 
-  here : (meant : Circuit) → whole c ≡ circuitRecord meant → place < length (meant .instances)
-  here meant e = omega (arith, assembly.instances-are meant (whole c) e, c .loop-test .taken)
+  abbrev one : InstanceRecord
+  one = getD (whole at .instances) place noOne
+
+  abbrev its-type : TypeRecord
+  its-type = getD (whole at .types) (one .«type_number» - 1) noType
+
+  here : (told : CircuitGiven (whole at)) → place < length (told .circuit .instances)
+  here told = omega (arith, assembly.instances-are (told .circuit) (whole at) (told .is), c .loop-test .taken)
 
   few : place < 128
-  few = assembly.place-few known good (whole c) is place (here known is)
+  few = assembly.place-few (known at .circuit) (known at .good) (whole at) (known at .is) place (here (known at))
 
-  type-placed : (1 ≤ getD (whole c .instances) place noOne .«type_number») × (getD (whole c .instances) place noOne .«type_number» ≤ 16)
-  type-placed = type-place known good (whole c) is place noInstance (here known is) noOne
+  type-placed : (1 ≤ one .«type_number») × (one .«type_number» ≤ 16)
+  type-placed = type-place (known at .circuit) (known at .good) (whole at) (known at .is) place noInstance (here (known at)) noOne
 
-  -- for any good circuit that it tells
-  so-far : (meant : Circuit) → whole c ≡ circuitRecord meant → CircuitGood meant
-      → let l = c .before .loop in
-      Turned meant (begin c .args .matrix .now) (begin c .args .classes .now) (l .ones) (l .zeros) (l .matrix) (l .classes)
-      (l .count) (l .found) (l .from) (l .i)
-  so-far meant e g = c .before .loop .inv .1 meant e g
-
--- the instance's codes are listed
+-- its codes are listed
 module _ (c : tie.After-list-rows Inv-loop μ-loop) where
   abbrev turn : tie.In-loop Inv-loop μ-loop
-  turn = listed-turn c
+  turn = turn-listed c
 
   abbrev codes : List ℕ
   codes = c .list-rows .last .1 .1 .1 .1 .1 .0
@@ -111,43 +134,29 @@ module _ (c : tie.After-list-rows Inv-loop μ-loop) where
   abbrev to : ℕ
   to = c .list-rows .result
 
-  fits : let l = turn .before .loop in
-      let one = getD (whole turn .instances) (place turn) noOne in
-      TurnFits (getD (whole turn .types) (one .«type_number» - 1) noType) one (place turn) codes (l .ones) (l .zeros) (l .matrix) (l .classes)
-      (l .count) (l .from) to
+  fits : TurnFits (its-type turn) (one turn) (state (at turn)) codes to
   fits =
-      assembly.turn-fits (known turn) (good turn) (whole turn) (is turn) (place turn) (here turn (known turn) (is turn)) noOne noType
-      _ _ _ _ _ _ _ _ _ (roomy (begin turn)) (so-far turn (known turn) (is turn) (good turn)) _ (turn .before .loop .inv .0) _ _ (c .list-rows .ensures)
+      let l = at turn in
+      assembly.turn-fits (whole l) (known l) (matrix₀ l) (classes₀ l) (roomy l) (state l) (so-far l (known l)) (here turn (known l)) noOne noType
+      codes to (c .list-rows .ensures)
 
--- the codes are as many as they were
-codes-kept : (c : tie.After-class-instance Inv-loop μ-loop) → length (c .class-instance .last .0) ≡ 2048
-codes-kept c =
-    let turn = classed-turn c in
-    assembly.codes-kept (known turn) (good turn) (whole turn) (is turn) (place turn) (here turn (known turn) (is turn)) noOne noType
-    _ _ _ _ _ _ _ _ _ (roomy (begin turn)) (so-far turn (known turn) (is turn) (good turn)) _ (turn .before .loop .inv .0)
-    _ _ (marked-listed (classed-marked c) .list-rows .ensures) (c .class-instance .ensures)
-
--- the turn
-turned : (c : tie.After-class-instance Inv-loop μ-loop) (meant : Circuit) → whole (classed-turn c) ≡ circuitRecord meant → CircuitGood meant
-    → Turned
-    meant
-    (begin (classed-turn c) .args .matrix .now)
-    (begin (classed-turn c) .args .classes .now)
-    (classed-marked c .mark-instance .last .1 .1 .1 .1 .1 .1 .1 .0)
-    (classed-marked c .mark-instance .last .1 .1 .1 .1 .1 .1 .1 .1 .0)
-    (classed-marked c .mark-instance .last .1 .1 .1 .1 .1 .1 .1 .1 .1 .0)
-    (c .class-instance .last .1 .1 .1 .1 .1 .0)
-    (c .class-instance .result .count)
-    (classed-turn c .before .loop .found + c .class-instance .result .found)
-    (to (marked-listed (classed-marked c)))
-    (place (classed-turn c) + 1)
-turned c meant e g =
-    let turn = classed-turn c in
-    assembly.turn meant g (whole turn) e (place turn) (here turn meant e) noOne noType
-    _ _ _ _ _ _ _ _ _ (roomy (begin turn)) (so-far turn meant e g) _ (turn .before .loop .inv .0)
-    _ _ (marked-listed (classed-marked c) .list-rows .ensures)
-    _ _ _ (classed-marked c .mark-instance .ensures)
-    _ _ (c .class-instance .result) (c .class-instance .ensures)
+-- and its rows marked and keyed
+turned : (c : tie.After-write-keys Inv-loop μ-loop) → let l = at (turn-keyed c) in
+    (told : CircuitGiven (whole l))
+    → Turned (told .circuit) (matrix₀ l) record {
+      ones = marked-keyed c .mark-instance .last .1 .1 .1 .1 .1 .1 .1 .0;
+      zeros = marked-keyed c .mark-instance .last .1 .1 .1 .1 .1 .1 .1 .1 .0;
+      matrix = marked-keyed c .mark-instance .last .1 .1 .1 .1 .1 .1 .1 .1 .1 .0;
+      codes = c .write-keys .last .0;
+      from = to (listed-marked (marked-keyed c));
+      place = place (turn-keyed c) + 1;
+    }
+turned c told =
+    let marked = marked-keyed c in
+    let listed = listed-marked marked in
+    let l = at (turn listed) in
+    assembly.turn (whole l) told (matrix₀ l) (classes₀ l) (roomy l) (state l) (so-far l told) (here (turn listed) told) noOne noType
+    (codes listed) (to listed) (listed .list-rows .ensures) _ _ _ (marked .mark-instance .ensures) _ (c .write-keys .ensures)
 
 -- ---- the needs
 
@@ -158,10 +167,9 @@ put-signals-requires : tie.Need-put-signals-requires Inv-loop μ-loop
 put-signals-requires c κs = (omega (arith, vectors-few (c .before .before .before .before .before .before)), (refl, refl))
 
 loop-holds : tie.Need-loop-holds Inv-loop μ-loop
-loop-holds c = (
-  refl,
-  λ meant e g. assembly.turned-none meant (start-at c .args .t1) e _ _ _ _ (c .put-signals .ensures .0) (c .put-signals .ensures .1),
-)
+loop-holds c = λ told.
+    assembly.turned-none (told .circuit) (start-at c .args .t1) (told .is) _ _ _ _ (length-replicate {A = ℕ} 2048 0)
+    (c .put-signals .ensures .0) (c .put-signals .ensures .1)
 
 mul-one : tie.Need-mul-one Inv-loop μ-loop
 mul-one c = omega (arith, few c)
@@ -183,71 +191,58 @@ element-copy-out-t c = omega (arith, type-placed (c .before .before))
 
 list-rows-requires : tie.Need-list-rows-requires Inv-loop μ-loop
 list-rows-requires c κs =
-    let turn = c .before .before .before .before in
-    let at = here turn (known turn) (is turn) in
-    let type = type-few (known turn) (good turn) (whole turn) (is turn) (place turn) noInstance at noOne noType in (
-      (few turn, type .0, type .1, bridges-few (known turn) (good turn) (whole turn) (is turn)),
-      assembly.codes-room (known turn) (good turn) (whole turn) (is turn) (place turn) at noOne noType
-          _ _ _ _ _ _ _ _ _ (roomy (begin turn)) (so-far turn (known turn) (is turn) (good turn)) (turn .before .loop .codes) (turn .before .loop .inv .0),
+    let turning = c .before .before .before .before in
+    let l = at turning in
+    let k = known l in
+    let type = type-few (k .circuit) (k .good) (whole l) (k .is) (place turning) noInstance (here turning k) noOne noType in (
+      (few turning, type .0, type .1, bridges-few (k .circuit) (k .good) (whole l) (k .is)),
+      assembly.codes-room (whole l) k (matrix₀ l) (classes₀ l) (roomy l) (state l) (so-far l k) (here turning k) noOne noType,
     )
 
 mark-instance-requires : tie.Need-mark-instance-requires Inv-loop μ-loop
 mark-instance-requires c κs = fits (c .before .before .before .before) .marks
 
-class-instance-requires : tie.Need-class-instance-requires Inv-loop μ-loop
-class-instance-requires c κs =
-    let marked = c .before .before .before .before .before in
-    let listed = marked-listed marked in
+write-keys-requires : tie.Need-write-keys-requires Inv-loop μ-loop
+write-keys-requires c κs =
+    let listed = listed-marked (c .before .before .before) in
     let marks = fits listed .marks in
-    let matrix-kept = marked .mark-instance .kept .1 .1 .1 .1 .1 .1 .1 .1 .1 .0 in (
-      (marks .order, marks .most, fits listed .count-few),
-      (
-        marks .codes,
-        (omega (arith, marks .room, matrix-kept), fits listed .entries, fits listed .codes-long),
-      ),
-    )
-
-add-found : tie.Need-add-found Inv-loop μ-loop
-add-found c =
-    let classed = c .before .before .before in
-    let turn = classed-turn classed in
-    omega (arith, turned classed (known turn) (is turn) (good turn) .found-is, assembly.found-few (known turn) (good turn) (place turn + 1))
+    ((marks .order, marks .most), (fits listed .codes-long, marks .codes))
 
 add-i : tie.Need-add-i Inv-loop μ-loop
-add-i c = omega (arith, few (classed-turn (c .before .before .before)))
+add-i c = omega (arith, few (turn-keyed c))
 
 loop-less : tie.Need-loop-less Inv-loop μ-loop
-loop-less c = omega (arith, classed-turn (c .before .before .before) .loop-test .taken)
+loop-less c = omega (arith, turn-keyed c .loop-test .taken)
 
 loop-again : tie.Need-loop-again Inv-loop μ-loop
-loop-again c =
-    let classed = c .before .before .before in
-    (codes-kept classed, λ meant e g. turned classed meant e g)
+loop-again c = λ told. turned c told
+
+class-rows-requires : tie.Need-class-rows-requires Inv-loop μ-loop
+class-rows-requires c κs =
+    let l = c .before .before .before .before in
+    let room = roomy l in (
+      (from-few l .0, so-far l (known l) .codes-long),
+      (omega (arith, from-few l .1, matrix-long l, room .words), omega (arith, from-few l .1, room .entries)),
+    )
 
 counted-requires : tie.Need-counted-requires Inv-loop μ-loop
 counted-requires c κs = search needs
 
--- the buffers keep their lengths
-lengths : (c : tie.After-counted Inv-loop μ-loop)
-    → let start = start-at (c .before .before .before) in let l = c .before .before .loop in
-    (length (l .matrix) ≡ length (start .args .matrix .now)) × (length (l .classes) ≡ length (start .args .classes .now))
-lengths c =
-    let start = start-at (c .before .before .before) in
-    let p = start .pre .0 in
-    assembly.turned-long (p .circuit) (start .args .t1) (p .is) (roomy start) (c .before .before .loop .inv .1 (p .circuit) (p .is) (p .good))
-
 same-length : tie.Need-same-length Inv-loop μ-loop
-same-length c = lengths c .0
+same-length c = matrix-long (loop-classed (c .before .before .before) .before)
 
 same-length-2 : tie.Need-same-length-2 Inv-loop μ-loop
-same-length-2 c = lengths c .1
+same-length-2 c = search needs
 
 returns : tie.Need-returns Inv-loop μ-loop
-returns c =
-    λ meant e g.
+returns c = λ meant e g.
+    let classed = c .before .before .before in
+    let ended = loop-classed classed in
+    let l = ended .before in
+    let told : CircuitGiven (whole l) = record { circuit = meant; is = e; good = g } in
     rw (c .counted .ensures)
-    (assembly.turned-end meant (start-at (c .before .before .before) .args .t1) e _ _ _ _ _ _ _ _ _ _ (c .before .before .loop .inv .1 meant e g)
-    (c .before .loop-test .left))
+    (assembly.turned-end (whole l) told (matrix₀ l) (classes₀ l) (roomy l) (state l) (so-far l told) (ended .loop-test .left)
+    (classed .class-rows .result) _ (classed .class-rows .ensures))
 
 pub fill-buffers-spec : {M : Type 1} → statement M
 fill-buffers-spec =
@@ -266,11 +261,11 @@ fill-buffers-spec =
     element-copy-out-t
     list-rows-requires
     mark-instance-requires
-    class-instance-requires
-    add-found
+    write-keys-requires
     add-i
     loop-less
     loop-again
+    class-rows-requires
     counted-requires
     same-length
     same-length-2

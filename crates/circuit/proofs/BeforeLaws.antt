@@ -140,11 +140,11 @@ types-keep types from (broken at) s =
     (λ e. judged-types types (fieldPlace from) (broken at) s e)
 types-keep types from (field f rest) s =
     go (isEdge (tagOf (f .tag))) (isEmpty types) refl
-    (λ k. types-keep (edgeAdded types (edgeIn (f .body))) from rest k)
+    (λ k. types-keep (edgeAdded types (edgeIn (latest types .output) (f .body))) from rest k)
     (λ k. types-keep (types ++ (typeIn (f .body) ∷ [])) (field f rest) rest k)
   where
     more-edges : Stage (List ModuleType)
-    more-edges = typeStage (edgeAdded types (edgeIn (f .body))) from rest
+    more-edges = typeStage (edgeAdded types (edgeIn (latest types .output) (f .body))) from rest
 
     more-types : Stage (List ModuleType)
     more-types = typeStage (types ++ (typeIn (f .body) ∷ [])) (field f rest) rest
@@ -170,14 +170,14 @@ types-keep types from (field f rest) s =
         (λ e. as-type (isKind type-tag (tagOf (f .tag))) (judged-types types (fieldPlace from) (field f rest) s e) more)
 
     go : (three em : Bool) → isEmpty types ≡ em
-        → (TypesSound (edgeAdded types (edgeIn (f .body))) → TypesGood (more-edges .gathered))
+        → (TypesSound (edgeAdded types (edgeIn (latest types .output) (f .body))) → TypesGood (more-edges .gathered))
         → (TypesSound (types ++ (typeIn (f .body) ∷ [])) → TypesGood (more-types .gathered))
         → TypesGood (cond (three && not em) edge
         (ifPasses (judged types (fieldPlace from) (field f rest)) (typesBefore types) from (cond (isKind type-tag (tagOf (f .tag))) type (stopped types (field f rest)))) .gathered)
     go true true em edges types′ = other types′
     go true false em edges types′ =
         verdict-keeps TypesGood (firstOf (edgeTests (latest types) (f .at) (f .body))) (typesBefore types) from more-edges (before-good types s)
-        (λ e. edges (edge-keeps types (withEdge (latest types) (edgeIn (f .body))) em s
+        (λ e. edges (edge-keeps types (withEdge (latest types) (edgeIn (latest types .output) (f .body))) em s
         (edge-pass (latest types) (f .at) (f .body) e (latest-sound types em s))))
     go false em em′ edges types′ = other types′
 

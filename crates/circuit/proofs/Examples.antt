@@ -3,7 +3,7 @@ use Prim.Native.Nat.{ℕ}
 use mathlib.Core.Path.{_≡_, refl}
 use mathlib.Core.List.{List, [], _∷_, _++_}
 use lib.ListN.{length}
-use Rattle.switch.specs.Conduction.{at0, at1, atX, nEnd, nEnds, badEnds, transistorOn, channelOf, pEnds, edgeOn, anyOf, between, links}
+use Rattle.switch.specs.Conduction.{at0, at1, atX, p-channel, n-channel, nEnd, nEnds, badEnds, transistorOn, channelOf, pEnds, edgeOn, anyOf, between, links}
 use Rattle.switch.specs.Modules.{allOf, inRange, typeInRange, edgeInRange, linksOf, settingOf, valueOfBit}
 use Rattle.switch.specs.Deciding.{joins, renamings, partIn, rename, allBelow, oneRail, isComplementary}
 use Rattle.words.specs.Bits.{bit}
@@ -25,7 +25,7 @@ size = refl
 
 read-inverter : readingOf inverter ≡ accepted (record {
   inputs = 1;
-  types = record { highest = 2; output = 2; labels = 1; edges = record { first = 1; second = 2; labels = 0 ∷ [] } ∷ record { first = 0; second = 2; labels = 0 ∷ [] } ∷ [] } ∷ [];
+  types = record { highest = 2; output = 2; labels = 1; edges = record { first = 1; second = 2; channel = p-channel; labels = 0 ∷ [] } ∷ record { first = 0; second = 2; channel = n-channel; labels = 0 ∷ [] } ∷ [] } ∷ [];
   bridges = [];
   instances = record { type = 1; choice = exhaustive; references = primary 1 ∷ [] } ∷ [];
   vectors = (at0 ∷ []) ∷ (at1 ∷ []) ∷ (atX ∷ []) ∷ [];
@@ -61,7 +61,7 @@ withSecond high low = begin ++ instanceWith 0 1 ++ instanceWith high low ++ vect
 -- in instance 2 a reference of -1 is good, -2 or 0 is 10; in instance 1 a reference of -1 is 10
 read-references : (readingOf (withSecond 255 255) ≡ accepted (record {
   inputs = 1;
-  types = record { highest = 2; output = 2; labels = 1; edges = record { first = 1; second = 2; labels = 0 ∷ [] } ∷ record { first = 0; second = 2; labels = 0 ∷ [] } ∷ [] } ∷ [];
+  types = record { highest = 2; output = 2; labels = 1; edges = record { first = 1; second = 2; channel = p-channel; labels = 0 ∷ [] } ∷ record { first = 0; second = 2; channel = n-channel; labels = 0 ∷ [] } ∷ [] } ∷ [];
   bridges = [];
   instances = record { type = 1; choice = no-faults; references = primary 1 ∷ [] } ∷ record { type = 1; choice = no-faults; references = outputOf 1 ∷ [] } ∷ [];
   vectors = (at0 ∷ []) ∷ [];

@@ -205,7 +205,7 @@ module _ (P : ℕ) (next : List ModuleType → Cut → Circuit)
 
   module _ (types : List ModuleType) (previous : Previous) (from : Cut) (f : Field) (rest : Cut) (more : Stage (List ModuleType)) where
     at-edge : tagOf (f .tag) ≡ edge-tag → unjudged previous ≡ true → next (typesBefore types) from ≡ withTypes P (typesBefore types)
-        → beforeFrom (knowing (after-tag edge-tag) (fieldPlace from) (withTypes P (edgeAdded types (edgeIn (f .body))))) rest ≡ goesOn next more
+        → beforeFrom (knowing (after-tag edge-tag) (fieldPlace from) (withTypes P (edgeAdded types (edgeIn (latest types .output) (f .body))))) rest ≡ goesOn next more
         → beforeFrom (knowing previous (fieldPlace from) (withTypes P types)) (field f rest)
         ≡ goesOn next (ifPasses (firstOf (edgeTests (latest types) (f .at) (f .body))) (typesBefore types) from more)
     unfolding isKind mayFollow unjudged bodyTests taken
@@ -248,14 +248,14 @@ module _ (P : ℕ) (next : List ModuleType → Cut → Circuit)
       (λ j. goes-on types previous (fieldPlace from) (broken at) (ready types previous (broken at) b j (λ h. absurd (omega arith))))
   types-gather types previous from (field f rest) b holds =
       go (isEdge (tagOf (f .tag)) && not (isEmpty types)) refl
-      (λ c. types-gather (edgeAdded types (edgeIn (f .body))) (after-tag edge-tag) from rest c holds)
+      (λ c. types-gather (edgeAdded types (edgeIn (latest types .output) (f .body))) (after-tag edge-tag) from rest c holds)
       (λ c q. types-gather (types ++ (typeIn (f .body) ∷ [])) (after-tag type-tag) (field f rest) rest c (λ ts. stays ts f rest q))
     where
       known : Known
       known = knowing previous (fieldPlace from) (withTypes P types)
 
       more-edges : Stage (List ModuleType)
-      more-edges = typeStage (edgeAdded types (edgeIn (f .body))) from rest
+      more-edges = typeStage (edgeAdded types (edgeIn (latest types .output) (f .body))) from rest
 
       more-types : Stage (List ModuleType)
       more-types = typeStage (types ++ (typeIn (f .body) ∷ [])) (field f rest) rest
@@ -267,8 +267,8 @@ module _ (P : ℕ) (next : List ModuleType → Cut → Circuit)
       type = ifPasses (firstOf (typeTests (length types) (f .at) (f .body))) types (field f rest) more-types
 
       go : (own : Bool) → (isEdge (tagOf (f .tag)) && not (isEmpty types)) ≡ own
-          → (Before (edgeAdded types (edgeIn (f .body))) (after-tag edge-tag)
-          → beforeFrom (knowing (after-tag edge-tag) (fieldPlace from) (withTypes P (edgeAdded types (edgeIn (f .body))))) rest ≡ goesOn next more-edges)
+          → (Before (edgeAdded types (edgeIn (latest types .output) (f .body))) (after-tag edge-tag)
+          → beforeFrom (knowing (after-tag edge-tag) (fieldPlace from) (withTypes P (edgeAdded types (edgeIn (latest types .output) (f .body))))) rest ≡ goesOn next more-edges)
           → (Before (types ++ (typeIn (f .body) ∷ [])) (after-tag type-tag) → tagOf (f .tag) ≡ type-tag
           → beforeFrom (knowing (after-tag type-tag) (f .at) (withTypes P (types ++ (typeIn (f .body) ∷ [])))) rest ≡ goesOn next more-types)
           → beforeFrom known (field f rest)
@@ -278,8 +278,8 @@ module _ (P : ℕ) (next : List ModuleType → Cut → Circuit)
           let parts = both-true (isEdge (tagOf (f .tag))) (not (isEmpty types)) e in
           let some = not-true (isEmpty types) (parts .1) in
           at-edge types previous from f rest more-edges (kind-is edge-tag (tagOf (f .tag)) (parts .0)) (b .some some) (holds (typesBefore types))
-          (later-edge (after-type (edgeAdded types (edgeIn (f .body))) (after-tag edge-tag)
-          (set-some types (length types - 1) (withEdge (latest types) (edgeIn (f .body))) some) refl))
+          (later-edge (after-type (edgeAdded types (edgeIn (latest types .output) (f .body))) (after-tag edge-tag)
+          (set-some types (length types - 1) (withEdge (latest types) (edgeIn (latest types .output) (f .body))) some) refl))
       go false e later-edge later-type =
           judge types previous from (field f rest) (cond (isKind type-tag (tagOf (f .tag))) type (stopped types (field f rest))) _ b (holds (typesBefore types))
           (λ em fl. at-failing types previous from f rest type (sym (and-true (isEdge (tagOf (f .tag)))) ∙ (rw em at e)) (b .some em) fl)

@@ -288,7 +288,7 @@ withTypes P types = record { inputs = P; types = types; bridges = []; instances 
 module _ (wanted : Bool) (size P : ℕ) (types : List ModuleType) (previous : Previous) (typeAt : ℕ) where
   read-edge : (f : Field) (rest : Cut) → tagOf (f .tag) ≡ edge-tag → unjudged previous ≡ true
       → readFrom wanted size (knowing previous typeAt (withTypes P types)) (field f rest)
-      ≡ unless (firstOf (edgeTests (latest types) (f .at) (f .body))) (readFrom wanted size (knowing (after-tag edge-tag) typeAt (withTypes P (edgeAdded types (edgeIn (f .body))))) rest)
+      ≡ unless (firstOf (edgeTests (latest types) (f .at) (f .body))) (readFrom wanted size (knowing (after-tag edge-tag) typeAt (withTypes P (edgeAdded types (edgeIn (latest types .output) (f .body))))) rest)
   unfolding isKind mayFollow unjudged bodyTests taken
   read-edge f rest own u =
       read-own wanted size (knowing previous typeAt (withTypes P types)) f rest edge-tag own refl u (rw u)
@@ -358,18 +358,18 @@ module _ (wanted : Bool) (size P : ℕ) where
         (λ j. goes-on types previous (fieldPlace from) (broken at) (ready types previous (broken at) b j (λ h. absurd (omega arith))))
     types-read types previous from (field f rest) b =
         go (isEdge (tagOf (f .tag)) && not (isEmpty types)) refl
-        (λ c. types-read (edgeAdded types (edgeIn (f .body))) (after-tag edge-tag) from rest c)
+        (λ c. types-read (edgeAdded types (edgeIn (latest types .output) (f .body))) (after-tag edge-tag) from rest c)
         (λ c. types-read (types ++ (typeIn (f .body) ∷ [])) (after-tag type-tag) (field f rest) rest c)
       where
         edge : Stage (List ModuleType)
-        edge = ifPasses (firstOf (edgeTests (latest types) (f .at) (f .body))) (typesBefore types) from (typeStage (edgeAdded types (edgeIn (f .body))) from rest)
+        edge = ifPasses (firstOf (edgeTests (latest types) (f .at) (f .body))) (typesBefore types) from (typeStage (edgeAdded types (edgeIn (latest types .output) (f .body))) from rest)
 
         type : Stage (List ModuleType)
         type = ifPasses (firstOf (typeTests (length types) (f .at) (f .body))) types (field f rest) (typeStage (types ++ (typeIn (f .body) ∷ [])) (field f rest) rest)
 
         go : (own : Bool) → (isEdge (tagOf (f .tag)) && not (isEmpty types)) ≡ own
-            → (Before (edgeAdded types (edgeIn (f .body))) (after-tag edge-tag) → readFrom wanted size (knowing (after-tag edge-tag) (fieldPlace from) (withTypes P (edgeAdded types (edgeIn (f .body))))) rest
-            ≡ afterStage (typeStage (edgeAdded types (edgeIn (f .body))) from rest) next)
+            → (Before (edgeAdded types (edgeIn (latest types .output) (f .body))) (after-tag edge-tag) → readFrom wanted size (knowing (after-tag edge-tag) (fieldPlace from) (withTypes P (edgeAdded types (edgeIn (latest types .output) (f .body))))) rest
+            ≡ afterStage (typeStage (edgeAdded types (edgeIn (latest types .output) (f .body))) from rest) next)
             → (Before (types ++ (typeIn (f .body) ∷ [])) (after-tag type-tag) → readFrom wanted size (knowing (after-tag type-tag) (f .at) (withTypes P (types ++ (typeIn (f .body) ∷ [])))) rest
             ≡ afterStage (typeStage (types ++ (typeIn (f .body) ∷ [])) (field f rest) rest) next)
             → readFrom wanted size (knowing previous (fieldPlace from) (withTypes P types)) (field f rest)
@@ -378,9 +378,9 @@ module _ (wanted : Bool) (size P : ℕ) where
             let parts = both-true (isEdge (tagOf (f .tag))) (not (isEmpty types)) e in
             let some = not-true (isEmpty types) (parts .1) in
             read-edge wanted size P types previous (fieldPlace from) f rest (kind-is edge-tag (tagOf (f .tag)) (parts .0)) (b .some some)
-            ∙ unless-stage (firstOf (edgeTests (latest types) (f .at) (f .body))) _ (typesBefore types) from (typeStage (edgeAdded types (edgeIn (f .body))) from rest) next
-            (more-edge (after-type (edgeAdded types (edgeIn (f .body))) (after-tag edge-tag)
-            (set-some types (length types - 1) (withEdge (latest types) (edgeIn (f .body))) some) refl))
+            ∙ unless-stage (firstOf (edgeTests (latest types) (f .at) (f .body))) _ (typesBefore types) from (typeStage (edgeAdded types (edgeIn (latest types .output) (f .body))) from rest) next
+            (more-edge (after-type (edgeAdded types (edgeIn (latest types .output) (f .body))) (after-tag edge-tag)
+            (set-some types (length types - 1) (withEdge (latest types) (edgeIn (latest types .output) (f .body))) some) refl))
         go false e more-edge more-type = judge types previous from (field f rest) (cond (isKind type-tag (tagOf (f .tag))) type (stopped types (field f rest))) b failing fine
           where
             failing : isEmpty types ≡ false → notComplementary types ≡ true → readFrom wanted size (knowing previous (fieldPlace from) (withTypes P types)) (field f rest)

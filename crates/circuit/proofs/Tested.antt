@@ -126,7 +126,7 @@ type-pass count at body e =
     let ranges = typeInRange (getD body 0 0) (getD body 1 0) (getD body 2 0) in
     (leb-false mostTypes count (six .0), record { ranges = and-both ranges true (accepts ranges (seven .0)) tt; few = omega arith; ends = tt })
 
-pub edge-pass : (t : ModuleType) (at : ℕ) (body : List ℕ) → firstOf (edgeTests t at body) ≡ passes → TypeSound t → TypeSound (withEdge t (edgeIn body))
+pub edge-pass : (t : ModuleType) (at : ℕ) (body : List ℕ) → firstOf (edgeTests t at body) ≡ passes → TypeSound t → TypeSound (withEdge t (edgeIn (t .output) body))
 unfolding edgeTests edgeTestsOf withEdge inRange endsGood edgeIn
 edge-pass t at body e sound =
     let five = first-passes _ _ e in
@@ -137,11 +137,11 @@ edge-pass t at body e sound =
     let parts = both (typeInRange (t .highest) (t .output) (t .labels)) (allOf new (t .edges)) (sound .ranges) in
     let few = leb-false mostEdges (length (t .edges)) (six .0) in
     record {
-      ranges = and-both (typeInRange (t .highest) (t .output) (t .labels)) (allOf new (t .edges ++ (edgeIn body ∷ []))) (parts .0)
-          (all-snoc new (t .edges) (edgeIn body) (parts .1) (accepts (new (edgeIn body)) (seven .0)));
-      few = omega (arith, length-snoc (t .edges) (edgeIn body));
-      ends = all-snoc (endsGood (t .highest) (t .output)) (t .edges) (edgeIn body) (sound .ends)
-          (holds (endsGood (t .highest) (t .output) (edgeIn body)) (ap not (eight .0)));
+      ranges = and-both (typeInRange (t .highest) (t .output) (t .labels)) (allOf new (t .edges ++ (edgeIn (t .output) body ∷ []))) (parts .0)
+          (all-snoc new (t .edges) (edgeIn (t .output) body) (parts .1) (accepts (new (edgeIn (t .output) body)) (seven .0)));
+      few = omega (arith, length-snoc (t .edges) (edgeIn (t .output) body));
+      ends = all-snoc (endsGood (t .highest) (t .output)) (t .edges) (edgeIn (t .output) body) (sound .ends)
+          (holds (endsGood (t .highest) (t .output) (edgeIn (t .output) body)) (ap not (eight .0)));
     }
 
 pub bridge-pass : (count at : ℕ) (body : List ℕ) → firstOf (bridgeTests count at body) ≡ passes

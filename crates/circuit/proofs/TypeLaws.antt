@@ -11,9 +11,9 @@ use lib.Dec.{T, leb, ltb, le→leb}
 use lib.ListN.{length, getD, set, take, drop, length-append, length-take, length-map}
 use lib.Seq.{drop-cons, ext-getD, getD-take}
 use Rattle.words.proofs.Tables.{length-table}
-use Rattle.switch.specs.Conduction.{Edge, between}
+use Rattle.switch.specs.Conduction.{Edge, Channel, p-channel, n-channel, between}
 use Rattle.switch.specs.Modules.{ModuleType, allOf, typeInRange, edgeInRange, inRange}
-use Rattle.switch.specs.Records.{edgeOf, edgesOf, typeOf, TypeGiven}
+use Rattle.switch.specs.Records.{channelBy, isP, edgeOf, edgesOf, typeOf, TypeGiven}
 use Rattle.switch.specs.declared.Edge.{Edge as EdgeRecord}
 use Rattle.switch.proofs.Paths.{both}
 use Rattle.switch.proofs.Deciding.{and-both}
@@ -72,9 +72,13 @@ few-labels h k e t =
     let parts = both (ends && size) (allOf (λ (l : ℕ). ltb l k) (e .labels)) t in
     in-between 1 4 (length (e .labels)) (both ends size (parts .0) .1) .1
 
+channel-back : (c : Channel) → channelBy (isP c) ≡ c
+channel-back p-channel = refl
+channel-back n-channel = refl
+
 edge-back : (e : Edge) → length (e .labels) ≤ 4 → edgeOf (edgeRecord e) ≡ e
 unfolding edgeOf edgeRecord
-edge-back e h = ap (λ (ls : List ℕ). record { first = e .first; second = e .second; labels = ls }) (take-padded 0 4 (e .labels) h)
+edge-back e h = rw (take-padded 0 4 (e .labels) h, channel-back (e .channel))
 
 module _ (h k : ℕ) where
   edges-back : (es : List Edge) → T (allOf (edgeInRange h k) es) → edgesOf (map edgeRecord es) ≡ es
@@ -124,7 +128,7 @@ pub record EdgePasses (t : ModuleType) (body : List ℕ) : Type 0 where
   pub long : 3 ≤ length body
   pub short : length body ≤ 6
   pub few : length (t .edges) < mostEdges
-  pub ranges : T (edgeInRange (t .highest) (t .labels) (edgeIn body))
+  pub ranges : T (edgeInRange (t .highest) (t .labels) (edgeIn (t .output) body))
 
 pub edge-passes : (t : ModuleType) (at : ℕ) (body : List ℕ) → firstOf (edgeTests t at body) ≡ passes → EdgePasses t body
 unfolding edgeTests edgeTestsOf
@@ -137,7 +141,7 @@ edge-passes t at body e =
       long = size .0;
       short = size .1;
       few = leb-false mostEdges (length (t .edges)) (b .0);
-      ranges = accepts (edgeInRange (t .highest) (t .labels) (edgeIn body)) (c .0);
+      ranges = accepts (edgeInRange (t .highest) (t .labels) (edgeIn (t .output) body)) (c .0);
     }
 
 module _ (t : ModuleType) (e : Edge) where

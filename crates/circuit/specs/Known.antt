@@ -5,7 +5,7 @@ use mathlib.Core.List.{List, [], _∷_, _++_, map}
 use lib.Dec.{eqb}
 use lib.ListN.{length, getD, drop, set}
 use Rattle.words.specs.Tables.{table}
-use Rattle.switch.specs.Conduction.{Value, at0, at1, atX, Edge}
+use Rattle.switch.specs.Conduction.{Value, at0, at1, atX, Edge, channelOf}
 use Rattle.switch.specs.Modules.{ModuleType}
 use Rattle.switch.specs.Bridges.{Bridge, nodes, input}
 use Rattle.circuit.specs.Fields.{Field, twoBytes}
@@ -32,8 +32,14 @@ start = record {
 unfoldable pub typeIn : List ℕ → ModuleType
 typeIn body = record { highest = getD body 0 0; output = getD body 1 0; labels = getD body 2 0; edges = [] }
 
-unfoldable pub edgeIn : List ℕ → Edge
-edgeIn body = record { first = getD body 0 0; second = getD body 1 0; labels = drop 2 body }
+-- in a type with the output node o: an edge's channel is that of its position
+unfoldable pub edgeIn : ℕ → List ℕ → Edge
+edgeIn o body = record {
+  first = getD body 0 0;
+  second = getD body 1 0;
+  channel = channelOf o (getD body 0 0) (getD body 1 0);
+  labels = drop 2 body;
+}
 
 -- kind 0 joins two nodes, kind 1 a node and a label
 unfoldable pub bridgeOf : ℕ → ℕ → ℕ → Bridge
@@ -83,7 +89,7 @@ taken type-tag c body =
 taken edge-tag c body =
     record {
       inputs = c .inputs;
-      types = edgeAdded (c .types) (edgeIn body);
+      types = edgeAdded (c .types) (edgeIn (latest (c .types) .output) body);
       bridges = c .bridges;
       instances = c .instances;
       vectors = c .vectors;

@@ -28,7 +28,7 @@ Each {A} Holds as′ = (i : ℕ) (none : A) → i < length as′ → Holds i (ge
 
 -- the ends of an edge keep the channel rule, in a type with h and o
 unfoldable pub endsGood : ℕ → ℕ → Edge → Bool
-endsGood h o e = not (badEnds h o e)
+endsGood h o e = not (badEnds h o (e .first) (e .second))
 
 -- a type: its numbers and its edges' are in range, its edges are few and keep the channel rule
 pub record TypeSound (t : ModuleType) : Type 0 where

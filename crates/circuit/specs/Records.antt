@@ -8,6 +8,7 @@ use Rattle.words.specs.Tables.{table}
 use Rattle.switch.specs.Conduction.{Value, atX, Edge}
 use Rattle.switch.specs.Modules.{ModuleType}
 use Rattle.switch.specs.Bridges.{Bridge, nodes, input}
+use Rattle.switch.specs.Records.{isP}
 use Rattle.switch.specs.Promises.{isAt0, isAt1}
 use Rattle.switch.specs.declared.Edge.{Edge as EdgeRecord}
 use Rattle.switch.specs.declared.ModuleType.{ModuleType as TypeRecord}
@@ -25,10 +26,16 @@ unfoldable pub padded : {A : Type 0} → ℕ → A → List A → List A
 padded n none as′ = table n (λ (i : ℕ). getD as′ i none)
 
 abbrev pub unusedEdge : EdgeRecord
-unusedEdge = record { first = 0; second = 0; count = 0; labels = replicate 4 0 }
+unusedEdge = record { first = 0; second = 0; «p_channel» = false; count = 0; labels = replicate 4 0 }
 
 unfoldable pub edgeRecord : Edge → EdgeRecord
-edgeRecord e = record { first = e .first; second = e .second; count = length (e .labels); labels = padded 4 0 (e .labels) }
+edgeRecord e = record {
+  first = e .first;
+  second = e .second;
+  «p_channel» = isP (e .channel);
+  count = length (e .labels);
+  labels = padded 4 0 (e .labels);
+}
 
 abbrev pub unusedType : TypeRecord
 unusedType = record { highest = 0; output = 0; labels = 0; count = 0; edges = replicate mostEdges unusedEdge }

@@ -50,7 +50,7 @@ section kind tests add sofar (field f rest) =
     cond (isKind kind (tagOf (f .tag))) tested (stopped sofar (field f rest))
 
 abbrev pub edgeStage : ModuleType → Cut → Stage ModuleType
-edgeStage = section edge-tag edgeTests (λ (t : ModuleType) (body : List ℕ). withEdge t (edgeIn body))
+edgeStage = section edge-tag edgeTests (λ (t : ModuleType) (body : List ℕ). withEdge t (edgeIn (t .output) body))
 
 abbrev pub bridgeStage : List Listed → Cut → Stage (List Listed)
 bridgeStage =
@@ -99,7 +99,7 @@ typeStage types from clean = ifPasses (judged types (fieldPlace from) clean) (ty
 typeStage types from (broken at) =
     ifPasses (judged types (fieldPlace from) (broken at)) (typesBefore types) from (stopped types (broken at))
 typeStage types from (field f rest) =
-    let moreEdges = typeStage (edgeAdded types (edgeIn (f .body))) from rest in
+    let moreEdges = typeStage (edgeAdded types (edgeIn (latest types .output) (f .body))) from rest in
     let moreTypes = typeStage (types ++ (typeIn (f .body) ∷ [])) (field f rest) rest in
     let edge = ifPasses (firstOf (edgeTests (latest types) (f .at) (f .body))) (typesBefore types) from moreEdges in
     let type = ifPasses (firstOf (typeTests (length types) (f .at) (f .body))) types (field f rest) moreTypes in

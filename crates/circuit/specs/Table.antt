@@ -109,8 +109,8 @@ unfoldable pub edgeTestsOf : ℕ → ℕ → ℕ → ℕ → ℕ → List ℕ �
 edgeTestsOf h o k count at body =
     test 5 (not (between 3 6 (length body))) at
     ∷ test 6 (leb mostEdges count) at
-    ∷ test 7 (not (edgeInRange h k (edgeIn body))) at
-    ∷ test 8 (badEnds h o (edgeIn body)) at
+    ∷ test 7 (not (edgeInRange h k (edgeIn o body))) at
+    ∷ test 8 (badEnds h o (getD body 0 0) (getD body 1 0)) at
     ∷ []
 
 unfoldable pub edgeTests : ModuleType → ℕ → List ℕ → List Test

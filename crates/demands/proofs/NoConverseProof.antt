@@ -6,7 +6,7 @@ use mathlib.Core.List.{List, [], _∷_}
 use native.Mathlib.Omega.{arith}
 use lib.Dec.{T}
 use lib.ListN.{length}
-use Rattle.switch.specs.Conduction.{Value, at0, at1, atX, Edge}
+use Rattle.switch.specs.Conduction.{Value, at0, at1, atX, Edge, Channel, p-channel, n-channel}
 use Rattle.switch.specs.Modules.{ModuleType}
 use Rattle.circuit.specs.Circuit.{Circuit, Instance, primary, outputOf, exhaustive, no-faults}
 use Rattle.circuit.specs.Reading.{accepted, readingOf}
@@ -23,13 +23,13 @@ use Rattle.demands.proofs.RightProof.{rightly-is-right}
 
 -- ---- the circuit
 
-abbrev edge : ℕ → ℕ → List ℕ → Edge
-edge a b labels = record { first = a; second = b; labels = labels }
+abbrev edge : ℕ → ℕ → Channel → List ℕ → Edge
+edge a b channel labels = record { first = a; second = b; channel = channel; labels = labels }
 
 abbrev twoTypes : List ModuleType
 twoTypes =
-    record { highest = 2; output = 2; labels = 1; edges = edge 1 2 (0 ∷ []) ∷ edge 0 2 (0 ∷ []) ∷ [] }
-    ∷ record { highest = 3; output = 2; labels = 2; edges = edge 1 2 (0 ∷ 1 ∷ []) ∷ edge 2 3 (0 ∷ []) ∷ edge 3 0 (1 ∷ []) ∷ [] }
+    record { highest = 2; output = 2; labels = 1; edges = edge 1 2 p-channel (0 ∷ []) ∷ edge 0 2 n-channel (0 ∷ []) ∷ [] }
+    ∷ record { highest = 3; output = 2; labels = 2; edges = edge 1 2 p-channel (0 ∷ 1 ∷ []) ∷ edge 2 3 n-channel (0 ∷ []) ∷ edge 3 0 n-channel (1 ∷ []) ∷ [] }
     ∷ []
 
 abbrev twoInstances : List Instance

@@ -2,7 +2,7 @@
 -- type that a file can give no edge has a node past the highest. Each law is over the bit's position, the place in a list, or the length. Assumes nothing.
 use Prim.Native.Nat.{ℕ, zero, suc, _+_, _-_, _*_, _^_, _≤_, _<_, min, max, zero-le}
 use mathlib.Core.Path.{_≡_, refl, sym, _∙_}
-use mathlib.Core.Bool.{Bool, true, false, cond, _||_, or-assoc, or-false}
+use mathlib.Core.Bool.{Bool, true, false, _||_, or-assoc, or-false}
 use mathlib.Core.List.{List, [], _∷_, _++_}
 use native.Mathlib.Omega.{arith}
 use lib.Bits.{bitAnd, bitOr, and-le-l, or-lt}
@@ -17,12 +17,12 @@ use Rattle.words.proofs.Laws.{bit-le-one, bit-zero, bit-or, bit-not-under, ofBo
 use Rattle.words.proofs.Tables.{length-table, getD-table, table-cong, up-past, fill-more, getD-fill}
 use Rattle.words.proofs.EachLaws.{each-before, each-in, each-written}
 use Rattle.words.proofs.WrittenLaws.{length-written}
-use Rattle.switch.specs.Conduction.{Channel, p-channel, n-channel, Edge, channelOf, transistorOn, anyOf, edgeOn}
-use Rattle.switch.specs.Records.{edgeOf, noEdge, TypeGiven, valueOf, valuesAt}
+use Rattle.switch.specs.Conduction.{p-channel, n-channel, Edge, transistorOn, anyOf, edgeOn}
+use Rattle.switch.specs.Records.{channelBy, edgeOf, noEdge, TypeGiven, valueOf, valuesAt}
 use Rattle.switch.specs.declared.Edge.{Edge as EdgeRecord}
 use Rattle.switch.specs.declared.ModuleType.{ModuleType as TypeRecord}
 use Rattle.switch.proofs.Ranges.{given-type, given-edge}
-use Rattle.join_nodes.specs.Model.{isP, transistorWord, onWord, edgeWords, onWords, firstNodes, secondNodes, endsOf, WideEdges, WideOn}
+use Rattle.join_nodes.specs.Model.{transistorWord, onWord, edgeWords, onWords, firstNodes, secondNodes, endsOf, WideEdges, WideOn}
 use Rattle.join_nodes.specs.declared.Ends.{Ends}
 
 -- ---- a transistor's word
@@ -56,20 +56,15 @@ transistor-n ones zeros h =
 transistor-lt : (p : Bool) (ones zeros : ℕ) → transistorWord p ones zeros < 2 ^ 64
 unfolding transistorWord
 transistor-lt p ones zeros =
-    let on : ℕ → Bool = λ (v : ℕ). transistorOn (cond p p-channel n-channel) (valueOf (bit ones v) (bit zeros v)) in
+    let on : ℕ → Bool = λ (v : ℕ). transistorOn (channelBy p) (valueOf (bit ones v) (bit zeros v)) in
     word-lt (λ (v : ℕ). ofBool (on v)) (λ v. ofBool-le-one (on v))
 
-channel-told : (ch : Channel) → cond (isP ch) p-channel n-channel ≡ ch
-unfolding isP
-channel-told p-channel = refl
-channel-told n-channel = refl
-
-pub bit-transistorWord : (ch : Channel) (ones zeros v : ℕ) → v < 64
-    → bit (transistorWord (isP ch) ones zeros) v ≡ ofBool (transistorOn ch (valueOf (bit ones v) (bit zeros v)))
+pub bit-transistorWord : (p : Bool) (ones zeros v : ℕ) → v < 64
+    → bit (transistorWord p ones zeros) v ≡ ofBool (transistorOn (channelBy p) (valueOf (bit ones v) (bit zeros v)))
 unfolding transistorWord
-bit-transistorWord ch ones zeros v l =
-    let on : ℕ → Bool = λ (u : ℕ). transistorOn ch (valueOf (bit ones u) (bit zeros u)) in
-    rw channel-told (bit-word (λ (u : ℕ). ofBool (on u)) (λ u. ofBool-le-one (on u)) v l)
+bit-transistorWord p ones zeros v l =
+    let on : ℕ → Bool = λ (u : ℕ). transistorOn (channelBy p) (valueOf (bit ones u) (bit zeros u)) in
+    bit-word (λ (u : ℕ). ofBool (on u)) (λ u. ofBool-le-one (on u)) v l
 
 -- ---- the or over the labels of an edge
 
@@ -98,38 +93,37 @@ unfolding anyOf
 any-last test [] a = or-false (test a)
 any-last test (x ∷ xs) a = rw (any-last test xs a) (sym (or-assoc (test x) (anyOf test xs) (test a)))
 
-bit-orTo : (ch : Channel) (ones zeros labels : List ℕ) (v j : ℕ) → v < 64 → j ≤ length labels
-    → bit (orTo (isP ch) ones zeros labels j) v ≡ ofBool (anyOf (λ (l : ℕ). transistorOn ch (valuesAt ones zeros v l)) (take j labels))
+bit-orTo : (p : Bool) (ones zeros labels : List ℕ) (v j : ℕ) → v < 64 → j ≤ length labels
+    → bit (orTo p ones zeros labels j) v ≡ ofBool (anyOf (λ (l : ℕ). transistorOn (channelBy p) (valuesAt ones zeros v l)) (take j labels))
 unfolding orTo anyOf valuesAt
-bit-orTo ch ones zeros labels v zero h k = bit-zero v
-bit-orTo ch ones zeros labels v (suc j) h k =
+bit-orTo p ones zeros labels v zero h k = bit-zero v
+bit-orTo p ones zeros labels v (suc j) h k =
     let l : ℕ = getD labels j 0 in
-    let test : ℕ → Bool = λ (m : ℕ). transistorOn ch (valuesAt ones zeros v m) in
-    rw (bit-or, bit-transistorWord ch (getD ones l 0) (getD zeros l 0) v h, bit-orTo ch ones zeros labels v j h (omega arith), take-suc labels j 0 k, any-last)
+    let test : ℕ → Bool = λ (m : ℕ). transistorOn (channelBy p) (valuesAt ones zeros v m) in
+    rw (bit-or, bit-transistorWord p (getD ones l 0) (getD zeros l 0) v h, bit-orTo p ones zeros labels v j h (omega arith), take-suc labels j 0 k, any-last)
     (max-or (anyOf test (take j labels)) (test l))
 
 -- the or over the labels of an edge record is its edge's word
-pub on-word-is : (o : ℕ) (ones zeros : List ℕ) (r : EdgeRecord) → r .count ≤ length (r .labels)
-    → orTo (isP (channelOf o (edgeOf r))) ones zeros (r .labels) (r .count) ≡ onWord o ones zeros (edgeOf r)
+pub on-word-is : (ones zeros : List ℕ) (r : EdgeRecord) → r .count ≤ length (r .labels)
+    → orTo (r .«p_channel») ones zeros (r .labels) (r .count) ≡ onWord ones zeros (edgeOf r)
 unfolding onWord edgeOn edgeOf
-on-word-is o ones zeros r k =
-    let ch : Channel = channelOf o (edgeOf r) in
-    word-of-bits (orTo (isP ch) ones zeros (r .labels) (r .count))
-    (λ (v : ℕ). ofBool (edgeOn o (valuesAt ones zeros v) (edgeOf r)))
-    (orTo-lt (isP ch) ones zeros (r .labels) (r .count))
-    (λ v h. bit-orTo ch ones zeros (r .labels) v (r .count) h k)
+on-word-is ones zeros r k =
+    word-of-bits (orTo (r .«p_channel») ones zeros (r .labels) (r .count))
+    (λ (v : ℕ). ofBool (edgeOn (valuesAt ones zeros v) (edgeOf r)))
+    (orTo-lt (r .«p_channel») ones zeros (r .labels) (r .count))
+    (λ v h. bit-orTo (r .«p_channel») ones zeros (r .labels) v (r .count) h k)
 
-pub bit-onWord : (o : ℕ) (ones zeros : List ℕ) (e : Edge) (v : ℕ) → v < 64 → bit (onWord o ones zeros e) v ≡ ofBool (edgeOn o (valuesAt ones zeros v) e)
+pub bit-onWord : (ones zeros : List ℕ) (e : Edge) (v : ℕ) → v < 64 → bit (onWord ones zeros e) v ≡ ofBool (edgeOn (valuesAt ones zeros v) e)
 unfolding onWord
-bit-onWord o ones zeros e =
-    bit-word (λ (v : ℕ). ofBool (edgeOn o (valuesAt ones zeros v) e)) (λ v. ofBool-le-one (edgeOn o (valuesAt ones zeros v) e))
+bit-onWord ones zeros e =
+    bit-word (λ (v : ℕ). ofBool (edgeOn (valuesAt ones zeros v) e)) (λ v. ofBool-le-one (edgeOn (valuesAt ones zeros v) e))
 
 -- ---- the words and the nodes of the first n edges
 
-pub getD-onWords : (o : ℕ) (ones zeros : List ℕ) (edges : List EdgeRecord) (n i : ℕ) → i < n → n ≤ 64
-    → getD (onWords o ones zeros edges n) i 0 ≡ onWord o ones zeros (edgeOf (getD edges i noEdge))
+pub getD-onWords : (ones zeros : List ℕ) (edges : List EdgeRecord) (n i : ℕ) → i < n → n ≤ 64
+    → getD (onWords ones zeros edges n) i 0 ≡ onWord ones zeros (edgeOf (getD edges i noEdge))
 unfolding onWords
-getD-onWords o ones zeros edges = getD-fill 64 (λ (i : ℕ). onWord o ones zeros (edgeOf (getD edges i noEdge)))
+getD-onWords ones zeros edges = getD-fill 64 (λ (i : ℕ). onWord ones zeros (edgeOf (getD edges i noEdge)))
 
 pub getD-firstNodes : (edges : List EdgeRecord) (n i : ℕ) → i < n → n ≤ 64 → getD (firstNodes edges n) i 0 ≡ getD edges i noEdge .first
 unfolding firstNodes
@@ -139,18 +133,18 @@ pub getD-secondNodes : (edges : List EdgeRecord) (n i : ℕ) → i < n → n ≤
 unfolding secondNodes
 getD-secondNodes edges = getD-fill 64 (λ (i : ℕ). getD edges i noEdge .second)
 
-pub bit-onWords : (o : ℕ) (ones zeros : List ℕ) (edges : List EdgeRecord) (n i v : ℕ) → i < n → n ≤ 64 → v < 64
-    → bit (getD (onWords o ones zeros edges n) i 0) v ≡ ofBool (edgeOn o (valuesAt ones zeros v) (edgeOf (getD edges i noEdge)))
-bit-onWords o ones zeros edges n i v h k l =
-    rw (getD-onWords o ones zeros edges n i h k) (bit-onWord o ones zeros (edgeOf (getD edges i noEdge)) v l)
+pub bit-onWords : (ones zeros : List ℕ) (edges : List EdgeRecord) (n i v : ℕ) → i < n → n ≤ 64 → v < 64
+    → bit (getD (onWords ones zeros edges n) i 0) v ≡ ofBool (edgeOn (valuesAt ones zeros v) (edgeOf (getD edges i noEdge)))
+bit-onWords ones zeros edges n i v h k l =
+    rw (getD-onWords ones zeros edges n i h k) (bit-onWord ones zeros (edgeOf (getD edges i noEdge)) v l)
 
 -- ---- edges with some words each
 
-module _ (o : ℕ) (ones zeros : List ℕ) (edges : List EdgeRecord) (width : ℕ) where
+module _ (ones zeros : List ℕ) (edges : List EdgeRecord) (width : ℕ) where
   abbrev wordAt : ℕ → ℕ → ℕ
-  wordAt w i = onWord o (wordOfEach width w 12 ones) (wordOfEach width w 12 zeros) (edgeOf (getD edges i noEdge))
+  wordAt w i = onWord (wordOfEach width w 12 ones) (wordOfEach width w 12 zeros) (edgeOf (getD edges i noEdge))
 
-  pub wide-on-none : WideOn o ones zeros edges 0 width (replicate (width * 64) 0)
+  pub wide-on-none : WideOn ones zeros edges 0 width (replicate (width * 64) 0)
   unfolding wordOfEach onWords
   wide-on-none = record {
     long = length-replicate (width * 64) 0;
@@ -160,16 +154,16 @@ module _ (o : ℕ) (ones zeros : List ℕ) (edges : List EdgeRecord) (width : �
   }
 
   -- one edge more, by its words at its place
-  pub wide-on-more : (i : ℕ) (on : List ℕ) → i < 64 → WideOn o ones zeros edges i width on
-      → WideOn o ones zeros edges (suc i) width (written on (width * i) (edgeWords o ones zeros width (edgeOf (getD edges i noEdge))))
+  pub wide-on-more : (i : ℕ) (on : List ℕ) → i < 64 → WideOn ones zeros edges i width on
+      → WideOn ones zeros edges (suc i) width (written on (width * i) (edgeWords ones zeros width (edgeOf (getD edges i noEdge))))
   unfolding onWords edgeWords
   wide-on-more i on h wide =
       let e : Edge = edgeOf (getD edges i noEdge) in
-      let whole : length (edgeWords o ones zeros width e) ≡ width = length-table width (λ (w : ℕ). wordAt w i) in
+      let whole : length (edgeWords ones zeros width e) ≡ width = length-table width (λ (w : ℕ). wordAt w i) in
       record {
-        long = length-written on (width * i) (edgeWords o ones zeros width e) (omega (arith, wide .long, each-before width i 64 h)) ∙ wide .long;
+        long = length-written on (width * i) (edgeWords ones zeros width e) (omega (arith, wide .long, each-before width i 64 h)) ∙ wide .long;
         each = λ w k.
-            each-written width w 64 i on (edgeWords o ones zeros width e) (wide .long) whole k h
+            each-written width w 64 i on (edgeWords ones zeros width e) (wide .long) whole k h
             ∙ rw (wide .each w k, getD-table width (λ (u : ℕ). wordAt u i) 0 w k) (fill-more 64 (wordAt w) i h);
       }
 

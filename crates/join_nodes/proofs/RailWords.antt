@@ -28,35 +28,35 @@ use Rattle.join_nodes.proofs.OnWords.{getD-firstNodes, getD-secondNodes
 use Rattle.join_nodes.proofs.RoundLaws.{OnLink, linksTo-among}
 
 -- the edge past the end of a list is off, so an edge that is on stands in the list
-on-within : (o : ℕ) (values : ℕ → Value) (es : List Edge) (i : ℕ) → T (edgeOn o values (getD es i (edgeOf noEdge))) → i < length es
+on-within : (values : ℕ → Value) (es : List Edge) (i : ℕ) → T (edgeOn values (getD es i (edgeOf noEdge))) → i < length es
 unfolding edgeOn anyOf edgeOf
-on-within o values es i t =
-    lt-of-not-le (λ (past : length es ≤ i). subst (λ (e : Edge). T (edgeOn o values e)) (List·getD-eq-default es (edgeOf noEdge) past) t)
+on-within values es i t =
+    lt-of-not-le (λ (past : length es ≤ i). subst (λ (e : Edge). T (edgeOn values e)) (List·getD-eq-default es (edgeOf noEdge) past) t)
 
 -- the links of the columns, under a vector
-abbrev columnLinks : List EdgeRecord → ℕ → ℕ → List ℕ → List ℕ → ℕ → List Link
-columnLinks rs n o ones zeros v = linksTo (firstNodes rs n) (secondNodes rs n) (onWords o ones zeros rs n) v n
+abbrev columnLinks : List EdgeRecord → ℕ → List ℕ → List ℕ → ℕ → List Link
+columnLinks rs n ones zeros v = linksTo (firstNodes rs n) (secondNodes rs n) (onWords ones zeros rs n) v n
 
-module _ (rs : List EdgeRecord) (n o : ℕ) (places : n ≤ 64) (ones zeros : List ℕ) (v : ℕ) (vector : v < 64) (w : Link) where
+module _ (rs : List EdgeRecord) (n : ℕ) (places : n ≤ 64) (ones zeros : List ℕ) (v : ℕ) (vector : v < 64) (w : Link) where
   -- a place's edge is on, and its link is w, in the columns exactly when it is in the list of edges
-  in-edges : OnLink (firstNodes rs n) (secondNodes rs n) (onWords o ones zeros rs n) v n w
-      → OnAt o (valuesAt ones zeros v) (edgesOf (take n rs)) (edgeOf noEdge) w
+  in-edges : OnLink (firstNodes rs n) (secondNodes rs n) (onWords ones zeros rs n) v n w
+      → OnAt (valuesAt ones zeros v) (edgesOf (take n rs)) (edgeOf noEdge) w
   unfolding edgeOf
   in-edges a =
       let i : ℕ = a .place in
       let values : ℕ → Value = valuesAt ones zeros v in
       let same = edge-at rs n i (a .within) in
-      let on : T (edgeOn o values (getD (edgesOf (take n rs)) i (edgeOf noEdge))) =
-      rw same (set-bit (edgeOn o values (edgeOf (getD rs i noEdge))) (sym (bit-onWords o ones zeros rs n i v (a .within) places vector) ∙ a .is-on)) in
+      let on : T (edgeOn values (getD (edgesOf (take n rs)) i (edgeOf noEdge))) =
+      rw same (set-bit (edgeOn values (edgeOf (getD rs i noEdge))) (sym (bit-onWords ones zeros rs n i v (a .within) places vector) ∙ a .is-on)) in
       record {
         place = i;
-        within = on-within o values (edgesOf (take n rs)) i on;
+        within = on-within values (edgesOf (take n rs)) i on;
         on = on;
         ends = rw same (rw (getD-firstNodes rs n i (a .within) places, getD-secondNodes rs n i (a .within) places) at (a .ends));
       }
 
-  in-columns : OnAt o (valuesAt ones zeros v) (edgesOf (take n rs)) (edgeOf noEdge) w
-      → OnLink (firstNodes rs n) (secondNodes rs n) (onWords o ones zeros rs n) v n w
+  in-columns : OnAt (valuesAt ones zeros v) (edgesOf (take n rs)) (edgeOf noEdge) w
+      → OnLink (firstNodes rs n) (secondNodes rs n) (onWords ones zeros rs n) v n w
   unfolding edgeOf edgesOf
   in-columns a =
       let i : ℕ = a .place in
@@ -67,20 +67,20 @@ module _ (rs : List EdgeRecord) (n o : ℕ) (places : n ≤ 64) (ones zeros : Li
         place = i;
         within = within;
         is-on =
-            bit-onWords o ones zeros rs n i v within places vector
-            ∙ bit-set (edgeOn o values (edgeOf (getD rs i noEdge))) (rw same at (a .on));
+            bit-onWords ones zeros rs n i v within places vector
+            ∙ bit-set (edgeOn values (edgeOf (getD rs i noEdge))) (rw same at (a .on));
         ends = rw (getD-firstNodes rs n i within places, getD-secondNodes rs n i within places) (rw same at (a .ends));
       }
 
-  to-edges : Among w (columnLinks rs n o ones zeros v) → Among w (links o (valuesAt ones zeros v) (edgesOf (take n rs)))
+  to-edges : Among w (columnLinks rs n ones zeros v) → Among w (links (valuesAt ones zeros v) (edgesOf (take n rs)))
   to-edges m =
-      links-among o (valuesAt ones zeros v) (edgesOf (take n rs)) (edgeOf noEdge) w .1
-      (in-edges (linksTo-among (firstNodes rs n) (secondNodes rs n) (onWords o ones zeros rs n) v n w .0 m))
+      links-among (valuesAt ones zeros v) (edgesOf (take n rs)) (edgeOf noEdge) w .1
+      (in-edges (linksTo-among (firstNodes rs n) (secondNodes rs n) (onWords ones zeros rs n) v n w .0 m))
 
-  to-columns : Among w (links o (valuesAt ones zeros v) (edgesOf (take n rs))) → Among w (columnLinks rs n o ones zeros v)
+  to-columns : Among w (links (valuesAt ones zeros v) (edgesOf (take n rs))) → Among w (columnLinks rs n ones zeros v)
   to-columns m =
-      linksTo-among (firstNodes rs n) (secondNodes rs n) (onWords o ones zeros rs n) v n w .1
-      (in-columns (links-among o (valuesAt ones zeros v) (edgesOf (take n rs)) (edgeOf noEdge) w .0 m))
+      linksTo-among (firstNodes rs n) (secondNodes rs n) (onWords ones zeros rs n) v n w .1
+      (in-columns (links-among (valuesAt ones zeros v) (edgesOf (take n rs)) (edgeOf noEdge) w .0 m))
 
 -- bit v is 1 exactly when m is joined to the rail over the links under vector v
 abbrev railWord : (ℕ → List Link) → ℕ → ℕ → ℕ
@@ -95,29 +95,28 @@ railWords-lt t ones zeros rail m h =
 
 -- so the rounds' words are the type's
 rail-words : (r : TypeRecord) → r .count ≤ 64 → (ones zeros : List ℕ) (rail : ℕ)
-    → let on = onWords (r .output) ones zeros (r .edges) (r .count) in
+    → let on = onWords ones zeros (r .edges) (r .count) in
     joinedWords (firstNodes (r .edges) (r .count)) (secondNodes (r .edges) (r .count)) on (r .count) rail ≡ railWords (typeOf r) ones zeros rail
 unfolding joinedWords railWords word linksOf typeOf
 rail-words r places ones zeros rail =
     let rs : List EdgeRecord = r .edges in
     let n : ℕ = r .count in
-    let o : ℕ = r .output in
-    let inType : ℕ → List Link = λ (v : ℕ). links o (valuesAt ones zeros v) (edgesOf (take n rs)) in
-    let inColumns : ℕ → List Link = columnLinks rs n o ones zeros in
+    let inType : ℕ → List Link = λ (v : ℕ). links (valuesAt ones zeros v) (edgesOf (take n rs)) in
+    let inColumns : ℕ → List Link = columnLinks rs n ones zeros in
     table-cong 32 (λ (m : ℕ). railWord inColumns m rail) (λ (m : ℕ). railWord inType m rail) (λ m k.
     pack-cong 64 (λ (v : ℕ). ofBool (joins (inColumns v) m rail)) (λ (v : ℕ). ofBool (joins (inType v) m rail)) (λ v l.
-    ap ofBool (joins-same (inColumns v) (inType v) (to-edges rs n o places ones zeros v l) (to-columns rs n o places ones zeros v l) m rail)))
+    ap ofBool (joins-same (inColumns v) (inType v) (to-edges rs n places ones zeros v l) (to-columns rs n places ones zeros v l) m rail)))
 
 -- and so where nodes, edges and labels have some words each
 module _ (r : TypeRecord) (places : r .count ≤ 64) (ones zeros on : List ℕ) (ends : Ends) (nodes : ends ≡ endsOf (r .edges) (r .count)) where
-  wide-rail-words : (width : ℕ) → WideOn (r .output) ones zeros (r .edges) (r .count) width on → (rail : ℕ) (joined : List ℕ)
+  wide-rail-words : (width : ℕ) → WideOn ones zeros (r .edges) (r .count) width on → (rail : ℕ) (joined : List ℕ)
       → WideJoined (ends .firsts) (ends .seconds) on (r .count) width rail joined → (w : ℕ) → w < width
       → wordOfEach width w 32 joined ≡ railWords (typeOf r) (wordOfEach width w 12 ones) (wordOfEach width w 12 zeros) rail
   wide-rail-words width wide rail joined are w k =
       are .each w k ∙ rw (nodes, wide .each w k) (rail-words r places (wordOfEach width w 12 ones) (wordOfEach width w 12 zeros) rail)
 
   -- one word each
-  pub one-rail-words : WideOn (r .output) ones zeros (r .edges) (r .count) 1 on → length ones ≡ 12 → length zeros ≡ 12 → (rail : ℕ) (joined : List ℕ)
+  pub one-rail-words : WideOn ones zeros (r .edges) (r .count) 1 on → length ones ≡ 12 → length zeros ≡ 12 → (rail : ℕ) (joined : List ℕ)
       → WideJoined (ends .firsts) (ends .seconds) on (r .count) 1 rail joined → joined ≡ railWords (typeOf r) ones zeros rail
   one-rail-words wide o z rail joined are =
       sym (one-each 32 joined (are .long))
@@ -125,14 +124,14 @@ module _ (r : TypeRecord) (places : r .count ≤ 64) (ones zeros on : List ℕ) 
       ∙ rw (one-each 12 ones o, one-each 12 zeros z)
 
   -- four words each
-  four-rail-words : WideOn (r .output) ones zeros (r .edges) (r .count) 4 on → (rail : ℕ) (joined : List ℕ)
+  four-rail-words : WideOn ones zeros (r .edges) (r .count) 4 on → (rail : ℕ) (joined : List ℕ)
       → WideJoined (ends .firsts) (ends .seconds) on (r .count) 4 rail joined → joined ≡ fourRailWords (typeOf r) ones zeros rail
   unfolding fourRailWords
   four-rail-words wide rail joined are =
       is-four 32 (λ (w : ℕ). railWords (typeOf r) (wordOfEach 4 w 12 ones) (wordOfEach 4 w 12 zeros) rail) joined (are .long) (λ m w h k.
       sym (each-at 4 w 32 joined m h) ∙ ap (λ (words : List ℕ). getD words m 0) (wide-rail-words 4 wide rail joined are w k))
 
-  pub rails-are : WideOn (r .output) ones zeros (r .edges) (r .count) 4 on → (toSupply toGround : List ℕ)
+  pub rails-are : WideOn ones zeros (r .edges) (r .count) 4 on → (toSupply toGround : List ℕ)
       → WideJoined (ends .firsts) (ends .seconds) on (r .count) 4 1 toSupply → WideJoined (ends .firsts) (ends .seconds) on (r .count) 4 0 toGround
       → record { supply = toSupply; ground = toGround } ≡ railsOf (typeOf r) ones zeros
   rails-are wide toSupply toGround s g = rw (four-rail-words wide 1 toSupply s, four-rail-words wide 0 toGround g)

@@ -1,7 +1,7 @@
 -- What the code computes on the way, as lists: on words, rounds of joining, planes of 64 settings. Only the code's own proofs use it.
 -- A word has a bit for each of 64 vectors, or of 64 settings.
 use Prim.Native.Nat.{ℕ, zero, suc, _+_, _-_, _*_, _^_, _<_, _≤_}
-use mathlib.Core.Bool.{Bool, true, false, cond}
+use mathlib.Core.Bool.{Bool, true, false}
 use mathlib.Core.List.{List, [], _∷_, _++_}
 use mathlib.Core.Logic.{_↔_}
 use lib.Bits.{bitAnd, bitOr}
@@ -11,10 +11,10 @@ use lib.ListN.{length, getD, set, take, drop}
 use Rattle.words.specs.Bits.{bit, ofBool, word}
 use Rattle.words.specs.Each.{wordOfEach}
 use Rattle.words.specs.Tables.{table, upTo}
-use Rattle.switch.specs.Conduction.{Edge, Channel, p-channel, n-channel, Link, ground, supply, transistorOn, edgeOn}
+use Rattle.switch.specs.Conduction.{Edge, Link, ground, supply, transistorOn, edgeOn}
 use Rattle.switch.specs.Modules.{ModuleType, mostEdges, mostNodes, mostLabels, settingOf}
 use Rattle.switch.specs.Deciding.{joins, oneRail}
-use Rattle.switch.specs.Records.{edgeOf, noEdge, valueOf, valuesAt}
+use Rattle.switch.specs.Records.{channelBy, edgeOf, noEdge, valueOf, valuesAt}
 use Rattle.switch.specs.declared.Edge.{Edge as EdgeRecord}
 use Rattle.switch.specs.Promises.{railWords}
 use Rattle.join_nodes.specs.declared.Ends.{Ends}
@@ -22,27 +22,23 @@ use Rattle.join_nodes.specs.declared.complementary.OutputWords.{OutputWo
 
 -- ---- on words
 
-unfoldable pub isP : Channel → Bool
-isP p-channel = true
-isP n-channel = false
-
 -- bit v is 1 exactly when a transistor, p-channel or not, is on under vector v, from its label's planes
 unfoldable pub transistorWord : Bool → ℕ → ℕ → ℕ
 transistorWord p ones zeros =
-    word (λ (v : ℕ). ofBool (transistorOn (cond p p-channel n-channel) (valueOf (bit ones v) (bit zeros v))))
+    word (λ (v : ℕ). ofBool (transistorOn (channelBy p) (valueOf (bit ones v) (bit zeros v))))
 
 -- bit v is 1 exactly when the edge is on under vector v
-unfoldable pub onWord : ℕ → List ℕ → List ℕ → Edge → ℕ
-onWord o ones zeros e = word (λ (v : ℕ). ofBool (edgeOn o (valuesAt ones zeros v) e))
+unfoldable pub onWord : List ℕ → List ℕ → Edge → ℕ
+onWord ones zeros e = word (λ (v : ℕ). ofBool (edgeOn (valuesAt ones zeros v) e))
 
 -- the words of an edge, from labels that have `width` words each
-unfoldable pub edgeWords : ℕ → List ℕ → List ℕ → ℕ → Edge → List ℕ
-edgeWords o ones zeros width e =
-    table width (λ (w : ℕ). onWord o (wordOfEach width w mostLabels ones) (wordOfEach width w mostLabels zeros) e)
+unfoldable pub edgeWords : List ℕ → List ℕ → ℕ → Edge → List ℕ
+edgeWords ones zeros width e =
+    table width (λ (w : ℕ). onWord (wordOfEach width w mostLabels ones) (wordOfEach width w mostLabels zeros) e)
 
 -- the on words of the first n edges, and 0 in the other places
-unfoldable pub onWords : ℕ → List ℕ → List ℕ → List EdgeRecord → ℕ → List ℕ
-onWords o ones zeros edges n = table mostEdges (upTo n (λ (i : ℕ). onWord o ones zeros (edgeOf (getD edges i noEdge))))
+unfoldable pub onWords : List ℕ → List ℕ → List EdgeRecord → ℕ → List ℕ
+onWords ones zeros edges n = table mostEdges (upTo n (λ (i : ℕ). onWord ones zeros (edgeOf (getD edges i noEdge))))
 
 -- the first nodes, and the second nodes, of the first n edges, and 0 in the other places
 unfoldable pub firstNodes : List EdgeRecord → ℕ → List ℕ
@@ -132,10 +128,10 @@ pub record WideJoined (firsts seconds on : List ℕ) (n width rail : ℕ) (joine
   pub each : (w : ℕ) → w < width → wordOfEach width w mostNodes joined ≡ joinedWords firsts seconds (wordOfEach width w mostEdges on) n rail
 
 -- word w of each edge is the on words of word w of each label's planes
-pub record WideOn (o : ℕ) (ones zeros : List ℕ) (edges : List EdgeRecord) (n width : ℕ) (on : List ℕ) : Type 0 where
+pub record WideOn (ones zeros : List ℕ) (edges : List EdgeRecord) (n width : ℕ) (on : List ℕ) : Type 0 where
   pub long : length on ≡ width * mostEdges
   pub each : (w : ℕ) → w < width
-      → wordOfEach width w mostEdges on ≡ onWords o (wordOfEach width w mostLabels ones) (wordOfEach width w mostLabels zeros) edges n
+      → wordOfEach width w mostEdges on ≡ onWords (wordOfEach width w mostLabels ones) (wordOfEach width w mostLabels zeros) edges n
 
 -- ---- settings
 

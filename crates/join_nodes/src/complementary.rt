@@ -35,7 +35,7 @@ fn output_words(t: ModuleType, ones: &[u64; MOST_LABELS], zeros: &[u64; MOST_LAB
     let nodes = (t.highest as usize) + 1;
     let output = t.output as usize;
     let mut on = [0u64; MOST_EDGES];
-    on_words(edges, count, t.output, ones, zeros, 1, &mut on);
+    on_words(edges, count, ones, zeros, 1, &mut on);
     let ends = ends_of(edges, count);
     let a = ends.firsts;
     let b = ends.seconds;

@@ -7,23 +7,9 @@ ghost use Prim.Native.Nat.{_+_, _*_, _<_, _≤_};
 ghost use lib.ListN.{length, replicate};
 ghost use Rattle.words.specs.Each.{wordOfEach};
 ghost use Rattle.words.specs.Written.{written};
-ghost use Rattle.switch.specs.Conduction.{channelOf};
 ghost use Rattle.switch.specs.Records.{edgeOf, LabelsFit, EdgesFit};
 ghost use Rattle.switch.specs.Modules.{mostEdges, mostLabels};
-ghost use Rattle.join_nodes.specs.Model.{isP, transistorWord, onWord, edgeWords, WideOn, endsOf};
-
-// Whether an edge is p-channel in a type with this output node.
-fn is_p(e: Edge, output: u8) -> bool
-    ensures { λ r. ⌜ r ≡ isP (channelOf output (edgeOf e)) ⌝ }
-{
-    if e.first < 1 || output < e.first {
-        return false;
-    }
-    if e.second < 1 || output < e.second {
-        return false;
-    }
-    true
-}
+ghost use Rattle.join_nodes.specs.Model.{transistorWord, onWord, edgeWords, WideOn, endsOf};
 
 // The vectors under which a transistor is on, from its label's planes.
 fn transistor_word(p: bool, ones: u64, zeros: u64) -> u64
@@ -36,13 +22,13 @@ fn transistor_word(p: bool, ones: u64, zeros: u64) -> u64
 }
 
 // The vectors of word w under which an edge is on: one of its transistors is.
-fn on_word(e: Edge, output: u8, ones: &[u64], zeros: &[u64], width: usize, w: usize) -> u64
+fn on_word(e: Edge, ones: &[u64], zeros: &[u64], width: usize, w: usize) -> u64
     requires { ⌜ LabelsFit e ⌝ }
     requires { ⌜ (w < width) × (width ≤ 4) ⌝ }
     requires { ⌜ (length (now ones) ≡ width * mostLabels) × (length (now zeros) ≡ width * mostLabels) ⌝ }
-    ensures { λ r. ⌜ r ≡ onWord output (wordOfEach width w mostLabels (now (ones .entry))) (wordOfEach width w mostLabels (now (zeros .entry))) (edgeOf e) ⌝ }
+    ensures { λ r. ⌜ r ≡ onWord (wordOfEach width w mostLabels (now (ones .entry))) (wordOfEach width w mostLabels (now (zeros .entry))) (edgeOf e) ⌝ }
 {
-    let p = is_p(e, output);
+    let p = e.p_channel;
     let labels = e.labels;
     let count = e.count as usize;
     let mut on: u64 = 0;
@@ -56,23 +42,15 @@ fn on_word(e: Edge, output: u8, ones: &[u64], zeros: &[u64], width: usize, w: us
 }
 
 // The on words of one edge, from a place on.
-fn edge_words(
-    e: Edge,
-    output: u8,
-    ones: &[u64],
-    zeros: &[u64],
-    width: usize,
-    on: &mut [u64],
-    at: usize,
-)
+fn edge_words(e: Edge, ones: &[u64], zeros: &[u64], width: usize, on: &mut [u64], at: usize)
     requires { ⌜ LabelsFit e ⌝ }
     requires { ⌜ (width ≤ 4) × (length (now ones) ≡ width * mostLabels) × (length (now zeros) ≡ width * mostLabels) ⌝ }
     requires { ⌜ at + width ≤ length (now on) ⌝ }
-    ensures { λ _. ⌜ now (on .exit) ≡ written (now (on .entry)) at (edgeWords output (now (ones .entry)) (now (zeros .entry)) width (edgeOf e)) ⌝ }
+    ensures { λ _. ⌜ now (on .exit) ≡ written (now (on .entry)) at (edgeWords (now (ones .entry)) (now (zeros .entry)) width (edgeOf e)) ⌝ }
 {
     let mut w: usize = 0;
     while w < width {
-        on[at + w] = on_word(e, output, ones, zeros, width, w);
+        on[at + w] = on_word(e, ones, zeros, width, w);
         w += 1;
     }
 }
@@ -81,7 +59,6 @@ fn edge_words(
 pub fn on_words(
     edges: [Edge; MOST_EDGES],
     count: usize,
-    output: u8,
     ones: &[u64],
     zeros: &[u64],
     width: usize,
@@ -90,12 +67,12 @@ pub fn on_words(
     requires { ⌜ EdgesFit edges count ⌝ }
     requires { ⌜ (width ≤ 4) × (length (now ones) ≡ width * mostLabels) × (length (now zeros) ≡ width * mostLabels) ⌝ }
     requires { ⌜ now on ≡ replicate (width * mostEdges) 0 ⌝ }
-    ensures { λ _. ⌜ WideOn output (now (ones .entry)) (now (zeros .entry)) edges count width (now (on .exit)) ⌝ }
+    ensures { λ _. ⌜ WideOn (now (ones .entry)) (now (zeros .entry)) edges count width (now (on .exit)) ⌝ }
 {
     let mut i: usize = 0;
     while i < count {
         let e = edges[i];
-        edge_words(e, output, ones, zeros, width, on, width * i);
+        edge_words(e, ones, zeros, width, on, width * i);
         i += 1;
     }
 }

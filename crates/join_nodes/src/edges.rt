@@ -25,6 +25,7 @@ pub fn spread(edges: &[Edge], highest: u8, output: u8, labels: u8) -> ModuleType
     let none = Edge {
         first: 0,
         second: 0,
+        p_channel: false,
         count: 0,
         labels: [0u8; MOST_PARALLEL],
     };

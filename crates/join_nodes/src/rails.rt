@@ -20,7 +20,7 @@ pub fn joining_of(t: ModuleType, ones: &[u64; 48], zeros: &[u64; 48]) -> Rails
     let count = t.count;
     let nodes = (t.highest as usize) + 1;
     let mut on = [0u64; 256];
-    on_words(edges, count, t.output, ones, zeros, 4, &mut on);
+    on_words(edges, count, ones, zeros, 4, &mut on);
     let ends = ends_of(edges, count);
     let a = ends.firsts;
     let b = ends.seconds;

@@ -5,7 +5,7 @@ use Prim.Native.Nat.{ℕ}
 use Prim.Native.String.{String}
 use Rattle.words.specs.Bits.{bit}
 use Rattle.words.specs.Tables.{table}
-use Rattle.switch.specs.Conduction.{at0, at1, atX, nEnd, nEnds, badEnds, transistorOn, channelOf, pEnds, edgeOn, anyOf, between, links}
+use Rattle.switch.specs.Conduction.{at0, at1, atX, p-channel, n-channel, nEnd, nEnds, badEnds, transistorOn, channelOf, pEnds, edgeOn, anyOf, between, links}
 use Rattle.switch.specs.Modules.{allOf, inRange, typeInRange, edgeInRange, linksOf, settingOf, valueOfBit}
 use Rattle.switch.specs.Bridges.{nodes, input}
 use Rattle.switch.specs.Deciding.{joins, renamings, partIn, rename, allBelow, oneRail, isComplementary}
@@ -28,7 +28,7 @@ use Rattle.print_circuit.specs.Listing.{numberedLines, groupedLines, typ
 inverter : Circuit
 inverter = record {
   inputs = 1;
-  types = record { highest = 2; output = 2; labels = 1; edges = record { first = 1; second = 2; labels = 0 ∷ [] } ∷ record { first = 0; second = 2; labels = 0 ∷ [] } ∷ [] } ∷ [];
+  types = record { highest = 2; output = 2; labels = 1; edges = record { first = 1; second = 2; channel = p-channel; labels = 0 ∷ [] } ∷ record { first = 0; second = 2; channel = n-channel; labels = 0 ∷ [] } ∷ [] } ∷ [];
   bridges = [];
   instances = record { type = 1; choice = exhaustive; references = primary 1 ∷ [] } ∷ [];
   vectors = (at0 ∷ []) ∷ (at1 ∷ []) ∷ (atX ∷ []) ∷ [];
@@ -45,7 +45,7 @@ inverter-listing = refl
 other-lines :
     (bridgeLine (record { list = 7; bridge = nodes 0 12 }) ≡ bytesOf "bridge 7 n 0 12\n")
     × (bridgeLine (record { list = 127; bridge = input 2 3 }) ≡ bytesOf "bridge 127 i 2 3\n")
-    × (edgeLine (record { first = 31; second = 2; labels = 0 ∷ 11 ∷ [] }) ≡ bytesOf "edge 31 2 0 11\n")
+    × (edgeLine (record { first = 31; second = 2; channel = n-channel; labels = 0 ∷ 11 ∷ [] }) ≡ bytesOf "edge 31 2 0 11\n")
     × (instanceLine 12 (record { type = 2; choice = no-faults; references = outputOf 11 ∷ primary 64 ∷ [] }) ≡ bytesOf "instance 12 2 0 -11 64\n")
     × (instanceLine 3 (record { type = 1; choice = list 5; references = outputOf 2 ∷ [] }) ≡ bytesOf "instance 3 1 5 -2\n")
     × (vectorLine 10 (at1 ∷ atX ∷ at0 ∷ []) ≡ bytesOf "vector 10 1X0\n")

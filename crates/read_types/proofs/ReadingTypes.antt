@@ -63,7 +63,7 @@ pub record EdgesSoFar (file : List ℕ) (from : ℕ) (bare : TypeRecord) (r : Ty
   pub is : r ≡ typeRecord type
 
 abbrev plusEdge : ModuleType → List ℕ → ModuleType
-plusEdge t body = withEdge t (edgeIn body)
+plusEdge t body = withEdge t (edgeIn (t .output) body)
 
 -- the tests of an edge field, from the record's numbers
 tests-of-record : (r : TypeRecord) (t : ModuleType) → r ≡ typeRecord t → (at : ℕ) (body : List ℕ)
@@ -104,7 +104,7 @@ module _ (file : List ℕ) (from : ℕ) (bare : TypeRecord) where
       -- the stage at this edge
       stage-here : edgeStage (bareOf bare) (cutFrom file from)
           ≡ ifPasses (firstOf (edgeTests (sofar .type) (f .at) (bodyOf file f))) (sofar .type) (cutFrom file at)
-          (edgeStage (withEdge (sofar .type) (edgeIn (bodyOf file f))) (cutFrom file (f .body + f .len)))
+          (edgeStage (withEdge (sofar .type) (edgeIn (sofar .type .output) (bodyOf file f))) (cutFrom file (f .body + f .len)))
       unfolding NextIs
       stage-here =
           sofar .stage ∙ section-step edge-tag edgeTests plusEdge (sofar .type) file at f (here .0) (here .1)
@@ -130,7 +130,7 @@ module _ (file : List ℕ) (from : ℕ) (bare : TypeRecord) where
             let p = edge-passes (sofar .type) (f .at) (bodyOf file f) passed in
             (omega (arith, p .long), p .short, rw (sofar .is) (p .few))
 
-        pub edges-more : (e : EdgeRecord) → e ≡ edgeRecord (edgeIn (bodyOf file f))
+        pub edges-more : (e : EdgeRecord) → e ≡ edgeRecord (edgeIn (r .output) (bodyOf file f))
             → EdgesSoFar file from bare (record {
               highest = r .highest;
               output = r .output;
@@ -141,7 +141,7 @@ module _ (file : List ℕ) (from : ℕ) (bare : TypeRecord) where
         unfolding NextIs withEdge typeRecord
         edges-more e q =
             let t = sofar .type in
-            let edge = edgeIn (bodyOf file f) in
+            let edge = edgeIn (t .output) (bodyOf file f) in
             let p = edge-passes t (f .at) (bodyOf file f) passed in
             record {
               type = withEdge t edge;

@@ -59,14 +59,14 @@ pub edges-first : (types : List ModuleType) (t : ModuleType) (from cut : Cut)
 unfolding section typeStage ifPasses
 edges-first types t from clean = refl
 edges-first types t from (broken at) = refl
-edges-first types t from (field f rest) = go (isEdge (tagOf (f .tag))) refl (edges-first types (withEdge t (edgeIn (f .body))) from rest)
+edges-first types t from (field f rest) = go (isEdge (tagOf (f .tag))) refl (edges-first types (withEdge t (edgeIn (t .output) (f .body))) from rest)
   where
     go : (b : Bool) → isEdge (tagOf (f .tag)) ≡ b
-        → typeStage (types ++ (withEdge t (edgeIn (f .body)) ∷ [])) from rest ≡ afterEdges types from (edgeStage (withEdge t (edgeIn (f .body))) rest)
+        → typeStage (types ++ (withEdge t (edgeIn (t .output) (f .body)) ∷ [])) from rest ≡ afterEdges types from (edgeStage (withEdge t (edgeIn (t .output) (f .body))) rest)
         → typeStage (types ++ (t ∷ [])) from (field f rest) ≡ afterEdges types from (edgeStage t (field f rest))
     go true e later =
-        rw (typeStage, e, snoc-some types t, latest-snoc types t, before-snoc types t, edge-added-snoc types t (edgeIn (f .body)), later)
-        (after-if types from (firstOf (edgeTests t (f .at) (f .body))) t (field f rest) (edgeStage (withEdge t (edgeIn (f .body))) rest))
+        rw (typeStage, e, snoc-some types t, latest-snoc types t, before-snoc types t, edge-added-snoc types t (edgeIn (t .output) (f .body)), later)
+        (after-if types from (firstOf (edgeTests t (f .at) (f .body))) t (field f rest) (edgeStage (withEdge t (edgeIn (t .output) (f .body))) rest))
     go false e later =
         let stays : edgeStage t (field f rest) ≡ stopped t (field f rest) = rw e in ap (afterEdges types from) (sym stays)
 

@@ -5,7 +5,6 @@ use mathlib.Core.Path.{_≡_}
 use mathlib.Core.List.{List, [], _∷_, _++_, map}
 use lib.Dec.{T}
 use lib.ListN.{length}
-use Rattle.switch.specs.Conduction.{Edge}
 use Rattle.switch.specs.Modules.{ModuleType, typeInRange, inRange}
 use Rattle.switch.specs.Deciding.{isComplementary}
 use Rattle.switch.specs.declared.ModuleType.{ModuleType as TypeRecord}
@@ -21,10 +20,6 @@ use Rattle.circuit.specs.Stages.{stageOf, ifPasses, edgeStage, fieldPlace, type
 use Rattle.read_fields.specs.Steps.{bodyOf}
 use Rattle.read_types.specs.declared.edges.OneType.{OneType}
 use Rattle.read_types.specs.declared.types.Types.{Types}
-
--- an edge with these nodes, for its ends alone
-abbrev pub edgeBetween : ℕ → ℕ → Edge
-edgeBetween a b = record { first = a; second = b; labels = [] }
 
 -- the type that a record with no edge tells
 abbrev pub bareOf : TypeRecord → ModuleType

@@ -15,14 +15,14 @@ ghost use mathlib.Core.Path.{_≡_};
 ghost use Prim.Native.Nat.{_+_, _≤_};
 ghost use lib.Dec.{ltb};
 ghost use lib.ListN.{length, drop};
-ghost use Rattle.switch.specs.Conduction.{nEnd, badEnds};
+ghost use Rattle.switch.specs.Conduction.{pEnds, nEnd, badEnds};
 ghost use Rattle.switch.specs.Modules.{allOf};
 ghost use Rattle.circuit.specs.Known.{edgeIn};
 ghost use Rattle.circuit.specs.Table.{firstOf, edgeTestsOf};
 ghost use Rattle.circuit.specs.Records.{edgeRecord, unusedEdge};
 ghost use Rattle.circuit.specs.Refusals.{verdictOf};
 ghost use Rattle.read_fields.specs.Steps.{bodyOf};
-ghost use Rattle.read_types.specs.ReadTypes.{edgeBetween, BareType, EdgesRead};
+ghost use Rattle.read_types.specs.ReadTypes.{BareType, EdgesRead};
 
 // A type with its edges, and where reading goes on.
 pub struct OneType {
@@ -38,6 +38,7 @@ pub fn no_edge() -> Edge
     Edge {
         first: 0,
         second: 0,
+        p_channel: false,
         count: 0,
         labels: [0u8; 4],
     }
@@ -68,13 +69,20 @@ fn n_end(h: u8, o: u8, m: u8) -> bool
     is_between(o, h, m)
 }
 
+// Whether an edge with these ends is p-channel, in a type with the output node o.
+fn p_ends(o: u8, a: u8, b: u8) -> bool
+    ensures { λ r. ⌜ r ≡ pEnds o a b ⌝ }
+{
+    is_between(1, o, a) && is_between(1, o, b)
+}
+
 fn bad_nodes(h: u8, o: u8, a: u8, b: u8) -> bool
-    ensures { λ r. ⌜ r ≡ badEnds h o (edgeBetween a b) ⌝ }
+    ensures { λ r. ⌜ r ≡ badEnds h o a b ⌝ }
 {
     if a == b {
         return true;
     }
-    if is_between(1, o, a) && is_between(1, o, b) {
+    if p_ends(o, a, b) {
         return false;
     }
     !(n_end(h, o, a) && n_end(h, o, b))
@@ -98,21 +106,24 @@ fn edge_verdict(file: &[u8], f: Field, h: u8, o: u8, k: u8, count: usize) -> Ref
     or_if(v, bad_nodes(h, o, a, b), Refusal::BadEnds(f.at))
 }
 
-// The edge of a field that has passed its tests.
-fn edge_in(file: &[u8], f: Field) -> Edge
+// The edge of a field that has passed its tests, in a type with the output node o.
+fn edge_in(file: &[u8], f: Field, o: u8) -> Edge
     requires { ⌜ f .body + f .len ≤ length (now file) ⌝ }
     requires { ⌜ (2 ≤ f .len) × (f .len ≤ 6) ⌝ }
-    ensures { λ r. ⌜ r ≡ edgeRecord (edgeIn (bodyOf (now (file .entry)) f)) ⌝ }
+    ensures { λ r. ⌜ r ≡ edgeRecord (edgeIn o (bodyOf (now (file .entry)) f)) ⌝ }
 {
     let len = f.len;
+    let a = byte(file, f, 0);
+    let b = byte(file, f, 1);
     let mut labels = [0u8; 4];
     labels[0] = byte(file, f, 2);
     labels[1] = byte(file, f, 3);
     labels[2] = byte(file, f, 4);
     labels[3] = byte(file, f, 5);
     Edge {
-        first: byte(file, f, 0),
-        second: byte(file, f, 1),
+        first: a,
+        second: b,
+        p_channel: p_ends(o, a, b),
         count: (len - 2) as u8,
         labels,
     }
@@ -150,7 +161,7 @@ pub fn read_edges(file: &[u8], from: usize, bare: ModuleType) -> OneType
                 module_type,
             };
         }
-        let e = edge_in(file, f);
+        let e = edge_in(file, f, module_type.output);
         module_type.edges[count] = e;
         module_type.count = count + 1;
         at = f.body + f.len;

@@ -9,7 +9,7 @@ use mathlib.Core.List.{List, [], _∷_}
 use lib.Dec.{T}
 use Rattle.words.specs.Bits.{pack}
 use Rattle.words.proofs.Laws.{bit-pack, pack-lt}
-use Rattle.switch.specs.Conduction.{Value, at0, at1, atX, Edge, Channel, p-channel, n-channel, channelOf, transistorOn, anyOf, edgeOn}
+use Rattle.switch.specs.Conduction.{Value, at0, at1, atX, Edge, Channel, p-channel, n-channel, transistorOn, anyOf, edgeOn}
 use Rattle.switch.specs.Conduction.{Link, Among, Joined, ground, supply}
 use Rattle.switch.specs.Modules.{ModuleType, inRange, linksOf, valueOfBit, settingOf}
 use Rattle.switch.specs.Modules.{ExactlyOne, only-first, only-second, Complementary}
@@ -38,19 +38,19 @@ any-more f g h [] t = t
 any-more f g h (a ∷ as′) t = or-more (f a) (anyOf f as′) (g a) (anyOf g as′) (h a) (any-more f g h as′) t
 
 module _ (values finer : ℕ → Value) (refines : Refines values finer) where
-  pub edge-stays-on : (o : ℕ) (e : Edge) → T (edgeOn o values e) → T (edgeOn o finer e)
+  pub edge-stays-on : (e : Edge) → T (edgeOn values e) → T (edgeOn finer e)
   unfolding edgeOn
-  edge-stays-on o e t =
+  edge-stays-on e t =
       any-more
-      (λ (l : ℕ). transistorOn (channelOf o e) (values l))
-      (λ (l : ℕ). transistorOn (channelOf o e) (finer l))
-      (λ l. stays-on (channelOf o e) (values l) (finer l) (refines l))
+      (λ (l : ℕ). transistorOn (e .channel) (values l))
+      (λ (l : ℕ). transistorOn (e .channel) (finer l))
+      (λ l. stays-on (e .channel) (values l) (finer l) (refines l))
       (e .labels)
       t
 
   pub link-stays : (t : ModuleType) (w : Link) → Among w (linksOf t values) → Among w (linksOf t finer)
   unfolding linksOf
-  link-stays t w m = links-more (t .output) values finer (t .edges) (edge-stays-on (t .output)) w m
+  link-stays t w m = links-more values finer (t .edges) edge-stays-on w m
 
   pub stays-joined : (t : ModuleType) (a b : ℕ) → Joined (linksOf t values) a b → Joined (linksOf t finer) a b
   stays-joined t a b p = more-links (linksOf t values) (linksOf t finer) (link-stays t) a b p

@@ -5,7 +5,7 @@ use mathlib.Core.Bool.{Bool, true, false, _||_, not}
 use native.Mathlib.Omega.{arith}
 use borrow.Author.Tests.{eqb-true, eqb-false}
 use lib.Dec.{T, leb, eqb, leb→le}
-use Rattle.switch.specs.Conduction.{Edge, between, pEnds, nEnd, nEnds, badEnds}
+use Rattle.switch.specs.Conduction.{between, pEnds, nEnd, nEnds, badEnds}
 use Rattle.switch.specs.Statements.{OneChannel}
 use Rattle.switch.proofs.Paths.{both}
 
@@ -23,21 +23,21 @@ on-both h o m p n = at (eqb m 0) refl n
     at true e t = absurd (omega (arith, eqb-true m 0 e, in-between 1 o m p .0))
     at false e t = omega (arith, in-between 1 o m p .1, in-between o h m t .0)
 
-equal-ends : (h o : ℕ) (e : Edge) → T (pEnds o e) → T (nEnds h o e) → e .first ≡ e .second
+equal-ends : (h o a b : ℕ) → T (pEnds o a b) → T (nEnds h o a b) → a ≡ b
 unfolding pEnds nEnds
-equal-ends h o e p n =
-    let ps = both (between 1 o (e .first)) (between 1 o (e .second)) p in
-    let ns = both (nEnd h o (e .first)) (nEnd h o (e .second)) n in
-    on-both h o (e .first) (ps .0) (ns .0) ∙ sym (on-both h o (e .second) (ps .1) (ns .1))
+equal-ends h o a b p n =
+    let ps = both (between 1 o a) (between 1 o b) p in
+    let ns = both (nEnd h o a) (nEnd h o b) n in
+    on-both h o a (ps .0) (ns .0) ∙ sym (on-both h o b (ps .1) (ns .1))
 
 pub one-channel : OneChannel
 unfolding badEnds
-one-channel h o e good = at (eqb (e .first) (e .second)) (pEnds o e) (nEnds h o e) refl refl refl good
+one-channel h o a b good = at (eqb a b) (pEnds o a b) (nEnds h o a b) refl refl refl good
   where
-    at : (q p n : Bool) → eqb (e .first) (e .second) ≡ q → pEnds o e ≡ p → nEnds h o e ≡ n → (q || not (p || n)) ≡ false → p ≡ not n
+    at : (q p n : Bool) → eqb a b ≡ q → pEnds o a b ≡ p → nEnds h o a b ≡ n → (q || not (p || n)) ≡ false → p ≡ not n
     at q true false eq ep en g = refl
     at q false true eq ep en g = refl
     at true true true eq ep en g = absurd (subst T g tt)
     at true false false eq ep en g = absurd (subst T g tt)
     at false false false eq ep en g = absurd (subst T g tt)
-    at false true true eq ep en g = absurd (eqb-false (e .first) (e .second) eq (equal-ends h o e (subst T (sym ep) tt) (subst T (sym en) tt)))
+    at false true true eq ep en g = absurd (eqb-false a b eq (equal-ends h o a b (subst T (sym ep) tt) (subst T (sym en) tt)))

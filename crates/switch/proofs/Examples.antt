@@ -5,7 +5,7 @@ use mathlib.Core.Bool.{true}
 use native.Mathlib.Omega.{arith}
 use lib.Dec.{T}
 use Rattle.words.specs.Bits.{bit}
-use Rattle.switch.specs.Conduction.{between, pEnds, channelOf, transistorOn, anyOf, edgeOn, links}
+use Rattle.switch.specs.Conduction.{between, transistorOn, anyOf, edgeOn, links}
 use Rattle.switch.specs.Modules.{allOf, typeInRange, edgeInRange, inRange, linksOf, valueOfBit, settingOf}
 use Rattle.switch.specs.Deciding.{rename, partIn, renamings, joins, allBelow, oneRail, isComplementary}
 use Rattle.switch.specs.Records.{edgeOf, edgesOf, typeOf}
@@ -14,7 +14,7 @@ use Rattle.switch.proofs.Deciding.{complementary-decides}
 
 nand-complementary : isComplementary nand ≡ true
 unfolding edge nand
-    bit between pEnds channelOf transistorOn anyOf edgeOn links linksOf valueOfBit settingOf
+    bit transistorOn anyOf edgeOn links linksOf valueOfBit settingOf
     rename partIn renamings joins allBelow oneRail isComplementary
 nand-complementary = refl
 

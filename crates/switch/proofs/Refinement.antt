@@ -122,7 +122,7 @@ module _ (values finer : ℕ → Value) (refines : Refines values finer) where
 
 pub refinement-keeps : RefinementKeeps
 refinement-keeps t acc values finer refines = record {
-  on-edge = edge-stays-on values finer refines (t .output);
+  on-edge = edge-stays-on values finer refines;
   joining = stays-joined values finer refines t;
   output = output-stays t acc values finer refines;
   mark = mark-stays values finer refines t;

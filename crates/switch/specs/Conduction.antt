@@ -1,4 +1,5 @@
--- 01, "Conduction": values 0, 1, X; channels by position; transistors and edges that are on; paths over on edges; joined nodes.
+-- 01, "Conduction": values 0, 1, X; channels, and the rule that gives them by position; transistors and edges that are on; paths over on
+-- edges; joined nodes.
 use Prim.Native.Nat.{ℕ}
 use mathlib.Core.Bool.{Bool, true, false, cond, _&&_, _||_, not}
 use mathlib.Core.List.{List, [], _∷_, List·Memᴰ}
@@ -16,37 +17,40 @@ ground = 0
 abbrev pub supply : ℕ
 supply = 1
 
--- an edge of a module type: its two nodes, and the labels of its parallel transistors
-pub record Edge : Type 0 where
-  pub first : ℕ
-  pub second : ℕ
-  pub labels : List ℕ
-
 pub data Channel : Type 0 where
   p-channel : Channel
   n-channel : Channel
 
+-- an edge of a module type: its two nodes, its channel, and the labels of its parallel transistors
+pub record Edge : Type 0 where
+  pub first : ℕ
+  pub second : ℕ
+  pub channel : Channel
+  pub labels : List ℕ
+
 unfoldable pub between : ℕ → ℕ → ℕ → Bool
 between low high m = leb low m && leb m high
 
--- the channel rule, in a type with the highest node h and the output node o. An edge with both ends in 1 to o is p-channel
-unfoldable pub pEnds : ℕ → Edge → Bool
-pEnds o e = between 1 o (e .first) && between 1 o (e .second)
+-- the channel rule, of an edge with the ends a and b in a type with the highest node h and the output node o: with both ends in 1 to o it
+-- is p-channel
+unfoldable pub pEnds : ℕ → ℕ → ℕ → Bool
+pEnds o a b = between 1 o a && between 1 o b
 
--- an edge with both ends in o to h, or 0, is n-channel
+-- with both ends in o to h, or 0, it is n-channel
 unfoldable pub nEnd : ℕ → ℕ → ℕ → Bool
 nEnd h o m = eqb m ground || between o h m
 
-unfoldable pub nEnds : ℕ → ℕ → Edge → Bool
-nEnds h o e = nEnd h o (e .first) && nEnd h o (e .second)
+unfoldable pub nEnds : ℕ → ℕ → ℕ → ℕ → Bool
+nEnds h o a b = nEnd h o a && nEnd h o b
 
 -- any other edge is refused, as is one with equal ends (refusal 8, which reading gives)
-unfoldable pub badEnds : ℕ → ℕ → Edge → Bool
-badEnds h o e = eqb (e .first) (e .second) || not (pEnds o e || nEnds h o e)
+unfoldable pub badEnds : ℕ → ℕ → ℕ → ℕ → Bool
+badEnds h o a b = eqb a b || not (pEnds o a b || nEnds h o a b)
 
--- so of the edges that are not refused each is of one channel: only an edge from o to o would be of both, and it has equal ends
-unfoldable pub channelOf : ℕ → Edge → Channel
-channelOf o e = cond (pEnds o e) p-channel n-channel
+-- so of the edges that are not refused each is of one channel: only an edge from o to o would be of both, and it has equal ends. Reading
+-- takes an edge's channel from here; nothing else asks where its ends are
+unfoldable pub channelOf : ℕ → ℕ → ℕ → Channel
+channelOf o a b = cond (pEnds o a b) p-channel n-channel
 
 -- a transistor is on when its label is known and is 0 (p) or 1 (n)
 unfoldable pub transistorOn : Channel → Value → Bool
@@ -62,17 +66,17 @@ anyOf test [] = false
 anyOf test (a ∷ as′) = test a || anyOf test as′
 
 -- an edge is on when at least one of its transistors is
-unfoldable pub edgeOn : ℕ → (ℕ → Value) → Edge → Bool
-edgeOn o values e = anyOf (λ (l : ℕ). transistorOn (channelOf o e) (values l)) (e .labels)
+unfoldable pub edgeOn : (ℕ → Value) → Edge → Bool
+edgeOn values e = anyOf (λ (l : ℕ). transistorOn (e .channel) (values l)) (e .labels)
 
 -- a link: the two nodes of an edge that is on, or of a bridge that is closed
 abbrev pub Link : Type 0
 Link = ℕ × ℕ
 
--- the links of the on edges of a type with the output node o
-unfoldable pub links : ℕ → (ℕ → Value) → List Edge → List Link
-links o values [] = []
-links o values (e ∷ es) = let rest = links o values es in cond (edgeOn o values e) ((e .first, e .second) ∷ rest) rest
+-- the links of the on edges
+unfoldable pub links : (ℕ → Value) → List Edge → List Link
+links values [] = []
+links values (e ∷ es) = let rest = links values es in cond (edgeOn values e) ((e .first, e .second) ∷ rest) rest
 
 abbrev pub Among : Link → List Link → Type 0
 Among w ws = List·Memᴰ w ws

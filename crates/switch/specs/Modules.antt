@@ -44,7 +44,7 @@ unfoldable pub inRange : ModuleType → Bool
 inRange t = typeInRange (t .highest) (t .output) (t .labels) && allOf (edgeInRange (t .highest) (t .labels)) (t .edges)
 
 unfoldable pub linksOf : ModuleType → (ℕ → Value) → List Link
-linksOf t values = links (t .output) values (t .edges)
+linksOf t values = links values (t .edges)
 
 unfoldable pub valueOfBit : ℕ → Value
 valueOfBit zero = at0

@@ -2,22 +2,37 @@
 -- be one of 01's.
 use Prim.Native.Nat.{ℕ, zero, suc, _≤_, _<_}
 use mathlib.Core.Path.{_≡_}
+use mathlib.Core.Bool.{Bool, true, false}
 use mathlib.Core.List.{List, [], map}
 use lib.Dec.{T, leb}
 use lib.ListN.{length, take, getD}
 use Rattle.words.specs.Bits.{bit}
-use Rattle.switch.specs.Conduction.{Value, at0, at1, atX, Edge}
+use Rattle.switch.specs.Conduction.{Value, at0, at1, atX, Edge, Channel, p-channel, n-channel}
 use Rattle.switch.specs.Modules.{ModuleType, mostEdges, mostLabels, mostParallel, allOf, inRange}
 use Rattle.switch.specs.declared.Edge.{Edge as EdgeRecord}
 use Rattle.switch.specs.declared.ModuleType.{ModuleType as TypeRecord}
 
 -- what stands past the end of a list of edge records
 abbrev pub noEdge : EdgeRecord
-noEdge = record { first = 0; second = 0; count = 0; labels = [] }
+noEdge = record { first = 0; second = 0; «p_channel» = false; count = 0; labels = [] }
+
+-- the channel that a record tells, and how it tells one
+abbrev pub channelBy : Bool → Channel
+channelBy true = p-channel
+channelBy false = n-channel
+
+abbrev pub isP : Channel → Bool
+isP p-channel = true
+isP n-channel = false
 
 -- the edge of a record: of its four places for labels the first `count` are used
 unfoldable pub edgeOf : EdgeRecord → Edge
-edgeOf r = record { first = r .first; second = r .second; labels = take (r .count) (r .labels) }
+edgeOf r = record {
+  first = r .first;
+  second = r .second;
+  channel = channelBy (r .«p_channel»);
+  labels = take (r .count) (r .labels);
+}
 
 unfoldable pub edgesOf : List EdgeRecord → List Edge
 edgesOf rs = map edgeOf rs

@@ -16,7 +16,7 @@ use Rattle.switch.specs.Promises.{railWords, planes, planesOf}
 
 -- 01, "Conduction": an edge that is not refused is p-channel or n-channel, and not both
 abbrev pub OneChannel : Type 0
-OneChannel = (h o : ℕ) (e : Edge) → badEnds h o e ≡ false → pEnds o e ≡ not (nEnds h o e)
+OneChannel = (h o a b : ℕ) → badEnds h o a b ≡ false → pEnds o a b ≡ not (nEnds h o a b)
 
 -- the tests decide
 abbrev pub JoinsDecides : Type 0
@@ -61,7 +61,7 @@ Refines values finer = (l : ℕ) → (values l ≡ atX) ⊎ (finer l ≡ values 
 
 -- (b) refined values keep every on edge, every joining, every known output and every mark
 pub record KeptByRefining (t : ModuleType) (values finer : ℕ → Value) : Type 0 where
-  pub on-edge : (e : Edge) → T (edgeOn (t .output) values e) → T (edgeOn (t .output) finer e)
+  pub on-edge : (e : Edge) → T (edgeOn values e) → T (edgeOn finer e)
   pub joining : (a b : ℕ) → Joined (linksOf t values) a b → Joined (linksOf t finer) a b
   pub output : (outputValue t values ≡ atX) ⊎ (outputValue t finer ≡ outputValue t values)
   pub mark : (bridge : Bridge) → Marked t values bridge → Marked t finer bridge

@@ -9,10 +9,11 @@ pub const MOST_LABELS: usize = 12;
 
 pub const MOST_PARALLEL: usize = 4;
 
-// An edge of a module type: two nodes, and one to four labels of parallel transistors.
+// An edge of a module type: two nodes, its channel, and one to four labels of parallel transistors.
 pub struct Edge {
     pub first: u8,
     pub second: u8,
+    pub p_channel: bool,
     pub count: u8,
     pub labels: [u8; MOST_PARALLEL],
 }

@@ -18,15 +18,15 @@ use Rattle.join_nodes.proofs.conduction.edge_words.Statement.{statement
 use Rattle.join_nodes.proofs.conduction.edge_words.Tie as tie
 
 -- word w of an edge
-abbrev wordAt : ℕ → List ℕ → List ℕ → ℕ → Edge → ℕ → ℕ
-wordAt o ones zeros width e w = onWord o (wordOfEach width w 12 ones) (wordOfEach width w 12 zeros) e
+abbrev wordAt : List ℕ → List ℕ → ℕ → Edge → ℕ → ℕ
+wordAt ones zeros width e w = onWord (wordOfEach width w 12 ones) (wordOfEach width w 12 zeros) e
 
 abbrev Inv-loop : tie.InvT-loop
-Inv-loop e output ones zeros width on₀ at w₀ on w =
-    (w ≤ width) × (length on ≡ length on₀) × (on ≡ written on₀ at (table w (wordAt output ones zeros width (edgeOf e))))
+Inv-loop e ones zeros width on₀ at w₀ on w =
+    (w ≤ width) × (length on ≡ length on₀) × (on ≡ written on₀ at (table w (wordAt ones zeros width (edgeOf e))))
 
 abbrev μ-loop : tie.MeasureT-loop
-μ-loop e output ones zeros width on₀ at w₀ on w = width - w
+μ-loop e ones zeros width on₀ at w₀ on w = width - w
 
 loop-holds : tie.Need-loop-holds Inv-loop μ-loop
 unfolding table
@@ -62,7 +62,7 @@ loop-again c =
       omega arith,
       simp length-set (loop .inv .1),
       rw (add-one, c .on-word .ensures, loop .inv .2)
-          (set-table-behind (now (a .on)) (a .at) (loop .w) (wordAt (a .output) (now (a .ones)) (now (a .zeros)) (a .width) e) (a .at + loop .w) _ refl (omega arith) refl),
+          (set-table-behind (now (a .on)) (a .at) (loop .w) (wordAt (now (a .ones)) (now (a .zeros)) (a .width) e) (a .at + loop .w) _ refl (omega arith) refl),
     )
 
 same-length : tie.Need-same-length Inv-loop μ-loop

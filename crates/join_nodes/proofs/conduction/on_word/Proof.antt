@@ -13,13 +13,10 @@ use Rattle.join_nodes.proofs.conduction.on_word.Statement.{statement}
 use Rattle.join_nodes.proofs.conduction.on_word.Tie as tie
 
 abbrev Inv-loop : tie.InvT-loop
-Inv-loop output ones zeros width w p labels count on₀ j₀ on j = (j ≤ count) × (on ≡ orTo p (wordOfEach width w 12 ones) (wordOfEach width w 12 zeros) labels j)
+Inv-loop ones zeros width w p labels count on₀ j₀ on j = (j ≤ count) × (on ≡ orTo p (wordOfEach width w 12 ones) (wordOfEach width w 12 zeros) labels j)
 
 abbrev μ-loop : tie.MeasureT-loop
-μ-loop output ones zeros width w p labels count on₀ j₀ on j = count - j
-
-is-p-requires : tie.Need-is-p-requires Inv-loop μ-loop
-is-p-requires c κs = search needs
+μ-loop ones zeros width w p labels count on₀ j₀ on j = count - j
 
 cast-count : tie.Need-cast-count Inv-loop μ-loop
 cast-count c = omega arith
@@ -29,7 +26,7 @@ unfolding orTo
 loop-holds c = (omega arith, refl)
 
 abbrev start : tie.In-loop Inv-loop μ-loop → tie.Start Inv-loop μ-loop
-start c = c .before .before .before .before .before .before .before
+start c = c .before .before .before .before .before .before
 
 -- a label that a turn reads
 abbrev label : tie.In-loop Inv-loop μ-loop → ℕ
@@ -98,13 +95,13 @@ loop-again c =
 
 returns : tie.Need-returns Inv-loop μ-loop
 returns c =
-    let at = c .before .before .before .before .before .before .before in
+    let at = c .before .before .before .before .before .before in
     let a = at .args in
     let e : Edge = a .e in
     let long : length (e .labels) ≡ 4 = search needs in
     let done : c .before .loop .j ≡ e .count = omega arith in
-    rw (c .before .loop .inv .1, done, c .before .before .before .before .is-p .ensures)
-    (on-word-is (a .output) (wordOfEach (a .width) (a .w) 12 (a .ones .now)) (wordOfEach (a .width) (a .w) 12 (a .zeros .now)) e (omega (arith, at .pre .0 .places)))
+    rw (c .before .loop .inv .1, done)
+    (on-word-is (wordOfEach (a .width) (a .w) 12 (a .ones .now)) (wordOfEach (a .width) (a .w) 12 (a .zeros .now)) e (omega (arith, at .pre .0 .places)))
 
 pub on-word-spec : {M : Type 1} → statement M
 on-word-spec =
@@ -112,7 +109,6 @@ on-word-spec =
     (tie.spec
     Inv-loop
     μ-loop
-    is-p-requires
     cast-count
     loop-holds
     array-read-l

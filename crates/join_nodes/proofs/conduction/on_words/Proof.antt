@@ -12,16 +12,16 @@ use Rattle.join_nodes.proofs.conduction.on_words.Statement.{statement}
 use Rattle.join_nodes.proofs.conduction.on_words.Tie as tie
 
 abbrev Inv-loop : tie.InvT-loop
-Inv-loop count output ones zeros width on₀ edges i₀ on i = (i ≤ count) × WideOn output ones zeros edges i width on
+Inv-loop count ones zeros width on₀ edges i₀ on i = (i ≤ count) × WideOn ones zeros edges i width on
 
 abbrev μ-loop : tie.MeasureT-loop
-μ-loop count output ones zeros width on₀ edges i₀ on i = count - i
+μ-loop count ones zeros width on₀ edges i₀ on i = count - i
 
 loop-holds : tie.Need-loop-holds Inv-loop μ-loop
 loop-holds c =
     let start = c .before .before .before in
     let a = start .args in
-    (omega arith, rw (start .pre .1 .1) (wide-on-none (a .output) (now (a .ones)) (now (a .zeros)) (a .t1) (a .width)))
+    (omega arith, rw (start .pre .1 .1) (wide-on-none (now (a .ones)) (now (a .zeros)) (a .t1) (a .width)))
 
 mul-e : tie.Need-mul-e Inv-loop μ-loop
 mul-e c = omega arith
@@ -57,7 +57,7 @@ loop-again c =
     let call = c .before .before in
     let a = call .before .before .before .before .before .before .before .before .args in
     let loop = call .before .before .before .before .loop in
-    (omega arith, rw (add-one, call .edge-words .ensures) (wide-on-more (a .output) (now (a .ones)) (now (a .zeros)) (a .t1) (a .width) (loop .i) (loop .on) (omega arith) (loop .inv .1)))
+    (omega arith, rw (add-one, call .edge-words .ensures) (wide-on-more (now (a .ones)) (now (a .zeros)) (a .t1) (a .width) (loop .i) (loop .on) (omega arith) (loop .inv .1)))
 
 same-length : tie.Need-same-length Inv-loop μ-loop
 same-length c =

@@ -4,6 +4,7 @@ use mathlib.Core.Path.{_≡_, refl, sym, subst}
 use mathlib.Core.WellFounded.{WellFounded, InvImage·wf}
 use Prim.Native.Nat.{ℕ, _+_, _-_, _*_, _≤_, _<_, _^_}
 use native.Mathlib.Omega.{arith}
+use mathlib.Core.Bool.{false}
 use mathlib.Core.List.{List, [], _∷_}
 use lib.Dec.{T, ltb, ltb→lt, nltb→le, lit<}
 use lib.ListN.{length, getD, set, take, replicate, length-replicate}
@@ -23,7 +24,7 @@ use contract.Running.{givenOf, tables, tablesOf}
 use types.Kit.{Given, Item, ‵, raw, some, _⊛_, ⋆, runs, anyQ, atRet, Sq, _$_, _∵_, !, qed, by, move, keep, drop, use1, use2, split, pick, rewrite, fsplit, fjoin, feqI, suffices, done}
 use types.Part.{whole, sub, look-in, agg, rep}
 use types.Share.{arr-parts}
-use types.Run.{look, store, store-raw, init, forget, stop, hop, fld, from, load, lit, of-opd, bin, addr, and-then, no-more, assigns, assigns-last, land, first, skips, jumps, blocks, branches, returns, enter, alloc1, alloc0, params1, pass1, pass0, free1, free0, exec, Below, again, loops}
+use types.Run.{look, store, store-raw, init, forget, stop, hop, fld, from, load, lit, false-lit, of-opd, bin, addr, and-then, no-more, assigns, assigns-last, land, first, skips, jumps, blocks, branches, returns, enter, alloc1, alloc0, params1, pass1, pass0, free1, free0, exec, Below, again, loops}
 use sound.WpLaws.{FmC, fmOf, WpFn-mono}
 use denote.RattleType.{RattleType, owns}
 use denote.Laws.{Is, shows}
@@ -73,10 +74,10 @@ E64 = Array T.the-row 64
 
 -- the edge in a place that is not used yet, and its machine value
 abbrev none : Edge
-none = record { first = 0; second = 0; count = 0; labels = 0 ∷ 0 ∷ 0 ∷ 0 ∷ [] }
+none = record { first = 0; second = 0; «p_channel» = false; count = 0; labels = 0 ∷ 0 ∷ 0 ∷ 0 ∷ [] }
 
 abbrev none-is : Is T.the-row none (LL.val T.the-type T′.the-laws none ∷ [])
-none-is = LL.owes T.the-type T′.the-laws none ((refl, lit< tt), ((refl, lit< tt), ((refl, lit< tt), ((vint w8 0 ∷ vint w8 0 ∷ vint w8 0 ∷ vint w8 0 ∷ [], ((refl, refl), ((refl, lit< tt), ((refl, lit< tt), ((refl, lit< tt), ((refl, lit< tt), tt)))))), tt))))
+none-is = LL.owes T.the-type T′.the-laws none ((refl, lit< tt), ((refl, lit< tt), (refl, ((refl, lit< tt), ((vint w8 0 ∷ vint w8 0 ∷ vint w8 0 ∷ vint w8 0 ∷ [], ((refl, refl), ((refl, lit< tt), ((refl, lit< tt), ((refl, lit< tt), ((refl, lit< tt), tt)))))), tt)))))
 
 -- ---- the types of the locals, and the parts of the loop that the MIR has under no name
 abbrev slice : Ty
@@ -93,7 +94,7 @@ array = tyArray T′.mir 64
 
 abbrev more : Body
 more = seq (call #edge-at (copy (place 1 []) ∷ copy (place 7 []) ∷ []) (place 11 []))
-    (seq (assign (place 9 []) (op2 (mul unsigned) (copy (place 7 [])) (int w64 7)))
+    (seq (assign (place 9 []) (op2 (mul unsigned) (copy (place 7 [])) (int w64 8)))
     (seq (assign (place 12 []) (addrOf (place 6 [])))
     (seq (assign (place 13 []) (op2 offset (copy (place 12 [])) (copy (place 9 []))))
     (seq (assign (place 13 (deref T′.mir ∷ [])) (rvOpd (copy (place 11 []))))
@@ -220,7 +221,7 @@ module _ {M : Type 1} (𝓤 : URA M) (H : Heap 𝓤) (A : Atoms 𝓤) (W : Given
     copies i h =
         let inside : i .0 < length (i .1) = omega (arith, i .3 .places, h, few) in
         let fits : i .0 < 2 ^ 64 = omega (arith, h, few) in
-        let fits7 : i .0 * 7 < 2 ^ 64 = omega (arith, h, few) in
+        let fits8 : i .0 * 8 < 2 ^ 64 = omega (arith, h, few) in
         let fits1 : i .0 + 1 < 2 ^ 64 = omega (arith, h, few) in
         move ! (30 ∷ []) $ use1 W (‵ Own ⊛ ‵ Own) (shr-slice-copy 𝓤 H A W (named 0) κ T.the-row .twice s (v ∷ [])) $ split ! $
         nothing ! $ owned ! usize (Is usize) (uint-makes 𝓤 H A W w64) (i .0) (vint w64 (i .0) ∷ []) (refl, fits) $ fjoin ! $ move ! (1 ∷ 0 ∷ []) $ fjoin ! $
@@ -230,10 +231,10 @@ module _ {M : Type 1} (𝓤 : URA M) (H : Heap 𝓤) (A : Atoms 𝓤) (W : Given
         T.the-row Token (Said (i .0)) (λ e. e ≡ getD ys (i .0) noEdge) (λ u. id⊢ 𝓤 _) (told (i .0)) (λ u e is-at is.
         -- [what the edge owns; the token; what the slice owns; _14; …]
         land ! (from ! (stop !)) (init ! 9 refl (LL.lawful T.the-type T′.the-laws 𝓤 H A W .typed e _ is .0)) $
-        assigns ! (bin ! (load ! (from ! (stop !)) (look ! 17 refl)) (lit ! tt) (record { fits = fits7 })) (from ! (stop !)) (store ! 13 refl (tt, record { fits = fits7 })) $
+        assigns ! (bin ! (load ! (from ! (stop !)) (look ! 17 refl)) (lit ! tt) (record { fits = fits8 })) (from ! (stop !)) (store ! 13 refl (tt, record { fits = fits8 })) $
         assigns ! (addr ! (from ! (stop !))) (from ! (stop !)) (init ! 7 refl (tt, tt)) $
         assigns ! (bin ! (load ! (from ! (stop !)) (look ! 7 refl)) (load ! (from ! (stop !)) (look ! 13 refl)) tt) (from ! (stop !)) (init ! 5 refl (tt, tt)) $
-        rewrite ! 5 (λ (p : ℕ). ‵ (fat fullShare tyPtr m₃ 0 (vptr l₆ p))) (sym (place-is 7 0 (i .0))) refl $
+        rewrite ! 5 (λ (p : ℕ). ‵ (fat fullShare tyPtr m₃ 0 (vptr l₆ p))) (sym (place-is 8 0 (i .0))) refl $
         move ! (19 ∷ []) $ elem-out ! T.the-row (Is T.the-row) (shows 𝓤 H A T.the-row) (LL.vals T.the-type T′.the-laws) (LL.tells T.the-type T′.the-laws) fullShare (i .1) (i .0) noEdge l₆ 0 inside (λ g.
         -- [the place; what stood there; the others; what the edge owns; the token; what the slice owns; _14; …]
         assigns ! (of-opd ! (load ! (from ! (stop !)) (look ! 12 refl))) (from ! (hop ! (look ! 8 refl) (stop !))) (store-raw ! 0 refl (LL.lawful T.the-type T′.the-laws 𝓤 H A W .typed e _ is .0)) $
@@ -285,7 +286,7 @@ module _ {M : Type 1} (𝓤 : URA M) (H : Heap 𝓤) (A : Atoms 𝓤) (W : Given
     blank : Sq W (Locals (froom tyBool m₀ 0) (froom word l₉ 0) (froom (tyArray byte 4) l₈ 0) (froom word l₇ 0) (froom array l₆ 0) (froom T′.mir l₅ 0) (Token ∷ ‵ Owns ∷ [])) (runs C Λ En (code.function .body) (atRet En Post))
     blank =
         assigns ! (rep ! 4 (lit ! tt)) (from ! (stop !)) (init ! 12 refl (tt, (record { fits = lit< tt }, (record { fits = lit< tt }, (record { fits = lit< tt }, (record { fits = lit< tt }, tt)))))) $
-        assigns ! (agg ! (and-then ! (lit ! tt) (and-then ! (lit ! tt) (and-then ! (lit ! tt) (and-then ! (load ! (from ! (stop !)) (look ! 12 refl)) (no-more !)))))) (from ! (stop !)) (init ! 18 refl (LL.lawful T.the-type T′.the-laws 𝓤 H A W .typed none _ none-is .0)) $
+        assigns ! (agg ! (and-then ! (lit ! tt) (and-then ! (lit ! tt) (and-then ! (false-lit !) (and-then ! (lit ! tt) (and-then ! (load ! (from ! (stop !)) (look ! 12 refl)) (no-more !))))))) (from ! (stop !)) (init ! 18 refl (LL.lawful T.the-type T′.the-laws 𝓤 H A W .typed none _ none-is .0)) $
         owned ! T.the-row (Is T.the-row) (LL.makes T.the-type T′.the-plain 𝓤 H A) none _ none-is $
         use1 W (‵ (E64 .own (replicate 64 none) (arrayVal (replicate 64 (LL.val T.the-type T′.the-laws none)) ∷ []))) (array-repeat 𝓤 H A W T.the-row (LL.copy T.the-type T′.the-copy 𝓤 H A W) 64 none (LL.val T.the-type T′.the-laws none)) $
         peeks ! E64 (Is E64) (shows 𝓤 H A E64) (replicate 64 none) (arrayVal (replicate 64 (LL.val T.the-type T′.the-laws none)) ∷ []) (λ is.

@@ -10,7 +10,7 @@ use borrow.Author.Needs.{needs}
 use borrow.Author.Tests.{le-leb, lt-leb, lt-ltb, ltb-true, ltb-false}
 use lib.Dec.{leb, ltb}
 use lib.ListN.{length, getD, drop, length-drop}
-use Rattle.switch.specs.Conduction.{between, pEnds, nEnds, badEnds}
+use Rattle.switch.specs.Conduction.{between, badEnds}
 use Rattle.switch.specs.Modules.{allOf, edgeInRange}
 use Rattle.circuit.specs.Limits.{mostEdges}
 use Rattle.circuit.specs.Known.{edgeIn}
@@ -22,7 +22,6 @@ use Rattle.read_fields.proofs.Bodies.{length-body}
 use Rattle.circuit.proofs.Verdicts.{chain, firstAfter}
 use Rattle.circuit.proofs.RangeLaws.{between-in, between-below, between-above, in-between}
 use Rattle.circuit.proofs.TypeLaws.{and-came}
-use Rattle.read_types.specs.ReadTypes.{edgeBetween}
 use Rattle.read_types.proofs.edges.edge_verdict.Statement.{statement}
 use Rattle.read_types.proofs.edges.edge_verdict.Tie as tie
 
@@ -38,20 +37,15 @@ and-true true = refl
 and-true false = refl
 
 -- so the code's test is that of the table
-counted-range : (h k : ℕ) (body : List ℕ) → between 3 6 (length body) ≡ true
-    → edgeInRange h k (edgeIn body) ≡ (leb (getD body 0 0) h && leb (getD body 1 0) h && allOf (λ (l : ℕ). ltb l k) (drop 2 body))
+counted-range : (h o k : ℕ) (body : List ℕ) → between 3 6 (length body) ≡ true
+    → edgeInRange h k (edgeIn o body) ≡ (leb (getD body 0 0) h && leb (getD body 1 0) h && allOf (λ (l : ℕ). ltb l k) (drop 2 body))
 unfolding edgeInRange edgeIn
-counted-range h k body e = rw (counted body e, and-true (leb (getD body 0 0) h && leb (getD body 1 0) h))
-
--- the ends are judged by the two nodes alone
-ends-same : (h o : ℕ) (body : List ℕ) → badEnds h o (edgeBetween (getD body 0 0) (getD body 1 0)) ≡ badEnds h o (edgeIn body)
-unfolding badEnds pEnds nEnds edgeIn
-ends-same h o body = refl
+counted-range h o k body e = rw (counted body e, and-true (leb (getD body 0 0) h && leb (getD body 1 0) h))
 
 -- the tests one after the other, from their flags
 in-turn : (h o k count at : ℕ) (body : List ℕ) (length-bad range ends-bad : Bool) → length-bad ≡ not (between 3 6 (length body))
     → range ≡ (leb (getD body 0 0) h && leb (getD body 1 0) h && allOf (λ (l : ℕ). ltb l k) (drop 2 body))
-    → ends-bad ≡ badEnds h o (edgeBetween (getD body 0 0) (getD body 1 0))
+    → ends-bad ≡ badEnds h o (getD body 0 0) (getD body 1 0)
     → orIf (orIf (orIf (orIf passes length-bad (refusedAt 5 at)) (leb mostEdges count) (refusedAt 6 at)) (not range) (refusedAt 7 at)) ends-bad (refusedAt 8 at)
     ≡ firstOf (edgeTestsOf h o k count at body)
 unfolding edgeTestsOf firstAfter firstOf orIf
@@ -60,7 +54,7 @@ in-turn h o k count at body length-bad range ends-bad p q r = go (between 3 6 (l
     go : (b : Bool) → between 3 6 (length body) ≡ b
         → orIf (orIf (orIf (orIf passes length-bad (refusedAt 5 at)) (leb mostEdges count) (refusedAt 6 at)) (not range) (refusedAt 7 at)) ends-bad (refusedAt 8 at)
         ≡ firstOf (edgeTestsOf h o k count at body)
-    go true e = rw (p, q, r ∙ ends-same h o body, ← counted-range h k body e) (sym (chain (edgeTestsOf h o k count at body)))
+    go true e = rw (p, q, r, ← counted-range h o k body e) (sym (chain (edgeTestsOf h o k count at body)))
     go false e = rw (p, e)
 
 -- the flag of a length below 3, or at least 3 and above 6

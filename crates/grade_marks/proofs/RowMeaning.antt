@@ -27,7 +27,7 @@ use Rattle.switch.specs.Statements.{Accepted}
 use Rattle.switch.proofs.Paths.{both}
 use Rattle.switch.proofs.Deciding.{same-test, and-both, all-of, joins-decides, mark-decides}
 use Rattle.switch.proofs.Marks.{closed-path-is-ends, at1≢at0, atX≢at0, atX≢at1}
-use Rattle.switch.proofs.Outputs.{bit-railWords}
+use Rattle.switch.proofs.Outputs.{bit-of-values}
 use Rattle.circuit.specs.Circuit.{Circuit, Instance, Listed, Choice, exhaustive, no-faults, list, typeOfInstance, joinLists, nodePairs, nodeInputs}
 use Rattle.circuit.specs.Circuit.{exhaustiveList, userList, chosen, faultsOf}
 use Rattle.circuit.specs.Table.{bridgeSuits, listUnsuited}
@@ -42,7 +42,7 @@ use Rattle.grading.proofs.Everywhere.{Every, every-append, every-at, every-tabl
 use Rattle.grading.proofs.ValueLaws.{InstanceAt, type-ranges, type-accepted, good-at, type-at}
 use Rattle.grade_marks.specs.Model.{vectorAt, outputsAt, InstanceWords, pairWord, inputMarkWord, markWord, vectorsIn, rowsWords}
 use Rattle.grade_marks.proofs.OutputLaws.{label-sees}
-use Rattle.grade_marks.proofs.SignalMeaning.{labelsOf, wordsOf, label-at, node-at, label-ones, label-zeros, label-values}
+use Rattle.grade_marks.proofs.SignalMeaning.{labelsOf, wordsOf, label-at, node-at, label-ones, label-zeros, labels-hold}
 
 -- ---- a bridge of an instance has nodes and labels of its type
 
@@ -195,8 +195,7 @@ module _ (c : Circuit) (i : ℕ) (inst : Instance) (at : InstanceAt c i inst) wh
         bit (getD (railWords t (labelsOf isAt1 c i inst w) (labelsOf isAt0 c i inst w) rail) m 0) v ≡ ofBool (joins (linksOf t values) m rail)
     rail-bit rail m h =
         let t : ModuleType = typeOfInstance (c .types) inst in
-        bit-railWords t (labelsOf isAt1 c i inst w) (labelsOf isAt0 c i inst w) rail m v h hv
-        ∙ ap (λ (x : ℕ → Value). ofBool (joins (linksOf t x) m rail)) (fun-ext (λ l. label-values c i inst at w v l hw hv))
+        bit-of-values t (labelsOf isAt1 c i inst w) (labelsOf isAt0 c i inst w) rail m v values h hv (labels-hold c i inst at w v hw hv)
 
     supply-bit : (m : ℕ) → m < 32
         → bit (getD (wordsOf c i inst .supply) (4 * m + w) 0) v ≡ ofBool (joins (linksOf (typeOfInstance (c .types) inst) values) m supply)

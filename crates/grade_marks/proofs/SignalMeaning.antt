@@ -1,7 +1,7 @@
 -- What the signals' words mean. The words of the vectors' columns are the inputs' planes; a label's words, read from the signals at its reference, are the
 -- planes of its value; the output's planes written behind the signals are the signals with one instance more. Each law is over a plane. Assumes nothing.
 use Prim.Native.Nat.{ℕ, zero, suc, _+_, _-_, _*_, _/_, _%_, _<_, _≤_}
-use mathlib.Core.Path.{_≡_, refl, sym, ap, fun-ext, _∙_}
+use mathlib.Core.Path.{_≡_, refl, sym, ap, _∙_}
 use mathlib.Core.List.{List, [], _∷_, _++_, map}
 use native.Mathlib.Decide.{decLt}
 use native.Mathlib.Omega.{arith}
@@ -17,15 +17,14 @@ use Rattle.words.proofs.Laws.{bit-zero, bit-past, bit-pack, pack-lt, pack-cong,
 use Rattle.words.proofs.Tables.{length-table, getD-table, is-table, table-cong, up-below, up-past}
 use Rattle.words.proofs.EachLaws.{four-at, word-of-four}
 use Rattle.words.proofs.WrittenLaws.{length-written, written-before, written-here, written-after}
-use Rattle.switch.specs.Conduction.{Value, at0, at1, atX, supply, ground}
+use Rattle.switch.specs.Conduction.{Value, atX, supply, ground}
 use Rattle.switch.specs.Modules.{ModuleType}
 use Rattle.switch.specs.Deciding as deciding
-use Rattle.switch.specs.Records.{valueOf, valuesAt}
-use Rattle.switch.specs.Promises.{railWords, fourRailWords, isAt0, isAt1, planes, planesOf}
+use Rattle.switch.specs.Promises.{railWords, fourRailWords, isAt0, isAt1, PlanesHold, planes, planesOf}
 use Rattle.switch.specs.declared.Planes.{Planes}
 use Rattle.switch.proofs.Channels.{in-between}
 use Rattle.switch.proofs.Deciding.{all-of}
-use Rattle.switch.proofs.Outputs.{output-planes}
+use Rattle.switch.proofs.Outputs.{word-cong, at1-small, at0-small, output-planes}
 use Rattle.circuit.specs.Circuit.{Circuit, Reference, primary, outputOf, Instance, numbered, typeOfInstance}
 use Rattle.circuit.specs.Numbers.{referenceGood}
 use Rattle.circuit.specs.Records.{padded, unusedReference, referenceRecord, unusedVector, vectorRecord}
@@ -54,32 +53,9 @@ wordsOf c i inst = instanceWords (typeOfInstance (c .types) inst) (referencesOf 
 
 -- ---- planes
 
-word-cong : (f g : ℕ → ℕ) → ((v : ℕ) → v < 64 → f v ≡ g v) → word f ≡ word g
-unfolding word
-word-cong f g same = pack-cong 64 f g same
-
 word-zero : (f : ℕ → ℕ) → ((v : ℕ) → f v ≡ 0) → word f ≡ 0
 unfolding word
 word-zero f z = pack-cong 64 f (λ (v : ℕ). 0) (λ v h. z v) ∙ pack-zero 64
-
-at1-small : (x : Value) → isAt1 x ≤ 1
-unfolding isAt1
-at1-small at0 = omega arith
-at1-small at1 = omega arith
-at1-small atX = omega arith
-
-at0-small : (x : Value) → isAt0 x ≤ 1
-unfolding isAt0
-at0-small at0 = omega arith
-at0-small at1 = omega arith
-at0-small atX = omega arith
-
--- a value from its two bits
-value-again : (x : Value) → valueOf (isAt1 x) (isAt0 x) ≡ x
-unfolding valueOf isAt1 isAt0
-value-again at0 = refl
-value-again at1 = refl
-value-again atX = refl
 
 -- a plane gives a bit to each value, and 0 to X
 module _ (plane : Value → ℕ) (small : (x : Value) → plane x ≤ 1) (off : plane atX ≡ 0) (c : Circuit) where
@@ -368,13 +344,10 @@ module _ (c : Circuit) where
     unfolding isAt0
     label-zeros = label-bit isAt0 at0-small refl c i inst at
 
-    pub label-values : (w v l : ℕ) → w < 4 → v < 64
-        → valuesAt (labelsOf isAt1 c i inst w) (labelsOf isAt0 c i inst w) v l
-        ≡ labelValues (vectorAt c (64 * w + v)) (outputsAt c i (64 * w + v)) inst l
-    unfolding valuesAt
-    label-values w v l hw hv =
-        rw (label-ones w v l hw hv, label-zeros w v l hw hv)
-        (value-again (labelValues (vectorAt c (64 * w + v)) (outputsAt c i (64 * w + v)) inst l))
+    -- so both planes hold the labels' values
+    pub labels-hold : (w v : ℕ) → w < 4 → v < 64
+        → PlanesHold (labelsOf isAt1 c i inst w) (labelsOf isAt0 c i inst w) v (labelValues (vectorAt c (64 * w + v)) (outputsAt c i (64 * w + v)) inst)
+    labels-hold w v hw hv = record { known-1 = λ l. label-ones w v l hw hv; known-0 = λ l. label-zeros w v l hw hv }
 
     -- the planes of the instance's output, word by word
     module _ (plane : Value → ℕ) (column : Planes → ℕ) (column-is : (f : ℕ → Value) → column (planes f) ≡ word (λ (v : ℕ). plane (f v))) where
@@ -384,16 +357,14 @@ module _ (c : Circuit) where
           ≡ word (λ (v : ℕ). plane (newOutput c i inst (64 * w + v)))
       output-word w h =
           rw (node-at c i inst supply (t .output) w inside h, node-at c i inst ground (t .output) w inside h)
-          (ap column (output-planes t (labelsOf isAt1 c i inst w) (labelsOf isAt0 c i inst w) inside)
-          ∙ column-is (λ (v : ℕ). deciding.outputValue t (values v))
-          ∙ word-cong (λ (v : ℕ). plane (deciding.outputValue t (values v))) (λ (v : ℕ). plane (newOutput c i inst (64 * w + v)))
-          (λ v k. ap (λ (x : ℕ → Value). plane (deciding.outputValue t x)) (fun-ext (λ l. label-values w v l h k))))
+          (ap column (output-planes t (labelsOf isAt1 c i inst w) (labelsOf isAt0 c i inst w) values inside (λ v k. labels-hold w v h k))
+          ∙ column-is (λ (v : ℕ). deciding.outputValue t (values v)))
         where
           t : ModuleType
           t = typeOfInstance (c .types) inst
 
           values : ℕ → ℕ → Value
-          values v = valuesAt (labelsOf isAt1 c i inst w) (labelsOf isAt0 c i inst w) v
+          values v = labelValues (vectorAt c (64 * w + v)) (outputsAt c i (64 * w + v)) inst
 
           inside : t .output < 32
           inside = let ranges = type-ranges t (type-at c i inst at .sound) in omega (arith, ranges .output-high, ranges .highest)

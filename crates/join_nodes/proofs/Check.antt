@@ -14,10 +14,10 @@ use borrow.Author.Tests.{lt-ltb, ltb-true, ltb-false, eqb-true, eqb-false}
 use Rattle.words.specs.Bits.{bit, ofBool, firstOnes}
 use Rattle.words.proofs.Laws.{bit-le-one, set-bit, bit-set, bit-or, bit-and, bit-not-under, bits-eq}
 use Rattle.words.proofs.FirstOnes.{firstOnes-lt, bit-firstOnes}
-use Rattle.switch.specs.Conduction.{Link, ground, supply}
+use Rattle.switch.specs.Conduction.{byValues, links, Link, ground, supply}
 use Rattle.switch.specs.Modules.{ModuleType, linksOf, settingOf}
 use Rattle.switch.specs.Deciding.{joins, allBelow, oneRail, isComplementary}
-use Rattle.switch.specs.Records.{edgesOf, typeOf, TypeGiven, valuesAt}
+use Rattle.switch.specs.Records.{edgesOf, typeOf, TypeGiven, byPlanes}
 use Rattle.switch.specs.Promises.{railWords}
 use Rattle.switch.specs.declared.ModuleType.{ModuleType as TypeRecord}
 use Rattle.switch.proofs.Paths.{links-cong}
@@ -27,7 +27,7 @@ use Rattle.switch.proofs.Ranges.{given-type, given-edges}
 use Rattle.join_nodes.specs.Model.{settingOnes, settingZeros, outputWords, BlockVerdict}
 use Rattle.join_nodes.specs.declared.complementary.OutputWords.{OutputWords}
 use Rattle.join_nodes.proofs.RailWords.{railWords-lt}
-use Rattle.join_nodes.proofs.SettingBlocks.{setting-values}
+use Rattle.join_nodes.proofs.SettingBlocks.{settings-switch}
 
 -- ---- the word of a block
 
@@ -54,14 +54,14 @@ oneWord r block =
 
 module _ (r : TypeRecord) (given : TypeGiven r) (block v : ℕ) (place : v < 64) where
   -- under the planes of a block the links are those of its settings
-  block-links : linksOf (typeOf r) (valuesAt (settingOnes block) (settingZeros block) v) ≡ linksOf (typeOf r) (settingOf (64 * block + v))
+  block-links : links (byPlanes (settingOnes block) (settingZeros block) v) (typeOf r .edges) ≡ linksOf (typeOf r) (settingOf (64 * block + v))
   unfolding linksOf typeOf
   block-links =
       links-cong
       (r .labels)
-      (valuesAt (settingOnes block) (settingZeros block) v)
-      (settingOf (64 * block + v))
-      (λ l k. setting-values block v l place (omega (arith, given-type r given .labels-high)))
+      (byPlanes (settingOnes block) (settingZeros block) v)
+      (byValues (settingOf (64 * block + v)))
+      (λ c l k. settings-switch block v c l place (omega (arith, given-type r given .labels-high)))
       (r .highest)
       (edgesOf (take (r .count) (r .edges)))
       (given-edges r given)

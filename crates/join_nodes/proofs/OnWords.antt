@@ -1,11 +1,11 @@
 -- The words of conduction: a transistor's word from its label's planes, the or over an edge's labels, the words and nodes of the first edges, and that of a
 -- type that a file can give no edge has a node past the highest. Each law is over the bit's position, the place in a list, or the length. Assumes nothing.
-use Prim.Native.Nat.{ℕ, zero, suc, _+_, _-_, _*_, _^_, _≤_, _<_, min, max, zero-le}
+use Prim.Native.Nat.{ℕ, zero, suc, _+_, _-_, _*_, _^_, _≤_, _<_, max, zero-le}
 use mathlib.Core.Path.{_≡_, refl, sym, _∙_}
-use mathlib.Core.Bool.{Bool, true, false, _||_, or-assoc, or-false}
+use mathlib.Core.Bool.{Bool, true, false, cond, _||_, or-assoc, or-false}
 use mathlib.Core.List.{List, [], _∷_, _++_}
 use native.Mathlib.Omega.{arith}
-use lib.Bits.{bitAnd, bitOr, and-le-l, or-lt}
+use lib.Bits.{bitOr, or-lt}
 use lib.ListN.{length, getD, take, replicate, length-replicate, getD-replicate}
 use lib.Pow.{pow-pos}
 use lib.Seq.{take-suc}
@@ -13,58 +13,40 @@ use Rattle.words.specs.Bits.{bit, ofBool}
 use Rattle.words.specs.Each.{wordOfEach}
 use Rattle.words.specs.Tables.{upTo}
 use Rattle.words.specs.Written.{written}
-use Rattle.words.proofs.Laws.{bit-le-one, bit-zero, bit-or, bit-not-under, ofBool-le-one, word-of-bits, bit-word, word-lt}
+use Rattle.words.proofs.Laws.{bit-le-one, bit-zero, bit-or, ofBool-le-one, word-of-bits, bit-word, word-lt}
 use Rattle.words.proofs.Tables.{length-table, getD-table, table-cong, up-past, fill-more, getD-fill}
 use Rattle.words.proofs.EachLaws.{each-before, each-in, each-written}
 use Rattle.words.proofs.WrittenLaws.{length-written}
-use Rattle.switch.specs.Conduction.{p-channel, n-channel, Edge, transistorOn, anyOf, edgeOn}
-use Rattle.switch.specs.Records.{channelBy, edgeOf, noEdge, TypeGiven, valueOf, valuesAt}
+use Rattle.switch.specs.Conduction.{Edge, anyOf, edgeOn}
+use Rattle.switch.specs.Records.{channelBy, edgeOf, noEdge, TypeGiven, byPlanes}
 use Rattle.switch.specs.declared.Edge.{Edge as EdgeRecord}
 use Rattle.switch.specs.declared.ModuleType.{ModuleType as TypeRecord}
+use Rattle.switch.proofs.Outputs.{set-again}
 use Rattle.switch.proofs.Ranges.{given-type, given-edge}
 use Rattle.join_nodes.specs.Model.{transistorWord, onWord, edgeWords, onWords, firstNodes, secondNodes, endsOf, WideEdges, WideOn}
 use Rattle.join_nodes.specs.declared.Ends.{Ends}
 
 -- ---- a transistor's word
 
-p-bit : (a b : ℕ) → b ≤ 1 → min b (1 - a) ≡ ofBool (transistorOn p-channel (valueOf a b))
-unfolding transistorOn valueOf
-p-bit zero zero h = refl
-p-bit zero (suc b) h = omega arith
-p-bit (suc a) b h = omega arith
-
-n-bit : (a b : ℕ) → a ≤ 1 → a ≡ ofBool (transistorOn n-channel (valueOf a b))
-unfolding transistorOn valueOf
-n-bit zero zero h = refl
-n-bit zero (suc b) h = refl
-n-bit (suc a) b h = omega arith
-
-pub transistor-p : (ones zeros : ℕ) → ones < 2 ^ 64 → zeros < 2 ^ 64 → bitAnd zeros ((2 ^ 64 - 1) - ones) ≡ transistorWord true ones zeros
+pub transistor-is : (p : Bool) (ones zeros : ℕ) → cond p zeros ones < 2 ^ 64 → cond p zeros ones ≡ transistorWord p ones zeros
 unfolding transistorWord
-transistor-p ones zeros h k =
-    let w : ℕ = bitAnd zeros ((2 ^ 64 - 1) - ones) in
-    word-of-bits w (λ (v : ℕ). ofBool (transistorOn p-channel (valueOf (bit ones v) (bit zeros v))))
-    (omega (arith, and-le-l zeros ((2 ^ 64 - 1) - ones)))
-    (λ v l. bit-not-under 64 zeros ones v h l ∙ p-bit (bit ones v) (bit zeros v) (bit-le-one zeros v))
-
-pub transistor-n : (ones zeros : ℕ) → ones < 2 ^ 64 → ones ≡ transistorWord false ones zeros
-unfolding transistorWord
-transistor-n ones zeros h =
-    word-of-bits ones (λ (v : ℕ). ofBool (transistorOn n-channel (valueOf (bit ones v) (bit zeros v)))) h
-    (λ v l. n-bit (bit ones v) (bit zeros v) (bit-le-one ones v))
+transistor-is p ones zeros h = word-of-bits (cond p zeros ones) (bit (cond p zeros ones)) h (λ v l. refl)
 
 transistor-lt : (p : Bool) (ones zeros : ℕ) → transistorWord p ones zeros < 2 ^ 64
 unfolding transistorWord
-transistor-lt p ones zeros =
-    let on : ℕ → Bool = λ (v : ℕ). transistorOn (channelBy p) (valueOf (bit ones v) (bit zeros v)) in
-    word-lt (λ (v : ℕ). ofBool (on v)) (λ v. ofBool-le-one (on v))
+transistor-lt p ones zeros = word-lt (bit (cond p zeros ones)) (bit-le-one (cond p zeros ones))
 
-pub bit-transistorWord : (p : Bool) (ones zeros v : ℕ) → v < 64
-    → bit (transistorWord p ones zeros) v ≡ ofBool (transistorOn (channelBy p) (valueOf (bit ones v) (bit zeros v)))
+by-plane : (p : Bool) (ones zeros : List ℕ) (v l : ℕ)
+    → bit (cond p (getD zeros l 0) (getD ones l 0)) v ≡ ofBool (byPlanes ones zeros v (channelBy p) l)
+unfolding byPlanes
+by-plane true ones zeros v l = sym (set-again (bit (getD zeros l 0) v) (bit-le-one (getD zeros l 0) v))
+by-plane false ones zeros v l = sym (set-again (bit (getD ones l 0) v) (bit-le-one (getD ones l 0) v))
+
+bit-transistorWord : (p : Bool) (ones zeros : List ℕ) (v l : ℕ) → v < 64
+    → bit (transistorWord p (getD ones l 0) (getD zeros l 0)) v ≡ ofBool (byPlanes ones zeros v (channelBy p) l)
 unfolding transistorWord
-bit-transistorWord p ones zeros v l =
-    let on : ℕ → Bool = λ (u : ℕ). transistorOn (channelBy p) (valueOf (bit ones u) (bit zeros u)) in
-    bit-word (λ (u : ℕ). ofBool (on u)) (λ u. ofBool-le-one (on u)) v l
+bit-transistorWord p ones zeros v l h =
+    let plane : ℕ = cond p (getD zeros l 0) (getD ones l 0) in bit-word (bit plane) (bit-le-one plane) v h ∙ by-plane p ones zeros v l
 
 -- ---- the or over the labels of an edge
 
@@ -94,13 +76,13 @@ any-last test [] a = or-false (test a)
 any-last test (x ∷ xs) a = rw (any-last test xs a) (sym (or-assoc (test x) (anyOf test xs) (test a)))
 
 bit-orTo : (p : Bool) (ones zeros labels : List ℕ) (v j : ℕ) → v < 64 → j ≤ length labels
-    → bit (orTo p ones zeros labels j) v ≡ ofBool (anyOf (λ (l : ℕ). transistorOn (channelBy p) (valuesAt ones zeros v l)) (take j labels))
-unfolding orTo anyOf valuesAt
+    → bit (orTo p ones zeros labels j) v ≡ ofBool (anyOf (byPlanes ones zeros v (channelBy p)) (take j labels))
+unfolding orTo anyOf
 bit-orTo p ones zeros labels v zero h k = bit-zero v
 bit-orTo p ones zeros labels v (suc j) h k =
     let l : ℕ = getD labels j 0 in
-    let test : ℕ → Bool = λ (m : ℕ). transistorOn (channelBy p) (valuesAt ones zeros v m) in
-    rw (bit-or, bit-transistorWord p (getD ones l 0) (getD zeros l 0) v h, bit-orTo p ones zeros labels v j h (omega arith), take-suc labels j 0 k, any-last)
+    let test : ℕ → Bool = byPlanes ones zeros v (channelBy p) in
+    rw (bit-or, bit-transistorWord p ones zeros v l h, bit-orTo p ones zeros labels v j h (omega arith), take-suc labels j 0 k, any-last)
     (max-or (anyOf test (take j labels)) (test l))
 
 -- the or over the labels of an edge record is its edge's word
@@ -109,14 +91,14 @@ pub on-word-is : (ones zeros : List ℕ) (r : EdgeRecord) → r .count ≤ lengt
 unfolding onWord edgeOn edgeOf
 on-word-is ones zeros r k =
     word-of-bits (orTo (r .«p_channel») ones zeros (r .labels) (r .count))
-    (λ (v : ℕ). ofBool (edgeOn (valuesAt ones zeros v) (edgeOf r)))
+    (λ (v : ℕ). ofBool (edgeOn (byPlanes ones zeros v) (edgeOf r)))
     (orTo-lt (r .«p_channel») ones zeros (r .labels) (r .count))
     (λ v h. bit-orTo (r .«p_channel») ones zeros (r .labels) v (r .count) h k)
 
-pub bit-onWord : (ones zeros : List ℕ) (e : Edge) (v : ℕ) → v < 64 → bit (onWord ones zeros e) v ≡ ofBool (edgeOn (valuesAt ones zeros v) e)
+pub bit-onWord : (ones zeros : List ℕ) (e : Edge) (v : ℕ) → v < 64 → bit (onWord ones zeros e) v ≡ ofBool (edgeOn (byPlanes ones zeros v) e)
 unfolding onWord
 bit-onWord ones zeros e =
-    bit-word (λ (v : ℕ). ofBool (edgeOn (valuesAt ones zeros v) e)) (λ v. ofBool-le-one (edgeOn (valuesAt ones zeros v) e))
+    bit-word (λ (v : ℕ). ofBool (edgeOn (byPlanes ones zeros v) e)) (λ v. ofBool-le-one (edgeOn (byPlanes ones zeros v) e))
 
 -- ---- the words and the nodes of the first n edges
 
@@ -134,7 +116,7 @@ unfolding secondNodes
 getD-secondNodes edges = getD-fill 64 (λ (i : ℕ). getD edges i noEdge .second)
 
 pub bit-onWords : (ones zeros : List ℕ) (edges : List EdgeRecord) (n i v : ℕ) → i < n → n ≤ 64 → v < 64
-    → bit (getD (onWords ones zeros edges n) i 0) v ≡ ofBool (edgeOn (valuesAt ones zeros v) (edgeOf (getD edges i noEdge)))
+    → bit (getD (onWords ones zeros edges n) i 0) v ≡ ofBool (edgeOn (byPlanes ones zeros v) (edgeOf (getD edges i noEdge)))
 bit-onWords ones zeros edges n i v h k l =
     rw (getD-onWords ones zeros edges n i h k) (bit-onWord ones zeros (edgeOf (getD edges i noEdge)) v l)
 

@@ -12,10 +12,10 @@ use Rattle.words.specs.Each.{wordOfEach}
 use Rattle.words.proofs.Laws.{ofBool-le-one, set-bit, bit-set, pack-cong, word-lt}
 use Rattle.words.proofs.Tables.{getD-table, table-cong}
 use Rattle.words.proofs.EachLaws.{each-at, one-each, is-four}
-use Rattle.switch.specs.Conduction.{Value, Edge, Link, Among, anyOf, edgeOn, links}
-use Rattle.switch.specs.Modules.{ModuleType, linksOf}
+use Rattle.switch.specs.Conduction.{Edge, Link, Among, Switching, anyOf, edgeOn, links}
+use Rattle.switch.specs.Modules.{ModuleType}
 use Rattle.switch.specs.Deciding.{joins}
-use Rattle.switch.specs.Records.{noEdge, edgeOf, edgesOf, typeOf, valuesAt}
+use Rattle.switch.specs.Records.{noEdge, edgeOf, edgesOf, typeOf, byPlanes}
 use Rattle.switch.specs.Promises.{railWords, fourRailWords, railsOf}
 use Rattle.switch.specs.declared.Edge.{Edge as EdgeRecord}
 use Rattle.switch.specs.declared.ModuleType.{ModuleType as TypeRecord}
@@ -28,10 +28,10 @@ use Rattle.join_nodes.proofs.OnWords.{getD-firstNodes, getD-secondNodes
 use Rattle.join_nodes.proofs.RoundLaws.{OnLink, linksTo-among}
 
 -- the edge past the end of a list is off, so an edge that is on stands in the list
-on-within : (values : ℕ → Value) (es : List Edge) (i : ℕ) → T (edgeOn values (getD es i (edgeOf noEdge))) → i < length es
+on-within : (on : Switching) (es : List Edge) (i : ℕ) → T (edgeOn on (getD es i (edgeOf noEdge))) → i < length es
 unfolding edgeOn anyOf edgeOf
-on-within values es i t =
-    lt-of-not-le (λ (past : length es ≤ i). subst (λ (e : Edge). T (edgeOn values e)) (List·getD-eq-default es (edgeOf noEdge) past) t)
+on-within on es i t =
+    lt-of-not-le (λ (past : length es ≤ i). subst (λ (e : Edge). T (edgeOn on e)) (List·getD-eq-default es (edgeOf noEdge) past) t)
 
 -- the links of the columns, under a vector
 abbrev columnLinks : List EdgeRecord → ℕ → List ℕ → List ℕ → ℕ → List Link
@@ -40,27 +40,27 @@ columnLinks rs n ones zeros v = linksTo (firstNodes rs n) (secondNodes rs n) (on
 module _ (rs : List EdgeRecord) (n : ℕ) (places : n ≤ 64) (ones zeros : List ℕ) (v : ℕ) (vector : v < 64) (w : Link) where
   -- a place's edge is on, and its link is w, in the columns exactly when it is in the list of edges
   in-edges : OnLink (firstNodes rs n) (secondNodes rs n) (onWords ones zeros rs n) v n w
-      → OnAt (valuesAt ones zeros v) (edgesOf (take n rs)) (edgeOf noEdge) w
+      → OnAt (byPlanes ones zeros v) (edgesOf (take n rs)) (edgeOf noEdge) w
   unfolding edgeOf
   in-edges a =
       let i : ℕ = a .place in
-      let values : ℕ → Value = valuesAt ones zeros v in
+      let switched : Switching = byPlanes ones zeros v in
       let same = edge-at rs n i (a .within) in
-      let on : T (edgeOn values (getD (edgesOf (take n rs)) i (edgeOf noEdge))) =
-      rw same (set-bit (edgeOn values (edgeOf (getD rs i noEdge))) (sym (bit-onWords ones zeros rs n i v (a .within) places vector) ∙ a .is-on)) in
+      let on : T (edgeOn switched (getD (edgesOf (take n rs)) i (edgeOf noEdge))) =
+      rw same (set-bit (edgeOn switched (edgeOf (getD rs i noEdge))) (sym (bit-onWords ones zeros rs n i v (a .within) places vector) ∙ a .is-on)) in
       record {
         place = i;
-        within = on-within values (edgesOf (take n rs)) i on;
-        on = on;
+        within = on-within switched (edgesOf (take n rs)) i on;
+        is-on = on;
         ends = rw same (rw (getD-firstNodes rs n i (a .within) places, getD-secondNodes rs n i (a .within) places) at (a .ends));
       }
 
-  in-columns : OnAt (valuesAt ones zeros v) (edgesOf (take n rs)) (edgeOf noEdge) w
+  in-columns : OnAt (byPlanes ones zeros v) (edgesOf (take n rs)) (edgeOf noEdge) w
       → OnLink (firstNodes rs n) (secondNodes rs n) (onWords ones zeros rs n) v n w
   unfolding edgeOf edgesOf
   in-columns a =
       let i : ℕ = a .place in
-      let values : ℕ → Value = valuesAt ones zeros v in
+      let switched : Switching = byPlanes ones zeros v in
       let within : i < n = omega (arith, a .within, length-map (take n rs) edgeOf, length-take n rs) in
       let same = edge-at rs n i within in
       record {
@@ -68,19 +68,19 @@ module _ (rs : List EdgeRecord) (n : ℕ) (places : n ≤ 64) (ones zeros : List
         within = within;
         is-on =
             bit-onWords ones zeros rs n i v within places vector
-            ∙ bit-set (edgeOn values (edgeOf (getD rs i noEdge))) (rw same at (a .on));
+            ∙ bit-set (edgeOn switched (edgeOf (getD rs i noEdge))) (rw same at (a .is-on));
         ends = rw (getD-firstNodes rs n i within places, getD-secondNodes rs n i within places) (rw same at (a .ends));
       }
 
-  to-edges : Among w (columnLinks rs n ones zeros v) → Among w (links (valuesAt ones zeros v) (edgesOf (take n rs)))
+  to-edges : Among w (columnLinks rs n ones zeros v) → Among w (links (byPlanes ones zeros v) (edgesOf (take n rs)))
   to-edges m =
-      links-among (valuesAt ones zeros v) (edgesOf (take n rs)) (edgeOf noEdge) w .1
+      links-among (byPlanes ones zeros v) (edgesOf (take n rs)) (edgeOf noEdge) w .1
       (in-edges (linksTo-among (firstNodes rs n) (secondNodes rs n) (onWords ones zeros rs n) v n w .0 m))
 
-  to-columns : Among w (links (valuesAt ones zeros v) (edgesOf (take n rs))) → Among w (columnLinks rs n ones zeros v)
+  to-columns : Among w (links (byPlanes ones zeros v) (edgesOf (take n rs))) → Among w (columnLinks rs n ones zeros v)
   to-columns m =
       linksTo-among (firstNodes rs n) (secondNodes rs n) (onWords ones zeros rs n) v n w .1
-      (in-columns (links-among (valuesAt ones zeros v) (edgesOf (take n rs)) (edgeOf noEdge) w .0 m))
+      (in-columns (links-among (byPlanes ones zeros v) (edgesOf (take n rs)) (edgeOf noEdge) w .0 m))
 
 -- bit v is 1 exactly when m is joined to the rail over the links under vector v
 abbrev railWord : (ℕ → List Link) → ℕ → ℕ → ℕ
@@ -89,7 +89,7 @@ railWord ws m rail = word (λ (v : ℕ). ofBool (joins (ws v) m rail))
 pub railWords-lt : (t : ModuleType) (ones zeros : List ℕ) (rail m : ℕ) → m < 32 → getD (railWords t ones zeros rail) m 0 < 2 ^ 64
 unfolding railWords
 railWords-lt t ones zeros rail m h =
-    let ws : ℕ → List Link = λ (v : ℕ). linksOf t (valuesAt ones zeros v) in
+    let ws : ℕ → List Link = λ (v : ℕ). links (byPlanes ones zeros v) (t .edges) in
     rw (getD-table 32 (λ (n : ℕ). railWord ws n rail) 0 m h)
     (word-lt (λ (v : ℕ). ofBool (joins (ws v) m rail)) (λ v. ofBool-le-one (joins (ws v) m rail)))
 
@@ -97,11 +97,11 @@ railWords-lt t ones zeros rail m h =
 rail-words : (r : TypeRecord) → r .count ≤ 64 → (ones zeros : List ℕ) (rail : ℕ)
     → let on = onWords ones zeros (r .edges) (r .count) in
     joinedWords (firstNodes (r .edges) (r .count)) (secondNodes (r .edges) (r .count)) on (r .count) rail ≡ railWords (typeOf r) ones zeros rail
-unfolding joinedWords railWords word linksOf typeOf
+unfolding joinedWords railWords word typeOf
 rail-words r places ones zeros rail =
     let rs : List EdgeRecord = r .edges in
     let n : ℕ = r .count in
-    let inType : ℕ → List Link = λ (v : ℕ). links (valuesAt ones zeros v) (edgesOf (take n rs)) in
+    let inType : ℕ → List Link = λ (v : ℕ). links (byPlanes ones zeros v) (edgesOf (take n rs)) in
     let inColumns : ℕ → List Link = columnLinks rs n ones zeros in
     table-cong 32 (λ (m : ℕ). railWord inColumns m rail) (λ (m : ℕ). railWord inType m rail) (λ m k.
     pack-cong 64 (λ (v : ℕ). ofBool (joins (inColumns v) m rail)) (λ (v : ℕ). ofBool (joins (inType v) m rail)) (λ v l.

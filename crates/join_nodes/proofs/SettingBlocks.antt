@@ -11,8 +11,9 @@ use Rattle.words.specs.Tables.{table, upTo}
 use Rattle.words.proofs.Laws.{bit-le-one, bit-not, bit-block, bit-block-high}
 use Rattle.words.proofs.Laws.{pack-cong, pack-zero, pack-one, word-of-bits, bit-word, word-lt}
 use Rattle.words.proofs.Tables.{getD-table, up-past, fill-more}
+use Rattle.switch.specs.Conduction.{Channel, p-channel, n-channel, transistorOn}
 use Rattle.switch.specs.Modules.{valueOfBit, settingOf}
-use Rattle.switch.specs.Records.{valueOf, valuesAt}
+use Rattle.switch.specs.Records.{isSet, byPlanes}
 use Rattle.join_nodes.specs.Model.{settingOnes, settingZeros}
 
 -- ---- planes
@@ -104,20 +105,24 @@ pub settings-of-zero-planes : (block : ℕ) → table 12 (upTo 12 (zeroPlane blo
 unfolding settingZeros table upTo
 settings-of-zero-planes block = refl
 
--- ---- the planes give the settings' values
+-- ---- the planes switch on what the settings' values do
 
-value-known : (b : ℕ) → valueOf b (1 - b) ≡ valueOfBit b
-unfolding valueOf valueOfBit
-value-known zero = refl
-value-known (suc b) = refl
+p-known : (b : ℕ) → isSet (1 - b) ≡ transistorOn p-channel (valueOfBit b)
+unfolding isSet transistorOn valueOfBit
+p-known zero = refl
+p-known (suc b) = let none : 1 - suc b ≡ 0 = omega arith in rw none
 
-pub setting-values : (block v l : ℕ) → v < 64 → l < 12 → valuesAt (settingOnes block) (settingZeros block) v l ≡ settingOf (64 * block + v) l
-unfolding valuesAt settingOf settingOnes settingZeros
-setting-values block v l h k =
-    rw (
-      getD-table 12 (plane block) 0 l k,
-      getD-table 12 (zeroPlane block) 0 l k,
-      bit-word (λ (u : ℕ). bit (64 * block + u) l) (λ u. bit-le-one (64 * block + u) l) v h,
-      bit-word (λ (u : ℕ). 1 - bit (64 * block + u) l) (λ u. omega arith) v h,
-    )
-    (value-known (bit (64 * block + v) l))
+n-known : (b : ℕ) → isSet b ≡ transistorOn n-channel (valueOfBit b)
+unfolding isSet transistorOn valueOfBit
+n-known zero = refl
+n-known (suc b) = refl
+
+pub settings-switch : (block v : ℕ) (c : Channel) (l : ℕ) → v < 64 → l < 12
+    → byPlanes (settingOnes block) (settingZeros block) v c l ≡ transistorOn c (settingOf (64 * block + v) l)
+unfolding byPlanes settingOf settingOnes settingZeros
+settings-switch block v p-channel l h k =
+    rw (getD-table 12 (zeroPlane block) 0 l k, bit-word (λ (u : ℕ). 1 - bit (64 * block + u) l) (λ u. omega arith) v h)
+    (p-known (bit (64 * block + v) l))
+settings-switch block v n-channel l h k =
+    rw (getD-table 12 (plane block) 0 l k, bit-word (λ (u : ℕ). bit (64 * block + u) l) (λ u. bit-le-one (64 * block + u) l) v h)
+    (n-known (bit (64 * block + v) l))

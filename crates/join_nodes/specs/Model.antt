@@ -1,7 +1,7 @@
 -- What the code computes on the way, as lists: on words, rounds of joining, planes of 64 settings. Only the code's own proofs use it.
 -- A word has a bit for each of 64 vectors, or of 64 settings.
 use Prim.Native.Nat.{ℕ, zero, suc, _+_, _-_, _*_, _^_, _<_, _≤_}
-use mathlib.Core.Bool.{Bool, true, false}
+use mathlib.Core.Bool.{Bool, true, false, cond}
 use mathlib.Core.List.{List, [], _∷_, _++_}
 use mathlib.Core.Logic.{_↔_}
 use lib.Bits.{bitAnd, bitOr}
@@ -11,10 +11,10 @@ use lib.ListN.{length, getD, set, take, drop}
 use Rattle.words.specs.Bits.{bit, ofBool, word}
 use Rattle.words.specs.Each.{wordOfEach}
 use Rattle.words.specs.Tables.{table, upTo}
-use Rattle.switch.specs.Conduction.{Edge, Link, ground, supply, transistorOn, edgeOn}
+use Rattle.switch.specs.Conduction.{Edge, Link, ground, supply, edgeOn}
 use Rattle.switch.specs.Modules.{ModuleType, mostEdges, mostNodes, mostLabels, settingOf}
 use Rattle.switch.specs.Deciding.{joins, oneRail}
-use Rattle.switch.specs.Records.{channelBy, edgeOf, noEdge, valueOf, valuesAt}
+use Rattle.switch.specs.Records.{edgeOf, noEdge, byPlanes}
 use Rattle.switch.specs.declared.Edge.{Edge as EdgeRecord}
 use Rattle.switch.specs.Promises.{railWords}
 use Rattle.join_nodes.specs.declared.Ends.{Ends}
@@ -22,14 +22,13 @@ use Rattle.join_nodes.specs.declared.complementary.OutputWords.{OutputWo
 
 -- ---- on words
 
--- bit v is 1 exactly when a transistor, p-channel or not, is on under vector v, from its label's planes
+-- bit v is 1 exactly when a transistor, p-channel or not, is on under vector v, from its label's planes, each read alone
 unfoldable pub transistorWord : Bool → ℕ → ℕ → ℕ
-transistorWord p ones zeros =
-    word (λ (v : ℕ). ofBool (transistorOn (channelBy p) (valueOf (bit ones v) (bit zeros v))))
+transistorWord p ones zeros = word (bit (cond p zeros ones))
 
 -- bit v is 1 exactly when the edge is on under vector v
 unfoldable pub onWord : List ℕ → List ℕ → Edge → ℕ
-onWord ones zeros e = word (λ (v : ℕ). ofBool (edgeOn (valuesAt ones zeros v) e))
+onWord ones zeros e = word (λ (v : ℕ). ofBool (edgeOn (byPlanes ones zeros v) e))
 
 -- the words of an edge, from labels that have `width` words each
 unfoldable pub edgeWords : List ℕ → List ℕ → ℕ → Edge → List ℕ

@@ -16,7 +16,7 @@ fn transistor_word(p: bool, ones: u64, zeros: u64) -> u64
     ensures { λ r. ⌜ r ≡ transistorWord p ones zeros ⌝ }
 {
     if p {
-        return zeros & !ones;
+        return zeros;
     }
     ones
 }

@@ -3,20 +3,20 @@
 use Prim.Native.Nat.{ℕ, _<_, _≤_, _^_}
 use native.Mathlib.Omega.{arith}
 use mathlib.Core.Path.{_≡_, refl, sym, ap}
-use mathlib.Core.Bool.{Bool, true, false, _||_}
 use mathlib.Core.Logic.{_⊎_, inl, inr}
-use mathlib.Core.List.{List, [], _∷_}
+use mathlib.Core.List.{List}
 use lib.Dec.{T}
 use Rattle.words.specs.Bits.{pack}
 use Rattle.words.proofs.Laws.{bit-pack, pack-lt}
-use Rattle.switch.specs.Conduction.{Value, at0, at1, atX, Edge, Channel, p-channel, n-channel, transistorOn, anyOf, edgeOn}
-use Rattle.switch.specs.Conduction.{Link, Among, Joined, ground, supply}
+use Rattle.switch.specs.Conduction.{Value, at0, at1, atX, Channel, p-channel, n-channel, transistorOn, byValues}
+use Rattle.switch.specs.Conduction.{Link, Joined, ground, supply}
 use Rattle.switch.specs.Modules.{ModuleType, inRange, linksOf, valueOfBit, settingOf}
 use Rattle.switch.specs.Modules.{ExactlyOne, only-first, only-second, Complementary}
-use Rattle.switch.specs.Statements.{Accepted, Refines, RailsApart}
-use Rattle.switch.proofs.Paths.{through, turned, more-links, links-more, linksOf-cong}
+use Rattle.switch.specs.Statements.{Accepted, Refines, RailsApart, Within}
+use Rattle.switch.proofs.Paths.{through, turned, linksOf-cong}
+use Rattle.switch.proofs.MoreOn.{more-on-more-joined}
 
--- ---- refined values turn no edge off
+-- ---- refined values turn no transistor off
 
 x-is-off : (c : Channel) → T (transistorOn c atX) → ⊥
 unfolding transistorOn
@@ -27,33 +27,14 @@ stays-on : (c : Channel) (v w : Value) → (v ≡ atX) ⊎ (w ≡ v) → T (tran
 stays-on c v w (inl e) t = absurd (x-is-off c (rw e at t))
 stays-on c v w (inr e) t = rw e t
 
-or-more : (a b c d : Bool) → (T a → T c) → (T b → T d) → T (a || b) → T (c || d)
-or-more a b true d f g t = tt
-or-more true b false d f g t = absurd (f tt)
-or-more false b false d f g t = g t
+pub refined-within : (values finer : ℕ → Value) → Refines values finer → Within (byValues values) (byValues finer)
+refined-within values finer refines c l = stays-on c (values l) (finer l) (refines l)
 
-any-more : {A : Type 0} (f g : A → Bool) → ((a : A) → T (f a) → T (g a)) → (as′ : List A) → T (anyOf f as′) → T (anyOf g as′)
-unfolding anyOf
-any-more f g h [] t = t
-any-more f g h (a ∷ as′) t = or-more (f a) (anyOf f as′) (g a) (anyOf g as′) (h a) (any-more f g h as′) t
-
-module _ (values finer : ℕ → Value) (refines : Refines values finer) where
-  pub edge-stays-on : (e : Edge) → T (edgeOn values e) → T (edgeOn finer e)
-  unfolding edgeOn
-  edge-stays-on e t =
-      any-more
-      (λ (l : ℕ). transistorOn (e .channel) (values l))
-      (λ (l : ℕ). transistorOn (e .channel) (finer l))
-      (λ l. stays-on (e .channel) (values l) (finer l) (refines l))
-      (e .labels)
-      t
-
-  pub link-stays : (t : ModuleType) (w : Link) → Among w (linksOf t values) → Among w (linksOf t finer)
-  unfolding linksOf
-  link-stays t w m = links-more values finer (t .edges) edge-stays-on w m
-
-  pub stays-joined : (t : ModuleType) (a b : ℕ) → Joined (linksOf t values) a b → Joined (linksOf t finer) a b
-  stays-joined t a b p = more-links (linksOf t values) (linksOf t finer) (link-stays t) a b p
+pub refined-joined : (values finer : ℕ → Value) → Refines values finer → (t : ModuleType) (a b : ℕ)
+    → Joined (linksOf t values) a b → Joined (linksOf t finer) a b
+unfolding linksOf
+refined-joined values finer refines t =
+    more-on-more-joined (byValues values) (byValues finer) (refined-within values finer refines) .joining (t .edges)
 
 -- ---- any values are refined by a setting
 
@@ -97,7 +78,7 @@ joined-when-filled t r values a b p =
     let setting : ℕ → Value = settingOf (filling (t .labels) values) in
     rw
     (← (linksOf-cong t r full setting (filling-at (t .labels) values)))
-    (stays-joined values full (λ l. filled-refines (values l)) t a b p)
+    (refined-joined values full (λ l. filled-refines (values l)) t a b p)
 
 -- ---- apart
 

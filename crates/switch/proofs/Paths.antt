@@ -8,7 +8,8 @@ use mathlib.Core.Logic.{_⊎_, inl, inr, _↔_}
 use mathlib.Core.List.{List, [], _∷_, List·Memᴰ·head, List·Memᴰ·tail, List·Memᴰ·cases-cons, List·Memᴰ·not-nil}
 use lib.Dec.{T, leb, ltb, ltb→lt}
 use lib.ListN.{length, getD}
-use Rattle.switch.specs.Conduction.{Value, Edge, Channel, n-channel, Link, Among, Joined, here, forth, back, between, transistorOn, anyOf, edgeOn, links}
+use Rattle.switch.specs.Conduction.{Value, Edge, Channel, n-channel, Link, Among, Joined, here, forth, back, between}
+use Rattle.switch.specs.Conduction.{transistorOn, Switching, byValues, anyOf, edgeOn, links}
 use Rattle.switch.specs.Modules.{ModuleType, allOf, typeInRange, edgeInRange, inRange, linksOf}
 use Rattle.switch.specs.Statements.{JoinedIsEquivalence, MoreLinks}
 
@@ -93,31 +94,31 @@ one-more ws x y a b = (linked, of-linked ws x y a b)
 -- ---- the links of edges
 
 -- w is the link of an edge of es that is on, the edge in place i
-pub record OnAt (values : ℕ → Value) (es : List Edge) (d : Edge) (w : Link) : Type 0 where
+pub record OnAt (on : Switching) (es : List Edge) (d : Edge) (w : Link) : Type 0 where
   pub place : ℕ
   pub within : place < length es
-  pub on : T (edgeOn values (getD es place d))
+  pub is-on : T (edgeOn on (getD es place d))
   pub ends : w ≡ (getD es place d .first, getD es place d .second)
 
-module _ (values : ℕ → Value) (d : Edge) (w : Link) where
-  later : (e : Edge) (es : List Edge) → OnAt values es d w → OnAt values (e ∷ es) d w
-  later e es a = record { place = suc (a .place); within = suc-le-suc (a .within); on = a .on; ends = a .ends }
+module _ (on : Switching) (d : Edge) (w : Link) where
+  later : (e : Edge) (es : List Edge) → OnAt on es d w → OnAt on (e ∷ es) d w
+  later e es a = record { place = suc (a .place); within = suc-le-suc (a .within); is-on = a .is-on; ends = a .ends }
 
-  on-at-cons : (e : Edge) (es : List Edge) (b : Bool) → edgeOn values e ≡ b
-      → (Among w (links values es) → OnAt values es d w)
-      → Among w (cond b ((e .first, e .second) ∷ links values es) (links values es)) → OnAt values (e ∷ es) d w
+  on-at-cons : (e : Edge) (es : List Edge) (b : Bool) → edgeOn on e ≡ b
+      → (Among w (links on es) → OnAt on es d w)
+      → Among w (cond b ((e .first, e .second) ∷ links on es) (links on es)) → OnAt on (e ∷ es) d w
   on-at-cons e es true q below m = first (List·Memᴰ·cases-cons m)
     where
-      first : (w ≡ (e .first, e .second)) ⊎ Among w (links values es) → OnAt values (e ∷ es) d w
-      first (inl p) = record { place = 0; within = suc-le-suc zero-le; on = subst T (sym q) tt; ends = p }
+      first : (w ≡ (e .first, e .second)) ⊎ Among w (links on es) → OnAt on (e ∷ es) d w
+      first (inl p) = record { place = 0; within = suc-le-suc zero-le; is-on = subst T (sym q) tt; ends = p }
       first (inr n) = later e es (below n)
   on-at-cons e es false q below m = later e es (below m)
 
   -- every link is that of an on edge, by its place
-  pub on-at : (es : List Edge) → Among w (links values es) → OnAt values es d w
+  pub on-at : (es : List Edge) → Among w (links on es) → OnAt on es d w
   unfolding links
   on-at [] m = absurd (List·Memᴰ·not-nil m)
-  on-at (e ∷ es) m = on-at-cons e es (edgeOn values e) refl (on-at es) m
+  on-at (e ∷ es) m = on-at-cons e es (edgeOn on e) refl (on-at es) m
 
   among-head : (e : Edge) (ws : List Link) (b : Bool) → T b → w ≡ (e .first, e .second) → Among w (cond b ((e .first, e .second) ∷ ws) ws)
   among-head e ws true t p = List·Memᴰ·head p
@@ -128,24 +129,24 @@ module _ (values : ℕ → Value) (d : Edge) (w : Link) where
   among-tail e ws false m = m
 
   -- every on edge gives its link
-  pub of-on-at : (es : List Edge) (i : ℕ) → i < length es → T (edgeOn values (getD es i d))
-      → w ≡ (getD es i d .first, getD es i d .second) → Among w (links values es)
+  pub of-on-at : (es : List Edge) (i : ℕ) → i < length es → T (edgeOn on (getD es i d))
+      → w ≡ (getD es i d .first, getD es i d .second) → Among w (links on es)
   unfolding links
   of-on-at [] i l t p = absurd (not-suc-le-zero l)
-  of-on-at (e ∷ es) zero l t p = among-head e (links values es) (edgeOn values e) t p
-  of-on-at (e ∷ es) (suc i) l t p = among-tail e (links values es) (edgeOn values e) (of-on-at es i (le-of-suc-le-suc l) t p)
+  of-on-at (e ∷ es) zero l t p = among-head e (links on es) (edgeOn on e) t p
+  of-on-at (e ∷ es) (suc i) l t p = among-tail e (links on es) (edgeOn on e) (of-on-at es i (le-of-suc-le-suc l) t p)
 
-pub links-among : (values : ℕ → Value) (es : List Edge) (d : Edge) (w : Link)
-    → Among w (links values es) ↔ OnAt values es d w
-links-among values es d w = (on-at values d w es, λ a. of-on-at values d w es (a .place) (a .within) (a .on) (a .ends))
+pub links-among : (on : Switching) (es : List Edge) (d : Edge) (w : Link)
+    → Among w (links on es) ↔ OnAt on es d w
+links-among on es d w = (on-at on d w es, λ a. of-on-at on d w es (a .place) (a .within) (a .is-on) (a .ends))
 
 -- more on edges, more links
-pub links-more : (values others : ℕ → Value) (es : List Edge)
-    → ((e : Edge) → T (edgeOn values e) → T (edgeOn others e)) → (w : Link) → Among w (links values es) → Among w (links others es)
-links-more values others es f w m =
+pub links-more : (on more : Switching) (es : List Edge)
+    → ((e : Edge) → T (edgeOn on e) → T (edgeOn more e)) → (w : Link) → Among w (links on es) → Among w (links more es)
+links-more on more es f w m =
     let none : Edge = record { first = 0; second = 0; channel = n-channel; labels = [] } in
-    let a : OnAt values es none w = on-at values none w es m in
-    of-on-at others none w es (a .place) (a .within) (f (getD es (a .place) none) (a .on)) (a .ends)
+    let a : OnAt on es none w = on-at on none w es m in
+    of-on-at more none w es (a .place) (a .within) (f (getD es (a .place) none) (a .is-on)) (a .ends)
 
 -- ---- only the labels that edges use matter
 
@@ -153,22 +154,21 @@ pub both : (a b : Bool) → T (a && b) → T a × T b
 both true b t = (tt, t)
 both false b t = absurd t
 
-module _ (k : ℕ) (values others : ℕ → Value) (agree : (l : ℕ) → l < k → values l ≡ others l) where
-  any-cong : (c : Channel) (ls : List ℕ) → T (allOf (λ (l : ℕ). ltb l k) ls)
-      → anyOf (λ (l : ℕ). transistorOn c (values l)) ls ≡ anyOf (λ (l : ℕ). transistorOn c (others l)) ls
+module _ (k : ℕ) (on other : Switching) (agree : (ch : Channel) (l : ℕ) → l < k → on ch l ≡ other ch l) where
+  any-cong : (ch : Channel) (ls : List ℕ) → T (allOf (λ (l : ℕ). ltb l k) ls) → anyOf (on ch) ls ≡ anyOf (other ch) ls
   unfolding anyOf allOf
-  any-cong c [] t = refl
-  any-cong c (l ∷ ls) t =
+  any-cong ch [] t = refl
+  any-cong ch (l ∷ ls) t =
       let in-range = both (ltb l k) (allOf (λ (i : ℕ). ltb i k) ls) t in
-      rw (agree l (ltb→lt l k (in-range .0)), any-cong c ls (in-range .1))
+      rw (agree ch l (ltb→lt l k (in-range .0)), any-cong ch ls (in-range .1))
 
-  pub edgeOn-cong : (h : ℕ) (e : Edge) → T (edgeInRange h k e) → edgeOn values e ≡ edgeOn others e
+  edgeOn-cong : (h : ℕ) (e : Edge) → T (edgeInRange h k e) → edgeOn on e ≡ edgeOn other e
   unfolding edgeOn edgeInRange
   edgeOn-cong h e t =
       let numbers : Bool = leb (e .first) h && leb (e .second) h && between 1 4 (length (e .labels)) in
       any-cong (e .channel) (e .labels) ((both numbers (allOf (λ (l : ℕ). ltb l k) (e .labels)) t) .1)
 
-  pub links-cong : (h : ℕ) (es : List Edge) → T (allOf (edgeInRange h k) es) → links values es ≡ links others es
+  pub links-cong : (h : ℕ) (es : List Edge) → T (allOf (edgeInRange h k) es) → links on es ≡ links other es
   unfolding links allOf
   links-cong h [] t = refl
   links-cong h (e ∷ es) t =
@@ -184,4 +184,4 @@ pub linksOf-cong : (t : ModuleType) → T (inRange t) → (values others : ℕ �
     → linksOf t values ≡ linksOf t others
 unfolding linksOf
 linksOf-cong t r values others agree =
-    links-cong (t .labels) values others agree (t .highest) (t .edges) (edges-in-range t r)
+    links-cong (t .labels) (byValues values) (byValues others) (λ ch l h. ap (transistorOn ch) (agree l h)) (t .highest) (t .edges) (edges-in-range t r)

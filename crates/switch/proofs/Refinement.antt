@@ -1,19 +1,20 @@
--- (b) Refined values keep every on edge, every joining, every known output and every mark, since they turn no edge off and the rails are apart.
+-- (b) Refined values keep every on edge, every joining, every known output and every mark, since they turn no transistor off (proofs/MoreOn) and the
+-- rails are apart.
 -- And `outputValue` is the one value that 01 gives the output. Assumes nothing.
 use Prim.Native.Nat.{ℕ}
 use mathlib.Core.Path.{_≡_, refl}
 use mathlib.Core.Bool.{Bool, true, false, cond}
 use mathlib.Core.Logic.{_⊎_, inl, inr, _↔_}
-use mathlib.Core.List.{List, _++_, Memᴰ·append-left, Memᴰ·append-right, List·Memᴰ·append-cases, List·Memᴰ·not-nil}
+use mathlib.Core.List.{List, List·Memᴰ·not-nil}
 use lib.Dec.{T}
-use Rattle.switch.specs.Conduction.{Value, at0, at1, atX, Link, Among, Joined, ground, supply}
+use Rattle.switch.specs.Conduction.{Value, at0, at1, atX, byValues, Link, Among, Joined, ground, supply}
 use Rattle.switch.specs.Modules.{ModuleType, linksOf, OutputIs, output-0, output-1, output-X}
 use Rattle.switch.specs.Bridges.{Bridge, nodes, input, toLabel, closing, Marked}
 use Rattle.switch.specs.Deciding.{joins, outputValue}
-use Rattle.switch.specs.Statements.{Accepted, Refines, RefinementKeeps, OutputIsOne}
-use Rattle.switch.proofs.Paths.{more-links}
+use Rattle.switch.specs.Statements.{Accepted, Refines, MoreJoined, RefinementKeeps, OutputIsOne}
+use Rattle.switch.proofs.MoreOn.{more-on-more-joined}
 use Rattle.switch.proofs.Deciding.{joins-decides}
-use Rattle.switch.proofs.Apart.{edge-stays-on, link-stays, stays-joined, rails-apart}
+use Rattle.switch.proofs.Apart.{refined-within, refined-joined, rails-apart}
 
 -- ---- the output
 
@@ -39,8 +40,8 @@ output-stays t acc values finer refines =
     (joins ws o ground)
     (joins ws′ o supply)
     (joins ws′ o ground)
-    (λ b. (joins-decides ws′ o supply) .0 (stays-joined values finer refines t o supply ((joins-decides ws o supply) .1 b)))
-    (λ b. (joins-decides ws′ o ground) .0 (stays-joined values finer refines t o ground ((joins-decides ws o ground) .1 b)))
+    (λ b. (joins-decides ws′ o supply) .0 (refined-joined values finer refines t o supply ((joins-decides ws o supply) .1 b)))
+    (λ b. (joins-decides ws′ o ground) .0 (refined-joined values finer refines t o ground ((joins-decides ws o ground) .1 b)))
     (λ b c. rails-apart .output t acc finer ((joins-decides ws′ o supply) .1 b) ((joins-decides ws′ o ground) .1 c))
 
 module _ (t : ModuleType) (values : ℕ → Value) where
@@ -104,26 +105,17 @@ module _ (values finer : ℕ → Value) (refines : Refines values finer) where
   closing-stays (nodes a b) w k = k
   closing-stays (input m l) w k = label-stays m (values l) (finer l) (refines l) w k
 
-  closed-stays : (t : ModuleType) (bridge : Bridge) (w : Link)
-      → Among w (closing bridge values) ⊎ Among w (linksOf t values) → Among w (closing bridge finer ++ linksOf t finer)
-  closed-stays t bridge w (inl k) = Memᴰ·append-left (linksOf t finer) (closing-stays bridge w k)
-  closed-stays t bridge w (inr k) = Memᴰ·append-right (closing bridge finer) (link-stays values finer refines t w k)
+  more-joined : MoreJoined (byValues values) (byValues finer)
+  more-joined = more-on-more-joined (byValues values) (byValues finer) (refined-within values finer refines)
 
   pub mark-stays : (t : ModuleType) (bridge : Bridge) → Marked t values bridge → Marked t finer bridge
-  unfolding Marked
-  mark-stays t bridge p =
-      more-links
-      (closing bridge values ++ linksOf t values)
-      (closing bridge finer ++ linksOf t finer)
-      (λ w k. closed-stays t bridge w (List·Memᴰ·append-cases (closing bridge values) k))
-      supply
-      ground
-      p
+  unfolding Marked linksOf
+  mark-stays t bridge p = more-joined .beside (t .edges) (closing bridge values) (closing bridge finer) (closing-stays bridge) supply ground p
 
 pub refinement-keeps : RefinementKeeps
 refinement-keeps t acc values finer refines = record {
-  on-edge = edge-stays-on values finer refines;
-  joining = stays-joined values finer refines t;
+  on-edge = more-joined values finer refines .edge;
+  joining = refined-joined values finer refines t;
   output = output-stays t acc values finer refines;
   mark = mark-stays values finer refines t;
 }

@@ -65,18 +65,31 @@ unfoldable pub anyOf : {A : Type 0} → (A → Bool) → List A → Bool
 anyOf test [] = false
 anyOf test (a ∷ as′) = test a || anyOf test as′
 
+-- what switches on: whether a transistor is on, by its channel and its label. Conduction asks nothing else of the labels
+abbrev pub Switching : Type 0
+Switching = Channel → ℕ → Bool
+
+-- what the labels' values switch on
+abbrev pub byValues : (ℕ → Value) → Switching
+byValues values = λ (c : Channel) (l : ℕ). transistorOn c (values l)
+
+-- what is possibly on, where some labels are not known: p unless its label is known to be 1, which switches n on; n unless it is 0
+unfoldable pub possibly : Switching → Switching
+possibly on p-channel l = not (on n-channel l)
+possibly on n-channel l = not (on p-channel l)
+
 -- an edge is on when at least one of its transistors is
-unfoldable pub edgeOn : (ℕ → Value) → Edge → Bool
-edgeOn values e = anyOf (λ (l : ℕ). transistorOn (e .channel) (values l)) (e .labels)
+unfoldable pub edgeOn : Switching → Edge → Bool
+edgeOn on e = anyOf (on (e .channel)) (e .labels)
 
 -- a link: the two nodes of an edge that is on, or of a bridge that is closed
 abbrev pub Link : Type 0
 Link = ℕ × ℕ
 
 -- the links of the on edges
-unfoldable pub links : (ℕ → Value) → List Edge → List Link
-links values [] = []
-links values (e ∷ es) = let rest = links values es in cond (edgeOn values e) ((e .first, e .second) ∷ rest) rest
+unfoldable pub links : Switching → List Edge → List Link
+links on [] = []
+links on (e ∷ es) = let rest = links on es in cond (edgeOn on e) ((e .first, e .second) ∷ rest) rest
 
 abbrev pub Among : Link → List Link → Type 0
 Among w ws = List·Memᴰ w ws

@@ -16,7 +16,12 @@ unfoldable pub edge : ℕ → ℕ → Channel → List ℕ → Edge
 edge a b c ls = record { first = a; second = b; channel = c; labels = ls }
 
 unfoldable pub nand : ModuleType
-nand = record { highest = 3; output = 2; labels = 2; edges = edge 1 2 p-channel (0 ∷ 1 ∷ []) ∷ edge 2 3 n-channel (0 ∷ []) ∷ edge 3 0 n-channel (1 ∷ []) ∷ [] }
+nand = record {
+  highest = 3;
+  output = 2;
+  labels = 2;
+  edges = edge 1 2 p-channel (0 ∷ 1 ∷ []) ∷ edge 2 3 n-channel (0 ∷ []) ∷ edge 3 0 n-channel (1 ∷ []) ∷ [];
+}
 
 -- in the code's places: four for the labels of an edge, 64 for the edges
 unfoldable pub nandEdge : ℕ → ℕ → Bool → ℕ → ℕ → ℕ → EdgeRecord

@@ -5,7 +5,7 @@ use mathlib.Core.List.{List, [], _∷_}
 use lib.Dec.{leb, ltb}
 use lib.ListN.{length}
 use Rattle.words.specs.Bits.{bit}
-use Rattle.switch.specs.Conduction.{Value, at0, at1, atX, Edge, Link, Joined, between, links, ground, supply}
+use Rattle.switch.specs.Conduction.{Value, at0, at1, atX, Edge, Link, Joined, between, byValues, links, ground, supply}
 
 -- the limits of a module type: its edges, its nodes (0 to 31), its labels, and the labels of one edge
 abbrev pub mostEdges : ℕ
@@ -44,7 +44,7 @@ unfoldable pub inRange : ModuleType → Bool
 inRange t = typeInRange (t .highest) (t .output) (t .labels) && allOf (edgeInRange (t .highest) (t .labels)) (t .edges)
 
 unfoldable pub linksOf : ModuleType → (ℕ → Value) → List Link
-linksOf t values = links values (t .edges)
+linksOf t values = links (byValues values) (t .edges)
 
 unfoldable pub valueOfBit : ℕ → Value
 valueOfBit zero = at0

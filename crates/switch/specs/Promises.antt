@@ -1,22 +1,25 @@
 -- What the code of the crate `join_nodes` promises a caller, as lists and records: the rails' words, and the planes of values, 64 vectors
 -- to a word. A word has a bit for each of 64 vectors.
 use Prim.Native.Nat.{ℕ}
+use mathlib.Core.Path.{_≡_}
 use mathlib.Core.List.{List}
+use lib.ListN.{getD}
 use Rattle.words.specs.Bits.{bit, ofBool, word}
 use Rattle.words.specs.Each.{wordOfEach, fourEach}
 use Rattle.words.specs.Tables.{table}
-use Rattle.switch.specs.Conduction.{Value, at0, at1, atX, ground, supply}
-use Rattle.switch.specs.Modules.{ModuleType, mostNodes, mostLabels, linksOf}
+use Rattle.switch.specs.Conduction.{Value, at0, at1, atX, links, ground, supply}
+use Rattle.switch.specs.Modules.{ModuleType, mostNodes, mostLabels}
 use Rattle.switch.specs.Deciding.{joins}
-use Rattle.switch.specs.Records.{valueOf, valuesAt}
+use Rattle.switch.specs.Records.{valueOf, byPlanes}
 use Rattle.switch.specs.declared.Rails.{Rails}
 use Rattle.switch.specs.declared.Planes.{Planes}
 
--- bit v of node m's word is 1 exactly when m is joined to the rail under vector v. The 64 positions are alike: those past the last vector
--- have bits too, by what the planes hold there, and only `rowOf` of the crate `words` leaves them out
+-- bit v of node m's word is 1 exactly when m is joined to the rail by what two planes switch on under vector v, whatever planes. The 64
+-- positions are alike: those past the last vector have bits too, by what the planes hold there, and only `rowOf` of the crate `words`
+-- leaves them out
 unfoldable pub railWords : ModuleType → List ℕ → List ℕ → ℕ → List ℕ
 railWords t ones zeros rail =
-    table mostNodes (λ (m : ℕ). word (λ (v : ℕ). ofBool (joins (linksOf t (valuesAt ones zeros v)) m rail)))
+    table mostNodes (λ (m : ℕ). word (λ (v : ℕ). ofBool (joins (links (byPlanes ones zeros v) (t .edges)) m rail)))
 
 -- the same under 256 vectors: four words for each node, from four words for each label in each plane
 unfoldable pub fourRailWords : ModuleType → List ℕ → List ℕ → ℕ → List ℕ
@@ -36,6 +39,11 @@ unfoldable pub isAt0 : Value → ℕ
 isAt0 at0 = 1
 isAt0 at1 = 0
 isAt0 atX = 0
+
+-- two planes hold the labels' values under vector v, so that they exclude each other
+pub record PlanesHold (ones zeros : List ℕ) (v : ℕ) (values : ℕ → Value) : Type 0 where
+  pub known-1 : (l : ℕ) → bit (getD ones l 0) v ≡ isAt1 (values l)
+  pub known-0 : (l : ℕ) → bit (getD zeros l 0) v ≡ isAt0 (values l)
 
 -- the planes of a value under 64 vectors
 abbrev pub planes : (ℕ → Value) → Planes

@@ -7,7 +7,7 @@ use mathlib.Core.List.{List, [], map}
 use lib.Dec.{T, leb}
 use lib.ListN.{length, take, getD}
 use Rattle.words.specs.Bits.{bit}
-use Rattle.switch.specs.Conduction.{Value, at0, at1, atX, Edge, Channel, p-channel, n-channel}
+use Rattle.switch.specs.Conduction.{Value, at0, at1, atX, Edge, Channel, p-channel, n-channel, Switching}
 use Rattle.switch.specs.Modules.{ModuleType, mostEdges, mostLabels, mostParallel, allOf, inRange}
 use Rattle.switch.specs.declared.Edge.{Edge as EdgeRecord}
 use Rattle.switch.specs.declared.ModuleType.{ModuleType as TypeRecord}
@@ -75,13 +75,19 @@ pub record EdgesGiven (h o k : ℕ) (rs : List EdgeRecord) : Type 0 where
   pub label-places : T (allOf (λ (e : EdgeRecord). leb (e .count) mostParallel) rs)
   pub ranges : T (inRange (typeWith h o k rs))
 
--- a label's value from its bit in the known-1 plane and in the known-0 plane. No file gives both; taken as 1, every pair of planes has a
--- meaning
+-- a value from its bit in the known-1 plane and in the known-0 plane. No file gives both; taken as 1, every pair of bits has a meaning
 unfoldable pub valueOf : ℕ → ℕ → Value
 valueOf (suc b) zeros = at1
 valueOf zero (suc b) = at0
 valueOf zero zero = atX
 
--- the labels' values under vector v, from the two planes
-unfoldable pub valuesAt : List ℕ → List ℕ → ℕ → ℕ → Value
-valuesAt ones zeros v l = valueOf (bit (getD ones l 0) v) (bit (getD zeros l 0) v)
+-- a bit as a truth value
+unfoldable pub isSet : ℕ → Bool
+isSet zero = false
+isSet (suc b) = true
+
+-- what two planes of the labels switch on under vector v, each plane read alone: p where the known-0 plane has a 1, n where the known-1
+-- plane has. Any two planes will do: where both have a 1, both are on
+unfoldable pub byPlanes : List ℕ → List ℕ → ℕ → Switching
+byPlanes ones zeros v p-channel l = isSet (bit (getD zeros l 0) v)
+byPlanes ones zeros v n-channel l = isSet (bit (getD ones l 0) v)

@@ -3,16 +3,17 @@ use Prim.Native.Nat.{ℕ, _<_}
 use mathlib.Core.Path.{_≡_}
 use mathlib.Core.Bool.{false, not}
 use mathlib.Core.Logic.{_⊎_, _↔_}
-use mathlib.Core.List.{List}
+use mathlib.Core.List.{List, _++_}
 use lib.Dec.{T}
 use lib.ListN.{getD}
 use Rattle.words.specs.Bits.{bit}
-use Rattle.switch.specs.Conduction.{Value, atX, Edge, Link, Among, Joined, pEnds, nEnds, badEnds, edgeOn, ground, supply}
+use Rattle.switch.specs.Conduction.{Value, atX, Channel, p-channel, n-channel, Edge, Switching, byValues, possibly, edgeOn, links}
+use Rattle.switch.specs.Conduction.{Link, Among, Joined, pEnds, nEnds, badEnds, ground, supply}
 use Rattle.switch.specs.Modules.{ModuleType, mostNodes, inRange, linksOf, Complementary, OutputIs}
 use Rattle.switch.specs.Bridges.{Bridge, Marked, MarkedByEnds}
 use Rattle.switch.specs.Deciding.{joins, isComplementary, outputValue, isMarked}
-use Rattle.switch.specs.Records.{valueOf, valuesAt}
-use Rattle.switch.specs.Promises.{railWords, planes, planesOf}
+use Rattle.switch.specs.Records.{valueOf, byPlanes}
+use Rattle.switch.specs.Promises.{railWords, PlanesHold, planes, planesOf}
 
 -- 01, "Conduction": an edge that is not refused is p-channel or n-channel, and not both
 abbrev pub OneChannel : Type 0
@@ -54,6 +55,31 @@ abbrev pub ClosedPathIsEnds : Type 0
 ClosedPathIsEnds =
     (t : ModuleType) → Accepted t → (values : ℕ → Value) (bridge : Bridge) → Marked t values bridge ↔ MarkedByEnds t values bridge
 
+-- what is on by the one is on by the other
+abbrev pub Within : Switching → Switching → Type 0
+Within on more = (c : Channel) (l : ℕ) → T (on c l) → T (more c l)
+
+-- then every on edge stays on, and what is joined stays joined; so it does beside other links, of a closed bridge, which may be more too.
+-- So what is marked stays marked
+pub record MoreJoined (on more : Switching) : Type 0 where
+  pub edge : (e : Edge) → T (edgeOn on e) → T (edgeOn more e)
+  pub joining : (es : List Edge) (a b : ℕ) → Joined (links on es) a b → Joined (links more es) a b
+  pub beside : (es : List Edge) (closed also : List Link) → ((w : Link) → Among w closed → Among w also)
+      → (a b : ℕ) → Joined (closed ++ links on es) a b → Joined (also ++ links more es) a b
+
+abbrev pub MoreOnMoreJoined : Type 0
+MoreOnMoreJoined = (on more : Switching) → Within on more → MoreJoined on more
+
+-- a label switches p on, or n, or neither
+abbrev pub Excluding : Switching → Type 0
+Excluding on = (l : ℕ) → T (on p-channel l) → T (on n-channel l) → ⊥
+
+-- a transistor is possibly on unless its label switches the other channel on: p unless it is known to be 1, n unless it is known to be 0.
+-- What is surely joined is possibly joined
+pub record SureIsPossible : Type 0 where
+  pub values-exclude : (values : ℕ → Value) → Excluding (byValues values)
+  pub possible : (on : Switching) → Excluding on → MoreJoined on (possibly on)
+
 -- values are refined when each label that was X is anything now, and each 0 and 1 is kept. Labels past k are X in every use, so nothing is
 -- lost by asking it of all labels
 abbrev pub Refines : (ℕ → Value) → (ℕ → Value) → Type 0
@@ -61,7 +87,7 @@ Refines values finer = (l : ℕ) → (values l ≡ atX) ⊎ (finer l ≡ values 
 
 -- (b) refined values keep every on edge, every joining, every known output and every mark
 pub record KeptByRefining (t : ModuleType) (values finer : ℕ → Value) : Type 0 where
-  pub on-edge : (e : Edge) → T (edgeOn values e) → T (edgeOn finer e)
+  pub on-edge : (e : Edge) → T (edgeOn (byValues values) e) → T (edgeOn (byValues finer) e)
   pub joining : (a b : ℕ) → Joined (linksOf t values) a b → Joined (linksOf t finer) a b
   pub output : (outputValue t values ≡ atX) ⊎ (outputValue t finer ≡ outputValue t values)
   pub mark : (bridge : Bridge) → Marked t values bridge → Marked t finer bridge
@@ -83,8 +109,13 @@ KnownOutput = (t : ModuleType) → Accepted t → (values : ℕ → Value)
 abbrev pub PlanesAreValues : Type 0
 PlanesAreValues = (f : ℕ → Value) (v : ℕ) → v < 64 → valueOf (bit (planes f .ones) v) (bit (planes f .zeros) v) ≡ f v
 
+-- where two planes hold values, what the planes switch on is what the values switch on
+abbrev pub PlanesSwitch : Type 0
+PlanesSwitch = (ones zeros : List ℕ) (v : ℕ) (values : ℕ → Value) → PlanesHold ones zeros v values → byPlanes ones zeros v ≡ byValues values
+
 -- the planes that the output's two words give are those of its value
 abbrev pub OutputPlanes : Type 0
-OutputPlanes = (t : ModuleType) (ones zeros : List ℕ) → t .output < mostNodes
+OutputPlanes = (t : ModuleType) (ones zeros : List ℕ) (values : ℕ → ℕ → Value) → t .output < mostNodes
+    → ((v : ℕ) → v < 64 → PlanesHold ones zeros v (values v))
     → planesOf (getD (railWords t ones zeros supply) (t .output) 0) (getD (railWords t ones zeros ground) (t .output) 0)
-    ≡ planes (λ (v : ℕ). outputValue t (valuesAt ones zeros v))
+    ≡ planes (λ (v : ℕ). outputValue t (values v))

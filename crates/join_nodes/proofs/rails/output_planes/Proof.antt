@@ -1,26 +1,38 @@
--- `joining::rails::output_planes` meets its contract. Assumes nothing.
-use Prim.Native.Nat.{ℕ, _-_, _^_, _<_}
-use mathlib.Core.Path.{_≡_, _∙_}
-use lib.Bits.{bitAnd}
-use Rattle.words.specs.Bits.{bit, ofBool, word}
-use Rattle.switch.specs.Conduction.{Value, p-channel, n-channel, transistorOn}
+-- `join_nodes::rails::output_planes` meets its contract. Assumes nothing.
+use Prim.Native.Nat.{ℕ, zero, suc, _-_, _^_, _≤_, _<_, min}
+use mathlib.Core.Path.{_≡_, refl, _∙_}
+use native.Mathlib.Omega.{arith}
+use lib.Bits.{bitAnd, and-le-l}
+use Rattle.words.specs.Bits.{bit, word}
+use Rattle.words.proofs.Laws.{bit-le-one, bit-not-under, word-of-bits}
+use Rattle.switch.specs.Conduction.{Value}
 use Rattle.switch.specs.Records.{valueOf}
 use Rattle.switch.specs.Promises.{isAt1, isAt0, planesOf}
 use Rattle.switch.specs.declared.Planes.{Planes}
-use Rattle.switch.proofs.Outputs.{word-cong, planes-eq, is-1, is-0}
-use Rattle.join_nodes.specs.Model.{transistorWord}
-use Rattle.join_nodes.proofs.OnWords.{transistor-p, transistor-n}
+use Rattle.switch.proofs.Outputs.{planes-eq}
 use Rattle.join_nodes.proofs.rails.output_planes.Statement.{statement}
 use Rattle.join_nodes.proofs.rails.output_planes.Tie as tie
 
--- the known-1 plane is the word of an n-channel transistor, the known-0 plane that of a p-channel one
+bit-1 : (a b : ℕ) → a ≤ 1 → a ≡ isAt1 (valueOf a b)
+unfolding isAt1 valueOf
+bit-1 zero zero h = refl
+bit-1 zero (suc b) h = refl
+bit-1 (suc a) b h = omega arith
+
+bit-0 : (a b : ℕ) → b ≤ 1 → min b (1 - a) ≡ isAt0 (valueOf a b)
+unfolding isAt0 valueOf
+bit-0 zero zero h = refl
+bit-0 zero (suc b) h = omega arith
+bit-0 (suc a) b h = omega arith
+
 planesOf-is : (s g : ℕ) → s < 2 ^ 64 → g < 2 ^ 64 → _≡_ {A = Planes} (record { ones = s; zeros = bitAnd g ((2 ^ 64 - 1) - s) }) (planesOf s g)
-unfolding transistorWord
 planesOf-is s g h k =
     let x : ℕ → Value = λ (v : ℕ). valueOf (bit s v) (bit g v) in
-    planes-eq s (bitAnd g ((2 ^ 64 - 1) - s)) (word (λ (v : ℕ). isAt1 (x v))) (word (λ (v : ℕ). isAt0 (x v)))
-    (transistor-n s g h ∙ word-cong (λ (v : ℕ). ofBool (transistorOn n-channel (x v))) (λ (v : ℕ). isAt1 (x v)) (λ v l. is-1 (x v)))
-    (transistor-p s g h k ∙ word-cong (λ (v : ℕ). ofBool (transistorOn p-channel (x v))) (λ (v : ℕ). isAt0 (x v)) (λ v l. is-0 (x v)))
+    let zeros : ℕ = bitAnd g ((2 ^ 64 - 1) - s) in
+    planes-eq s zeros (word (λ (v : ℕ). isAt1 (x v))) (word (λ (v : ℕ). isAt0 (x v)))
+    (word-of-bits s (λ (v : ℕ). isAt1 (x v)) h (λ v l. bit-1 (bit s v) (bit g v) (bit-le-one s v)))
+    (word-of-bits zeros (λ (v : ℕ). isAt0 (x v)) (omega (arith, and-le-l g ((2 ^ 64 - 1) - s)))
+    (λ v l. bit-not-under 64 g s v h l ∙ bit-0 (bit s v) (bit g v) (bit-le-one g v)))
 
 returns : tie.Need-returns
 returns c = planesOf-is (c .args .supply) (c .args .ground) (c .fits .supply .fits) (c .fits .ground .fits)

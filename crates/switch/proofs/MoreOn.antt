@@ -1,0 +1,68 @@
+-- One law on what switches on: where every transistor that is on stays on, what is joined stays joined, and what is marked stays marked. What is surely
+-- on is possibly on, so the same holds of the two. Assumes nothing.
+use Prim.Native.Nat.{ℕ}
+use mathlib.Core.Bool.{Bool, true, false, _||_, not}
+use mathlib.Core.Logic.{_⊎_, inl, inr}
+use mathlib.Core.List.{List, [], _∷_, _++_, Memᴰ·append-left, Memᴰ·append-right, List·Memᴰ·append-cases}
+use lib.Dec.{T}
+use Rattle.switch.specs.Conduction.{Value, at0, at1, atX, Channel, p-channel, n-channel, Edge, transistorOn, Switching, byValues, possibly}
+use Rattle.switch.specs.Conduction.{anyOf, edgeOn, links, Link, Among, Joined}
+use Rattle.switch.specs.Statements.{Within, MoreOnMoreJoined, Excluding, SureIsPossible}
+use Rattle.switch.proofs.Paths.{more-links, links-more}
+
+or-more : (a b c d : Bool) → (T a → T c) → (T b → T d) → T (a || b) → T (c || d)
+or-more a b true d f g t = tt
+or-more true b false d f g t = absurd (f tt)
+or-more false b false d f g t = g t
+
+any-more : {A : Type 0} (f g : A → Bool) → ((a : A) → T (f a) → T (g a)) → (as′ : List A) → T (anyOf f as′) → T (anyOf g as′)
+unfolding anyOf
+any-more f g h [] t = t
+any-more f g h (a ∷ as′) t = or-more (f a) (anyOf f as′) (g a) (anyOf g as′) (h a) (any-more f g h as′) t
+
+module _ (on more : Switching) (within : Within on more) where
+  edge-stays : (e : Edge) → T (edgeOn on e) → T (edgeOn more e)
+  unfolding edgeOn
+  edge-stays e t = any-more (on (e .channel)) (more (e .channel)) (within (e .channel)) (e .labels) t
+
+  link-stays : (es : List Edge) (w : Link) → Among w (links on es) → Among w (links more es)
+  link-stays es = links-more on more es edge-stays
+
+  module _ (es : List Edge) (closed also : List Link) (kept : (w : Link) → Among w closed → Among w also) where
+    either-stays : (w : Link) → Among w closed ⊎ Among w (links on es) → Among w (also ++ links more es)
+    either-stays w (inl k) = Memᴰ·append-left (links more es) (kept w k)
+    either-stays w (inr k) = Memᴰ·append-right also (link-stays es w k)
+
+    beside-stays : (a b : ℕ) → Joined (closed ++ links on es) a b → Joined (also ++ links more es) a b
+    beside-stays =
+        more-links (closed ++ links on es) (also ++ links more es) (λ w k. either-stays w (List·Memᴰ·append-cases closed k))
+
+pub more-on-more-joined : MoreOnMoreJoined
+more-on-more-joined on more within = record {
+  edge = edge-stays on more within;
+  joining = λ es. beside-stays on more within es [] [] (λ w k. k);
+  beside = beside-stays on more within;
+}
+
+-- ---- sure and possible
+
+one-channel-on : (v : Value) → T (transistorOn p-channel v) → T (transistorOn n-channel v) → ⊥
+unfolding transistorOn
+one-channel-on at0 p n = n
+one-channel-on at1 p n = p
+one-channel-on atX p n = p
+
+not-both : (a b : Bool) → (T a → T b → ⊥) → T a → T (not b)
+not-both a true never t = never t tt
+not-both a false never t = tt
+
+sure-within : (on : Switching) → Excluding on → Within on (possibly on)
+unfolding possibly
+sure-within on never p-channel l t = not-both (on p-channel l) (on n-channel l) (never l) t
+sure-within on never n-channel l t = not-both (on n-channel l) (on p-channel l) (λ n p. never l p n) t
+
+pub sure-is-possible : SureIsPossible
+sure-is-possible = record {
+  values-exclude = λ values l. one-channel-on (values l);
+  possible = λ on never. more-on-more-joined on (possibly on) (sure-within on never);
+}

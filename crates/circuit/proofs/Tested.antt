@@ -12,17 +12,17 @@ use lib.Dec.{T, eqb, leb, ltb, leb→le, le→leb, eqb→eq, eqb·suc-zero}
 use lib.ListN.{length, getD, length-append, length-map, List·getD-append}
 use lib.Seq.{getD-append-seam}
 use Rattle.switch.specs.Conduction.{between}
-use Rattle.switch.specs.Modules.{ModuleType, allOf, typeInRange, edgeInRange, inRange}
+use Rattle.switch.specs.Modules.{ModuleType, mostEdges, allOf, typeInRange, edgeInRange, inRange}
 use Rattle.switch.proofs.Paths.{both}
 use Rattle.switch.proofs.Deciding.{and-both}
-use Rattle.circuit.specs.Limits.{mostTypes, mostEdges, mostBridges, mostInstances, mostVectors, mostFaults}
+use Rattle.circuit.specs.Limits.{mostTypes, mostBridges, mostInstances, mostVectors, mostFaults}
 use Rattle.circuit.specs.Fields.{twoBytes}
 use Rattle.circuit.specs.Circuit.{Circuit, Instance, Listed, typeOfInstance, chosenSize, faultCount}
 use Rattle.circuit.specs.Numbers.{plus, minus, signed, choiceOf, choiceInRange, referenceGood}
 use Rattle.circuit.specs.Known.{typeIn, edgeIn, listedIn, instanceIn, letterOf, vectorIn, withEdge}
 use Rattle.circuit.specs.Table.{Test, Verdict, passes, refusedAt, firstOf, isEmpty, listedGood, bridgeInRange, inputsTests, typeTests, edgeTests, edgeTestsOf, bridgeTests, instanceTests, instanceTestsOf, vectorTests}
 use Rattle.circuit.specs.Laws.{Each, endsGood, TypeSound, choiceGood, InstanceGood, RefusalGood}
-use Rattle.circuit.proofs.RangeLaws.{in-between}
+use Rattle.switch.proofs.Channels.{in-between}
 use Rattle.circuit.proofs.TypeLaws.{accepts, all-snoc}
 use Rattle.circuit.proofs.Verdicts.{first-passes}
 

@@ -12,17 +12,16 @@ use lib.ListN.{length, getD, set, take, drop, length-append, length-take, length
 use lib.Seq.{drop-cons, ext-getD, getD-take}
 use Rattle.words.proofs.Tables.{length-table}
 use Rattle.switch.specs.Conduction.{Edge, Channel, p-channel, n-channel, between}
-use Rattle.switch.specs.Modules.{ModuleType, allOf, typeInRange, edgeInRange, inRange}
-use Rattle.switch.specs.Records.{channelBy, isP, edgeOf, edgesOf, typeOf, TypeGiven}
+use Rattle.switch.specs.Modules.{ModuleType, mostEdges, allOf, typeInRange, edgeInRange, inRange}
+use Rattle.switch.specs.Records.{unusedEdge, channelBy, isP, edgeOf, edgesOf, typeOf, TypeGiven}
 use Rattle.switch.specs.declared.Edge.{Edge as EdgeRecord}
 use Rattle.switch.proofs.Paths.{both}
 use Rattle.switch.proofs.Deciding.{and-both}
-use Rattle.circuit.specs.Limits.{mostEdges}
 use Rattle.circuit.specs.Known.{edgeIn, withEdge}
 use Rattle.circuit.specs.Table.{passes, firstOf, edgeTests, edgeTestsOf}
-use Rattle.circuit.specs.Records.{padded, unusedEdge, edgeRecord, typeRecord}
+use Rattle.circuit.specs.Records.{padded, edgeRecord, typeRecord}
 use Rattle.circuit.proofs.Padding.{getD-padded, padded-snoc}
-use Rattle.circuit.proofs.RangeLaws.{in-between}
+use Rattle.switch.proofs.Channels.{in-between}
 use Rattle.circuit.proofs.Verdicts.{first-passes}
 
 -- ---- tests of both and of all

@@ -7,9 +7,9 @@ use mathlib.Core.List.{List, map}
 use lib.Dec.{T}
 use lib.ListN.{length, getD}
 use Rattle.switch.specs.Conduction.{Value, Edge, between, badEnds}
-use Rattle.switch.specs.Modules.{ModuleType, allOf, inRange}
+use Rattle.switch.specs.Modules.{ModuleType, mostEdges, allOf, inRange}
 use Rattle.switch.specs.Deciding.{isComplementary}
-use Rattle.circuit.specs.Limits.{mostTypes, mostEdges, mostBridges, mostInstances, mostVectors, mostFaults}
+use Rattle.circuit.specs.Limits.{mostTypes, mostBridges, mostInstances, mostVectors, mostFaults}
 use Rattle.circuit.specs.Circuit.{Circuit, Instance, Listed, Choice, exhaustive, no-faults, list, typeOfInstance, joinLists}
 use Rattle.circuit.specs.Circuit.{chosenSize, faultsOf, faultCount}
 use Rattle.circuit.specs.Numbers.{referenceGood}

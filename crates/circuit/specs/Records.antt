@@ -6,13 +6,13 @@ use lib.ListN.{length, getD, replicate}
 use Rattle.words.specs.Bits.{pack}
 use Rattle.words.specs.Tables.{table}
 use Rattle.switch.specs.Conduction.{Value, atX, Edge}
-use Rattle.switch.specs.Modules.{ModuleType}
+use Rattle.switch.specs.Modules.{ModuleType, mostEdges}
 use Rattle.switch.specs.Bridges.{Bridge, nodes, input}
-use Rattle.switch.specs.Records.{isP}
+use Rattle.switch.specs.Records.{isP, unusedEdge}
 use Rattle.switch.specs.Promises.{isAt0, isAt1}
 use Rattle.switch.specs.declared.Edge.{Edge as EdgeRecord}
 use Rattle.switch.specs.declared.ModuleType.{ModuleType as TypeRecord}
-use Rattle.circuit.specs.Limits.{mostTypes, mostEdges, mostBridges, mostInstances, mostVectors}
+use Rattle.circuit.specs.Limits.{mostTypes, mostBridges, mostInstances, mostVectors}
 use Rattle.circuit.specs.Circuit.{Circuit, Instance, Listed, Reference, primary, outputOf, Choice, exhaustive, no-faults, list}
 use Rattle.circuit.specs.Circuit.{faultCount}
 use Rattle.circuit.specs.declared.Bridge.{Bridge as BridgeRecord}
@@ -24,9 +24,6 @@ use Rattle.circuit.specs.declared.Circuit.{Circuit as CircuitRecord}
 -- a list in n places, the others at a default
 unfoldable pub padded : {A : Type 0} → ℕ → A → List A → List A
 padded n none as′ = table n (λ (i : ℕ). getD as′ i none)
-
-abbrev pub unusedEdge : EdgeRecord
-unusedEdge = record { first = 0; second = 0; «p_channel» = false; count = 0; labels = replicate 4 0 }
 
 unfoldable pub edgeRecord : Edge → EdgeRecord
 edgeRecord e = record {

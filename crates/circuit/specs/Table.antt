@@ -6,10 +6,10 @@ use mathlib.Core.List.{List, [], _∷_}
 use lib.Dec.{eqb, leb, ltb}
 use lib.ListN.{length, getD}
 use Rattle.switch.specs.Conduction.{between, badEnds}
-use Rattle.switch.specs.Modules.{ModuleType, allOf, typeInRange, edgeInRange}
+use Rattle.switch.specs.Modules.{ModuleType, mostEdges, allOf, typeInRange, edgeInRange}
 use Rattle.switch.specs.Bridges.{Bridge, nodes, input}
 use Rattle.switch.specs.Deciding.{isComplementary}
-use Rattle.circuit.specs.Limits.{mostTypes, mostEdges, mostBridges, mostInstances, mostVectors, mostFaults}
+use Rattle.circuit.specs.Limits.{mostTypes, mostBridges, mostInstances, mostVectors, mostFaults}
 use Rattle.circuit.specs.Fields.{Field, twoBytes}
 use Rattle.circuit.specs.Circuit.{Circuit, Listed, Choice, exhaustive, no-faults, list, typeOfInstance, userList, chosenSize}
 use Rattle.circuit.specs.Circuit.{faultCount}

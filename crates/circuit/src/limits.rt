@@ -1,9 +1,7 @@
-// The limits of a circuit file.
+// The limits of a circuit file; that of a type's edges is in the crate `switch`.
 pub const MOST_BYTES: usize = 32768;
 
 pub const MOST_TYPES: usize = 16;
-
-pub const MOST_EDGES: usize = 64;
 
 pub const MOST_BRIDGES: usize = 256;
 

@@ -8,13 +8,13 @@ use lib.Dec.{T}
 use lib.ListN.{length, getD, replicate}
 use denote.Ref.{RefT}
 use Rattle.switch.specs.Modules.{inRange}
-use Rattle.switch.specs.Records.{edgesOf, typeOf, typeWith, TypeGiven, EdgesGiven}
+use Rattle.switch.specs.Records.{unusedEdge, edgesOf, typeOf, typeWith, TypeGiven, EdgesGiven}
 use Rattle.switch.specs.declared.ModuleType.{ModuleType}
 use Rattle.circuit.specs.Answers.{Tells}
 use Rattle.circuit.specs.Refusals.{numberedVerdict, refusalNumber, refusalPlace, verdictOf}
 use Rattle.circuit.specs.Limits.{mostTypes, mostBridges}
 use Rattle.circuit.specs.Reading.{Reading, accepted, refusal, readingOf}
-use Rattle.circuit.specs.Records.{circuitRecord, emptyCircuit, padded, unusedType, unusedBridge, unusedEdge, unusedReference}
+use Rattle.circuit.specs.Records.{circuitRecord, emptyCircuit, padded, unusedType, unusedBridge, unusedReference}
 use Rattle.circuit.specs.declared.Bridge.{Bridge}
 use Rattle.circuit.specs.declared.Circuit.{Circuit as CircuitRecord}
 use Rattle.circuit.specs.declared.Reading.{Reading as ReadingRecord}

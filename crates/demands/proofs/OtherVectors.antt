@@ -17,7 +17,7 @@ use Rattle.circuit.specs.Order.{vector-tag, tagOf, isKind, Previous, reached, a
 use Rattle.circuit.specs.Known.{Known, start, vectorIn, taken, knownAfter}
 use Rattle.circuit.specs.Table.{passes, firstOf, unjudged, notComplementary, isEmpty, isLetter, vectorTests, bodyTests, fieldTests, endTests}
 use Rattle.circuit.specs.Reading.{accepted, unless, readFrom, readingWith}
-use Rattle.circuit.proofs.RangeLaws.{in-between}
+use Rattle.switch.proofs.Channels.{in-between}
 use Rattle.circuit.proofs.CircuitLaws.{accepted-is-whole}
 use Rattle.circuit.proofs.Tested.{length-snoc}
 use Rattle.circuit.proofs.Verdicts.{first-passes}

@@ -77,7 +77,6 @@ unique = record {
     tells = λ M 𝓤 H A mem run κs a g r s. refl;
     sole = record { can-be-met = λ κs. ((lent [], (2, (2, (1, (lent (replicate 48 0), (lent (replicate 48 0), tt)))))), edges-given); one-outcome = λ κs a asked one other p q. both (p ∙ sym q) refl };
   };
-  join-nodes-joining-of = record { can-be-met = λ κs. ((bareType, (lent (replicate 48 0), (lent (replicate 48 0), tt))), type-given); one-outcome = λ κs a asked one other p q. both (p ∙ sym q) refl };
   join-nodes-join-type = record { can-be-met = λ κs. ((bareType, (lent (replicate 48 0), (lent (replicate 48 0), tt))), type-given); one-outcome = λ κs a asked one other p q. both (p ∙ sym q) refl };
   join-nodes-output-planes = record { asks-nothing = λ κs a. tt; one-outcome = λ κs a asked one other p q. both (p ∙ sym q) refl };
   circuit-kind-of = record { asks-nothing = λ κs a. tt; one-outcome = λ κs a asked one other p q. both (kind-once (one .0) (other .0) (p ∙ sym q)) refl };

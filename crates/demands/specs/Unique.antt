@@ -24,7 +24,6 @@ use Rattle.print_lines.proofs.refusal_line as print-lines-refusal-line
 use Rattle.join_nodes.proofs.complementary.complementary as join-nodes-complementary
 use Rattle.join_nodes.proofs.complementary.check_type as join-nodes-check-type
 use Rattle.join_nodes.proofs.rails.joining as join-nodes-joining
-use Rattle.join_nodes.proofs.rails.joining_of as join-nodes-joining-of
 use Rattle.join_nodes.proofs.rails.join_type as join-nodes-join-type
 use Rattle.join_nodes.proofs.rails.output_planes as join-nodes-output-planes
 use Rattle.circuit.proofs.order.kind_of as circuit-kind-of
@@ -124,7 +123,6 @@ pub record Unique : Type 2 where
   pub join-nodes-complementary : SoleByClauses join-nodes-complementary.ended (λ M. join-nodes-complementary.clauses {M = M})
   pub join-nodes-check-type : SoleWhereMet join-nodes-check-type.ended join-nodes-check-type.Reads.Asked join-nodes-check-type.Reads.Learnt
   pub join-nodes-joining : SoleByClauses join-nodes-joining.ended (λ M. join-nodes-joining.clauses {M = M})
-  pub join-nodes-joining-of : SoleWhereMet join-nodes-joining-of.ended join-nodes-joining-of.Reads.Asked join-nodes-joining-of.Reads.Learnt
   pub join-nodes-join-type : SoleWhereMet join-nodes-join-type.ended join-nodes-join-type.Reads.Asked join-nodes-join-type.Reads.Learnt
   pub join-nodes-output-planes :
       Sole join-nodes-output-planes.ended join-nodes-output-planes.Reads.Asked join-nodes-output-planes.Reads.Learnt

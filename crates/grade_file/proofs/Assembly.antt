@@ -25,7 +25,7 @@ use Rattle.circuit.specs.Laws.{TypeSound, CircuitGood}
 use Rattle.circuit.specs.declared.Circuit.{Circuit as CircuitRecord}
 use Rattle.circuit.specs.declared.Instance.{Instance as InstanceRecord}
 use Rattle.circuit.proofs.Padding.{getD-padded}
-use Rattle.circuit.proofs.RangeLaws.{in-between}
+use Rattle.switch.proofs.Channels.{in-between}
 use Rattle.circuit.proofs.TypeLaws.{type-back, type-given}
 use Rattle.grading.specs.Given.{CircuitGiven}
 use Rattle.grading.specs.Rows.{Row, noInstance, rowsOfInstance, rowsFrom, rowsOf, rowWords, matrixOf}

@@ -20,7 +20,7 @@ use Rattle.circuit.specs.Laws.{CircuitGood, choiceGood}
 use Rattle.circuit.specs.declared.Bridge.{Bridge as BridgeRecord}
 use Rattle.circuit.specs.declared.Circuit.{Circuit as CircuitRecord}
 use Rattle.circuit.specs.declared.Instance.{Instance as InstanceRecord}
-use Rattle.circuit.proofs.RangeLaws.{in-between}
+use Rattle.switch.proofs.Channels.{in-between}
 use Rattle.grading.specs.Codes.{kindOf, firstEnd, secondEnd, codeOf, CodeFits, CodesFit}
 use Rattle.grading.proofs.CodeLaws.{code-fits}
 use Rattle.grading.proofs.Everywhere.{Every, every-at, every-map}

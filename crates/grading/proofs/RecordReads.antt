@@ -15,7 +15,7 @@ use Rattle.circuit.specs.declared.Circuit.{Circuit as CircuitRecord}
 use Rattle.circuit.specs.declared.Instance.{Instance as InstanceRecord}
 use Rattle.circuit.specs.declared.Reference.{Reference as ReferenceRecord}
 use Rattle.circuit.proofs.Padding.{getD-padded}
-use Rattle.circuit.proofs.RangeLaws.{in-between}
+use Rattle.switch.proofs.Channels.{in-between}
 use Rattle.circuit.proofs.TypeLaws.{take-padded}
 use Rattle.grading.proofs.FaultRanges.{types-fit}
 use Rattle.grading.proofs.Lists.{getD-map}

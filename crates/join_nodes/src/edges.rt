@@ -1,8 +1,8 @@
 // The edges of a module type, handed on as a lent slice.
 use switch::Edge;
 use switch::MOST_EDGES;
-use switch::MOST_PARALLEL;
 use switch::ModuleType;
+use switch::NO_EDGE;
 ghost use mathlib.Core.Path.{_≡_};
 ghost use Prim.Native.Nat.{_<_, _≤_};
 ghost use lib.ListN.{length, getD};
@@ -22,13 +22,7 @@ pub fn spread(edges: &[Edge], highest: u8, output: u8, labels: u8) -> ModuleType
     requires { ⌜ length (now edges) ≤ mostEdges ⌝ }
     ensures { λ r. ⌜ Spread (now (edges .entry)) highest output labels r ⌝ }
 {
-    let none = Edge {
-        first: 0,
-        second: 0,
-        p_channel: false,
-        count: 0,
-        labels: [0u8; MOST_PARALLEL],
-    };
+    let none = NO_EDGE;
     let mut all = [none; MOST_EDGES];
     let mut i: usize = 0;
     while i < edges.len() {

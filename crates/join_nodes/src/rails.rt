@@ -12,7 +12,7 @@ ghost use Rattle.switch.specs.Records.{TypeGiven, EdgesGiven, typeOf, typeWith}
 ghost use Rattle.switch.specs.Promises.{railsOf, planesOf};
 
 // Under which of 256 vectors each node is joined to supply, and to ground: the work, on a type by value.
-pub fn joining_of(t: ModuleType, ones: &[u64; 48], zeros: &[u64; 48]) -> Rails
+fn joining_of(t: ModuleType, ones: &[u64; 48], zeros: &[u64; 48]) -> Rails
     requires { ⌜ TypeGiven t ⌝ }
     ensures { λ r. ⌜ r ≡ railsOf (typeOf t) (now (ones .entry)) (now (zeros .entry)) ⌝ }
 {

@@ -10,12 +10,13 @@ use lib.ListN.{length, getD, take, length-map}
 use Rattle.words.specs.Bits.{bit, pack}
 use Rattle.words.proofs.Laws.{bit-pack}
 use Rattle.words.proofs.Tables.{is-table}
-use Rattle.switch.specs.Conduction.{Value, at0, at1, atX, between}
+use Rattle.switch.specs.Conduction.{Value, atX, between}
 use Rattle.switch.specs.Modules.{ModuleType, mostNodes, mostLabels, typeInRange}
 use Rattle.switch.specs.Bridges.{Bridge, nodes, input}
 use Rattle.switch.specs.Promises.{isAt0, isAt1}
 use Rattle.switch.specs.Records.{typeOf, valueOf}
 use Rattle.switch.proofs.Paths.{both}
+use Rattle.switch.proofs.Outputs.{at1-small, at0-small, value-again}
 use Rattle.circuit.specs.Limits.{mostTypes, mostBridges, mostInstances, mostVectors}
 use Rattle.circuit.specs.Circuit.{Circuit, Instance, Listed, Reference, primary, outputOf, Choice, exhaustive, no-faults, list, numbered, noType, typeOfInstance}
 use Rattle.circuit.specs.Reading.{Reading, accepted, refusal, unless, readingOf}
@@ -30,7 +31,7 @@ use Rattle.circuit.specs.declared.Reading.{Reading as ReadingRecord}
 use Rattle.circuit.proofs.BeforeLaws.{before-is-good}
 use Rattle.circuit.proofs.CircuitLaws.{accepted-is-good}
 use Rattle.circuit.proofs.GatheredLaws.{before-is-circuit}
-use Rattle.circuit.proofs.RangeLaws.{in-between}
+use Rattle.switch.proofs.Channels.{in-between}
 use Rattle.circuit.proofs.TypeLaws.{take-padded, edges-ranges, type-back}
 use Rattle.print_circuit.specs.Listing.{circuitLines, refusalLines, listingOf, AcceptedListing}
 use Rattle.print_circuit.specs.Told.{bridgeTold, listedTold, choiceTold, referenceTold, instanceWith, instanceTold, vectorTold, typesTold, circuitTold, readingTold, listingTold, ToldIsReading, ToldIsListing}
@@ -120,24 +121,6 @@ module _ (c : Circuit) (good : CircuitGood c) where
 
 -- ---- vectors
 
-at1-small : (x : Value) → isAt1 x ≤ 1
-unfolding isAt1
-at1-small at0 = omega arith
-at1-small at1 = omega arith
-at1-small atX = omega arith
-
-at0-small : (x : Value) → isAt0 x ≤ 1
-unfolding isAt0
-at0-small at0 = omega arith
-at0-small at1 = omega arith
-at0-small atX = omega arith
-
-value-back : (x : Value) → valueOf (isAt1 x) (isAt0 x) ≡ x
-unfolding valueOf isAt1 isAt0
-value-back at0 = refl
-value-back at1 = refl
-value-back atX = refl
-
 vector-back : (inputs : ℕ) (v : List Value) → length v ≡ inputs → inputs ≤ 64 → vectorTold inputs (vectorRecord v) ≡ v
 unfolding vectorTold vectorRecord
 vector-back inputs v size few =
@@ -152,7 +135,7 @@ vector-back inputs v size few =
 
     at : (i : ℕ) → i < length v → getD v i atX ≡ valueOf (bit ones i) (bit zeros i)
     at i h =
-        sym (value-back (getD v i atX))
+        sym (value-again (getD v i atX))
         ∙ ap (λ (b : ℕ). valueOf b (isAt0 (getD v i atX))) (sym (bit-pack (length v) (λ (k : ℕ). isAt1 (getD v k atX)) (λ (k : ℕ) (q : k < length v). at1-small (getD v k atX)) i h))
         ∙ ap (λ (b : ℕ). valueOf (bit ones i) b) (sym (bit-pack (length v) (λ (k : ℕ). isAt0 (getD v k atX)) (λ (k : ℕ) (q : k < length v). at0-small (getD v k atX)) i h))
 

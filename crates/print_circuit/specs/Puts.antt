@@ -5,7 +5,8 @@ use mathlib.Core.Path.{_≡_}
 use mathlib.Core.List.{List, []}
 use lib.ListN.{length, getD}
 use Rattle.words.specs.Written.{written}
-use Rattle.circuit.specs.Limits.{mostTypes, mostEdges, mostBridges, mostInstances, mostVectors}
+use Rattle.switch.specs.Modules.{mostEdges}
+use Rattle.circuit.specs.Limits.{mostTypes, mostBridges, mostInstances, mostVectors}
 use Rattle.print_circuit.specs.declared.parts.Part.{Part}
 
 abbrev pub Puts : List ℕ → List ℕ → ℕ → ℕ → List ℕ → Type 0

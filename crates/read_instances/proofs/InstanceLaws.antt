@@ -14,15 +14,16 @@ use Rattle.words.specs.Tables.{table, upTo}
 use Rattle.words.proofs.Tables.{length-table, getD-table, up-past, getD-fill}
 use Rattle.switch.specs.Conduction.{between}
 use Rattle.switch.specs.Modules.{ModuleType, allOf, typeInRange}
+use Rattle.switch.specs.Records.{unusedEdge}
 use Rattle.switch.specs.declared.ModuleType.{ModuleType as TypeRecord}
 use Rattle.switch.proofs.Paths.{both}
 use Rattle.switch.proofs.Deciding.{and-both}
-use Rattle.circuit.specs.Limits.{mostTypes, mostEdges, mostBridges}
+use Rattle.circuit.specs.Limits.{mostTypes, mostBridges}
 use Rattle.circuit.specs.Circuit.{Reference, primary, outputOf, Choice, exhaustive, no-faults, list, Instance, Listed}
 use Rattle.circuit.specs.Circuit.{numbered, noType, typeOfInstance, userList, exhaustiveSize, chosenSize, faultCount}
 use Rattle.circuit.specs.Numbers.{signed, choiceOf, choiceInRange, referenceGood}
 use Rattle.circuit.specs.Known.{referencesIn, instanceIn}
-use Rattle.circuit.specs.Records.{padded, unusedEdge, unusedType, typeRecord}
+use Rattle.circuit.specs.Records.{padded, unusedType, typeRecord}
 use Rattle.circuit.specs.Table.{Test, passes, firstOf, listUnsuited, listEmpty, instanceTests, instanceTestsOf}
 use Rattle.circuit.specs.Stages.{readTo}
 use Rattle.circuit.specs.Laws.{Each, TypeGood}
@@ -36,7 +37,8 @@ use Rattle.circuit.proofs.StageLaws.{empty-count}
 use Rattle.circuit.proofs.TypeLaws.{edges-ranges}
 use Rattle.circuit.proofs.Padding.{getD-padded, padded-nil}
 use Rattle.circuit.proofs.Verdicts.{first-passes}
-use Rattle.circuit.proofs.RangeLaws.{between-in, in-between}
+use Rattle.circuit.proofs.RangeLaws.{between-in}
+use Rattle.switch.proofs.Channels.{in-between}
 use Rattle.read_instances.proofs.ReferenceLaws.{length-references}
 use Rattle.read_bridges.proofs.ListLaws.{unsuited, count-at, node-at, label-at, length-list}
 

@@ -7,13 +7,13 @@ use native.Mathlib.Omega.{arith}
 use borrow.Author.Tests.{leb-false}
 use lib.Dec.{T}
 use lib.ListN.{length, getD, set, replicate, length-append, length-map}
-use Rattle.switch.specs.Modules.{ModuleType, allOf, typeInRange, inRange}
+use Rattle.switch.specs.Modules.{ModuleType, mostEdges, allOf, typeInRange, inRange}
 use Rattle.switch.specs.Deciding.{isComplementary}
 use Rattle.switch.specs.Records.{typeOf, TypeGiven}
 use Rattle.switch.specs.declared.Edge.{Edge as EdgeRecord}
 use Rattle.switch.specs.declared.ModuleType.{ModuleType as TypeRecord}
 use Rattle.switch.proofs.Deciding.{and-both}
-use Rattle.circuit.specs.Limits.{mostTypes, mostEdges}
+use Rattle.circuit.specs.Limits.{mostTypes}
 use Rattle.circuit.specs.Fields.{Cut, clean, cutFrom}
 use Rattle.circuit.specs.Order.{type-tag, edge-tag}
 use Rattle.circuit.specs.Known.{typeIn, edgeIn, withEdge}

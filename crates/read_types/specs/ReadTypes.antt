@@ -5,10 +5,10 @@ use mathlib.Core.Path.{_≡_}
 use mathlib.Core.List.{List, [], _∷_, _++_, map}
 use lib.Dec.{T}
 use lib.ListN.{length}
-use Rattle.switch.specs.Modules.{ModuleType, typeInRange, inRange}
+use Rattle.switch.specs.Modules.{ModuleType, mostEdges, typeInRange, inRange}
 use Rattle.switch.specs.Deciding.{isComplementary}
 use Rattle.switch.specs.declared.ModuleType.{ModuleType as TypeRecord}
-use Rattle.circuit.specs.Limits.{mostTypes, mostEdges}
+use Rattle.circuit.specs.Limits.{mostTypes}
 use Rattle.circuit.specs.Fields.{Field, Cut, clean, field, cutFrom}
 use Rattle.circuit.specs.Order.{edge-tag, tagOf}
 use Rattle.circuit.specs.Table.{passes}

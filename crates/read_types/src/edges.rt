@@ -1,5 +1,4 @@
 // The edges of a type: the fields with tag 3 right after it.
-use circuit::limits::MOST_EDGES;
 use circuit::order::Kind;
 use circuit::ranges::is_between;
 use circuit::refusal::Refusal;
@@ -10,6 +9,7 @@ use read_fields::Next;
 use read_fields::byte;
 use read_fields::field_of;
 use switch::Edge;
+use switch::MOST_EDGES;
 use switch::ModuleType;
 ghost use mathlib.Core.Path.{_≡_};
 ghost use Prim.Native.Nat.{_+_, _≤_};
@@ -19,7 +19,7 @@ ghost use Rattle.switch.specs.Conduction.{pEnds, nEnd, badEnds};
 ghost use Rattle.switch.specs.Modules.{allOf};
 ghost use Rattle.circuit.specs.Known.{edgeIn};
 ghost use Rattle.circuit.specs.Table.{firstOf, edgeTestsOf};
-ghost use Rattle.circuit.specs.Records.{edgeRecord, unusedEdge};
+ghost use Rattle.circuit.specs.Records.{edgeRecord};
 ghost use Rattle.circuit.specs.Refusals.{verdictOf};
 ghost use Rattle.read_fields.specs.Steps.{bodyOf};
 ghost use Rattle.read_types.specs.ReadTypes.{BareType, EdgesRead};
@@ -29,19 +29,6 @@ pub struct OneType {
     pub refusal: Refusal,
     pub at: usize,
     pub module_type: ModuleType,
-}
-
-// What stands in the unused places of a type.
-pub fn no_edge() -> Edge
-    ensures { λ r. ⌜ r ≡ unusedEdge ⌝ }
-{
-    Edge {
-        first: 0,
-        second: 0,
-        p_channel: false,
-        count: 0,
-        labels: [0u8; 4],
-    }
 }
 
 fn labels_below(file: &[u8], f: Field, k: u8) -> bool

@@ -1,8 +1,6 @@
 // Types: each is a field, followed at once by its edges, and is judged when its edges are read.
 use crate::edges::OneType;
-use crate::edges::no_edge;
 use crate::edges::read_edges;
-use circuit::limits::MOST_EDGES;
 use circuit::limits::MOST_TYPES;
 use circuit::order::Kind;
 use circuit::order::is_kind;
@@ -17,7 +15,9 @@ use read_fields::Step;
 use read_fields::byte;
 use read_fields::field_of;
 use read_fields::step_at;
+use switch::MOST_EDGES;
 use switch::ModuleType;
+use switch::NO_EDGE;
 ghost use mathlib.Core.Path.{_≡_};
 ghost use Prim.Native.Nat.{_+_, _≤_};
 ghost use lib.Dec.{T};
@@ -49,7 +49,7 @@ pub fn no_type() -> ModuleType
         output: 0,
         labels: 0,
         count: 0,
-        edges: [no_edge(); MOST_EDGES],
+        edges: [NO_EDGE; MOST_EDGES],
     }
 }
 
@@ -77,7 +77,7 @@ fn type_in(file: &[u8], f: Field) -> ModuleType
         output: byte(file, f, 1),
         labels: byte(file, f, 2),
         count: 0,
-        edges: [no_edge(); MOST_EDGES],
+        edges: [NO_EDGE; MOST_EDGES],
     }
 }
 

@@ -1,12 +1,14 @@
 -- The laws of conduction, from paths to values in planes.
---   Paths, Channels, Deciding, MoreOn, Apart, Marks, Refinement, KnownOutputs    the statements of specs/Statements on paths
---   Ranges                                                                       what a record tells that a file can give
---   Outputs                                                                      the statements on planes
---   Examples                                                                     a type that is accepted, and a record that the code takes
+--   Paths, Channels, Deciding, MoreOn, Transistors,
+--   Apart, Marks, Refinement, KnownOutputs            the statements of specs/Statements on paths
+--   Ranges                                            what a record tells that a file can give
+--   Outputs                                           the statements on planes
+--   Examples                                          a type that is accepted, and a record that the code takes
 pub mod Paths
 pub mod Channels
 pub mod Deciding
 pub mod MoreOn
+pub mod Transistors
 pub mod Apart
 pub mod Marks
 pub mod Refinement

@@ -1,13 +1,20 @@
 -- One law on what switches on: where every transistor that is on stays on, what is joined stays joined, and what is marked stays marked. What is surely
 -- on is possibly on, so the same holds of the two. Assumes nothing.
-use Prim.Native.Nat.{ℕ}
+use Prim.Native.Nat.{ℕ, zero, suc, _-_, _<_}
+use native.Mathlib.Nat.{not-suc-le-zero, le-of-suc-le-suc}
+use native.Mathlib.Omega.{arith}
+use mathlib.Core.Path.{_≡_, refl, ap, _∙_}
 use mathlib.Core.Bool.{Bool, true, false, _||_, not}
 use mathlib.Core.Logic.{_⊎_, inl, inr}
-use mathlib.Core.List.{List, [], _∷_, _++_, Memᴰ·append-left, Memᴰ·append-right, List·Memᴰ·append-cases}
+use mathlib.Core.List.{List, [], _∷_, _++_, map, Memᴰ·append-left, Memᴰ·append-right, List·Memᴰ·append-cases}
 use lib.Dec.{T}
-use Rattle.switch.specs.Conduction.{Value, at0, at1, atX, Channel, p-channel, n-channel, Edge, transistorOn, Switching, byValues, possibly}
+use lib.ListN.{length, getD}
+use Rattle.words.specs.Bits.{bit}
+use Rattle.words.proofs.Laws.{bit-not}
+use Rattle.switch.specs.Conduction.{Value, at0, at1, atX, Channel, p-channel, n-channel, Edge, transistorOn, Switching, byValues}
 use Rattle.switch.specs.Conduction.{anyOf, edgeOn, links, Link, Among, Joined}
-use Rattle.switch.specs.Statements.{Within, MoreOnMoreJoined, Excluding, SureIsPossible}
+use Rattle.switch.specs.Statements.{Within, MoreOnMoreJoined, WordAt, Excluding, possibly, SureIsPossible}
+use Rattle.switch.specs.Records.{isSet, complement, byPlanes}
 use Rattle.switch.proofs.Paths.{more-links, links-more}
 
 or-more : (a b c d : Bool) → (T a → T c) → (T b → T d) → T (a || b) → T (c || d)
@@ -61,8 +68,34 @@ unfolding possibly
 sure-within on never p-channel l t = not-both (on p-channel l) (on n-channel l) (never l) t
 sure-within on never n-channel l t = not-both (on n-channel l) (on p-channel l) (λ n p. never l p n) t
 
+-- ---- by planes
+
+complement-at : (words : List ℕ) (l : ℕ) → l < length words → getD (map complement words) l 0 ≡ complement (getD words l 0)
+complement-at [] l h = absurd (not-suc-le-zero h)
+complement-at (w ∷ ws) zero h = refl
+complement-at (w ∷ ws) (suc l) h = complement-at ws l (le-of-suc-le-suc h)
+
+set-or-not : (b : ℕ) → isSet (1 - b) ≡ not (isSet b)
+unfolding isSet
+set-or-not zero = refl
+set-or-not (suc b) = let none : 1 - suc b ≡ 0 = omega arith in rw none
+
+turned-bit : (words : List ℕ) (v l : ℕ) → v < 64 → WordAt words l
+    → isSet (bit (getD (map complement words) l 0) v) ≡ not (isSet (bit (getD words l 0) v))
+turned-bit words v l h at =
+    ap (λ (w : ℕ). isSet (bit w v)) (complement-at words l (at .0))
+    ∙ ap isSet (bit-not 64 (getD words l 0) v (at .1) h)
+    ∙ set-or-not (bit (getD words l 0) v)
+
+possibly-by-planes : (ones zeros : List ℕ) (v : ℕ) → v < 64 → (c : Channel) (l : ℕ) → WordAt ones l → WordAt zeros l
+    → byPlanes (map complement zeros) (map complement ones) v c l ≡ possibly (byPlanes ones zeros v) c l
+unfolding byPlanes possibly
+possibly-by-planes ones zeros v h p-channel l in-ones in-zeros = turned-bit ones v l h in-ones
+possibly-by-planes ones zeros v h n-channel l in-ones in-zeros = turned-bit zeros v l h in-zeros
+
 pub sure-is-possible : SureIsPossible
 sure-is-possible = record {
   values-exclude = λ values l. one-channel-on (values l);
   possible = λ on never. more-on-more-joined on (possibly on) (sure-within on never);
+  by-planes = possibly-by-planes;
 }

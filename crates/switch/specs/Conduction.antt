@@ -73,11 +73,6 @@ Switching = Channel → ℕ → Bool
 abbrev pub byValues : (ℕ → Value) → Switching
 byValues values = λ (c : Channel) (l : ℕ). transistorOn c (values l)
 
--- what is possibly on, where some labels are not known: p unless its label is known to be 1, which switches n on; n unless it is 0
-unfoldable pub possibly : Switching → Switching
-possibly on p-channel l = not (on n-channel l)
-possibly on n-channel l = not (on p-channel l)
-
 -- an edge is on when at least one of its transistors is
 unfoldable pub edgeOn : Switching → Edge → Bool
 edgeOn on e = anyOf (on (e .channel)) (e .labels)

@@ -1,11 +1,11 @@
 -- The code's records in the words of Conduction and Modules: an edge record, a module type, planes of labels, and what a record must be to
 -- be one of 01's.
-use Prim.Native.Nat.{ℕ, zero, suc, _≤_, _<_}
+use Prim.Native.Nat.{ℕ, zero, suc, _-_, _^_, _≤_, _<_}
 use mathlib.Core.Path.{_≡_}
 use mathlib.Core.Bool.{Bool, true, false}
 use mathlib.Core.List.{List, [], map}
 use lib.Dec.{T, leb}
-use lib.ListN.{length, take, getD}
+use lib.ListN.{length, take, getD, replicate}
 use Rattle.words.specs.Bits.{bit}
 use Rattle.switch.specs.Conduction.{Value, at0, at1, atX, Edge, Channel, p-channel, n-channel, Switching}
 use Rattle.switch.specs.Modules.{ModuleType, mostEdges, mostLabels, mostParallel, allOf, inRange}
@@ -15,6 +15,10 @@ use Rattle.switch.specs.declared.ModuleType.{ModuleType as TypeRecord}
 -- what stands past the end of a list of edge records
 abbrev pub noEdge : EdgeRecord
 noEdge = record { first = 0; second = 0; «p_channel» = false; count = 0; labels = [] }
+
+-- what stands in the places of a type that no edge fills
+abbrev pub unusedEdge : EdgeRecord
+unusedEdge = record { first = 0; second = 0; «p_channel» = false; count = 0; labels = replicate mostParallel 0 }
 
 -- the channel that a record tells, and how it tells one
 abbrev pub channelBy : Bool → Channel
@@ -85,6 +89,10 @@ valueOf zero zero = atX
 unfoldable pub isSet : ℕ → Bool
 isSet zero = false
 isSet (suc b) = true
+
+-- a word with each of its 64 bits turned
+abbrev pub complement : ℕ → ℕ
+complement w = (2 ^ 64 - 1) - w
 
 -- what two planes of the labels switch on under vector v, each plane read alone: p where the known-0 plane has a 1, n where the known-1
 -- plane has. Any two planes will do: where both have a 1, both are on

@@ -1,18 +1,18 @@
 -- The theorems on paths, and on what the code's words and planes tell of them, that all later crates rest on. Their proofs are in proofs/.
-use Prim.Native.Nat.{ℕ, _<_}
+use Prim.Native.Nat.{ℕ, _^_, _<_}
 use mathlib.Core.Path.{_≡_}
 use mathlib.Core.Bool.{false, not}
 use mathlib.Core.Logic.{_⊎_, _↔_}
-use mathlib.Core.List.{List, _++_}
+use mathlib.Core.List.{List, [], _∷_, _++_, map}
 use lib.Dec.{T}
-use lib.ListN.{getD}
+use lib.ListN.{length, getD}
 use Rattle.words.specs.Bits.{bit}
-use Rattle.switch.specs.Conduction.{Value, atX, Channel, p-channel, n-channel, Edge, Switching, byValues, possibly, edgeOn, links}
+use Rattle.switch.specs.Conduction.{Value, atX, Channel, p-channel, n-channel, Edge, Switching, byValues, edgeOn, links}
 use Rattle.switch.specs.Conduction.{Link, Among, Joined, pEnds, nEnds, badEnds, ground, supply}
 use Rattle.switch.specs.Modules.{ModuleType, mostNodes, inRange, linksOf, Complementary, OutputIs}
 use Rattle.switch.specs.Bridges.{Bridge, Marked, MarkedByEnds}
 use Rattle.switch.specs.Deciding.{joins, isComplementary, outputValue, isMarked}
-use Rattle.switch.specs.Records.{valueOf, byPlanes}
+use Rattle.switch.specs.Records.{valueOf, complement, byPlanes}
 use Rattle.switch.specs.Promises.{railWords, PlanesHold, planes, planesOf}
 
 -- 01, "Conduction": an edge that is not refused is p-channel or n-channel, and not both
@@ -70,15 +70,40 @@ pub record MoreJoined (on more : Switching) : Type 0 where
 abbrev pub MoreOnMoreJoined : Type 0
 MoreOnMoreJoined = (on more : Switching) → Within on more → MoreJoined on more
 
+-- parallel transistors as edges of their own, one for each label, in order
+unfoldable pub ofEach : Edge → List ℕ → List Edge
+ofEach e [] = []
+ofEach e (l ∷ ls) = record { first = e .first; second = e .second; channel = e .channel; labels = l ∷ [] } ∷ ofEach e ls
+
+unfoldable pub transistors : List Edge → List Edge
+transistors [] = []
+transistors (e ∷ es) = ofEach e (e .labels) ++ transistors es
+
+-- what edges join, their transistors join one by one, beside whatever else is closed
+abbrev pub TransistorsJoin : Type 0
+TransistorsJoin =
+    (on : Switching) (es : List Edge) (closed : List Link) (a b : ℕ)
+    → Joined (closed ++ links on es) a b ↔ Joined (closed ++ links on (transistors es)) a b
+
+-- a list has a word in this place
+abbrev pub WordAt : List ℕ → ℕ → Type 0
+WordAt words l = (l < length words) × (getD words l 0 < 2 ^ 64)
+
 -- a label switches p on, or n, or neither
 abbrev pub Excluding : Switching → Type 0
 Excluding on = (l : ℕ) → T (on p-channel l) → T (on n-channel l) → ⊥
 
--- a transistor is possibly on unless its label switches the other channel on: p unless it is known to be 1, n unless it is known to be 0.
--- What is surely joined is possibly joined
+-- a transistor is possibly on unless its label switches the other channel on: p unless it is known to be 1, n unless it is known to be 0
+unfoldable pub possibly : Switching → Switching
+possibly on p-channel l = not (on n-channel l)
+possibly on n-channel l = not (on p-channel l)
+
+-- what is surely joined is possibly joined; and by planes the possible is what the complemented planes say, in each other's place
 pub record SureIsPossible : Type 0 where
   pub values-exclude : (values : ℕ → Value) → Excluding (byValues values)
   pub possible : (on : Switching) → Excluding on → MoreJoined on (possibly on)
+  pub by-planes : (ones zeros : List ℕ) (v : ℕ) → v < 64 → (c : Channel) (l : ℕ) → WordAt ones l → WordAt zeros l
+      → byPlanes (map complement zeros) (map complement ones) v c l ≡ possibly (byPlanes ones zeros v) c l
 
 -- values are refined when each label that was X is anything now, and each 0 and 1 is kept. Labels past k are X in every use, so nothing is
 -- lost by asking it of all labels

@@ -18,6 +18,15 @@ pub struct Edge {
     pub labels: [u8; MOST_PARALLEL],
 }
 
+// What stands in the places of a type that no edge fills.
+pub const NO_EDGE: Edge = Edge {
+    first: 0,
+    second: 0,
+    p_channel: false,
+    count: 0,
+    labels: [0u8; MOST_PARALLEL],
+};
+
 // A module type: highest node, output node, number of labels, and its edges, in the first `count` places.
 pub struct ModuleType {
     pub highest: u8,

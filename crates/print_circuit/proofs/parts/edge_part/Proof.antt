@@ -2,7 +2,7 @@
 use mathlib.Core.List.{List}
 use Rattle.switch.specs.Records.{edgeOf, edgesOf}
 use Rattle.switch.specs.declared.Edge.{Edge as EdgeRecord}
-use Rattle.circuit.specs.Limits.{mostEdges}
+use Rattle.switch.specs.Modules.{mostEdges}
 use Rattle.print_circuit.specs.Lines.{edgeLine}
 use Rattle.print_circuit.proofs.PartLaws.{mapped-past, mapped-here}
 use borrow.Author.Needs.{needs}

@@ -1,6 +1,6 @@
 -- `print_circuit::parts::one_type` meets its contract. Assumes nothing.
 use Rattle.switch.specs.Records.{typeOf}
-use Rattle.circuit.specs.Limits.{mostEdges}
+use Rattle.switch.specs.Modules.{mostEdges}
 use Rattle.print_circuit.specs.Listing.{typeLines}
 use Rattle.print_circuit.specs.Puts.{mostOfType}
 use Rattle.print_circuit.proofs.PartLaws.{part-first, part-later}

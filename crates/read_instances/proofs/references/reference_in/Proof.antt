@@ -5,7 +5,7 @@ use borrow.Author.Tests.{lt-ltb, le-ltb}
 use lib.Dec.{T}
 use Rattle.circuit.specs.Numbers.{signed, referenceOf, referenceGood}
 use Rattle.circuit.specs.Records.{referenceRecord}
-use Rattle.circuit.proofs.RangeLaws.{in-between}
+use Rattle.switch.proofs.Channels.{in-between}
 use Rattle.read_instances.proofs.references.reference_in.Statement.{statement}
 use Rattle.read_instances.proofs.references.reference_in.Tie as tie
 

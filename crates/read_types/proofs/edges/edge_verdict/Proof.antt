@@ -11,8 +11,8 @@ use borrow.Author.Tests.{le-leb, lt-leb, lt-ltb, ltb-true, ltb-false}
 use lib.Dec.{leb, ltb}
 use lib.ListN.{length, getD, drop, length-drop}
 use Rattle.switch.specs.Conduction.{between, badEnds}
-use Rattle.switch.specs.Modules.{allOf, edgeInRange}
-use Rattle.circuit.specs.Limits.{mostEdges}
+use Rattle.switch.specs.Modules.{mostEdges, allOf, edgeInRange}
+use Rattle.switch.proofs.Channels.{in-between}
 use Rattle.circuit.specs.Known.{edgeIn}
 use Rattle.circuit.specs.Table.{passes, refusedAt, firstOf, edgeTestsOf}
 use Rattle.circuit.specs.Refusals.{refusalNumber, refusalPlace, numberedVerdict, verdictOf}
@@ -20,7 +20,7 @@ use Rattle.circuit.specs.Verdicts.{orIf}
 use Rattle.read_fields.specs.Steps.{bodyOf}
 use Rattle.read_fields.proofs.Bodies.{length-body}
 use Rattle.circuit.proofs.Verdicts.{chain, firstAfter}
-use Rattle.circuit.proofs.RangeLaws.{between-in, between-below, between-above, in-between}
+use Rattle.circuit.proofs.RangeLaws.{between-in, between-below, between-above}
 use Rattle.circuit.proofs.TypeLaws.{and-came}
 use Rattle.read_types.proofs.edges.edge_verdict.Statement.{statement}
 use Rattle.read_types.proofs.edges.edge_verdict.Tie as tie

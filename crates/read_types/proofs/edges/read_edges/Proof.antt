@@ -6,7 +6,7 @@ use mathlib.Core.Bool.{false}
 use native.Mathlib.Omega.{arith}
 use borrow.Author.Needs.{needs}
 use lib.ListN.{length}
-use Rattle.circuit.specs.Limits.{mostEdges}
+use Rattle.switch.specs.Modules.{mostEdges}
 use Rattle.circuit.specs.Order.{edge-tag}
 use Rattle.circuit.specs.Refusals.{verdictOf}
 use Rattle.circuit.specs.Verdicts.{isRefused}

@@ -1,13 +1,10 @@
--- `modules::types::no_type` meets its contract: each place holds what `no_edge` gives. Assumes nothing.
-use borrow.Author.Needs.{needs}
+-- `read_types::types::no_type` meets its contract. Assumes nothing.
+use mathlib.Core.Path.{refl}
 use Rattle.read_types.proofs.types.no_type.Statement.{statement}
 use Rattle.read_types.proofs.types.no_type.Tie as tie
 
-no-edge-requires : tie.Need-no-edge-requires
-no-edge-requires c κs = search needs
-
 returns : tie.Need-returns
-returns c = rw (c .no-edge .ensures)
+returns c = refl
 
 pub no-type-spec : {M : Type 1} → statement M
-no-type-spec = tie.close (tie.spec no-edge-requires returns)
+no-type-spec = tie.close (tie.spec returns)

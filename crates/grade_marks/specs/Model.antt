@@ -1,5 +1,5 @@
 -- What the code computes, as lists of words: signals' planes, an instance's words, mark words. The inputs' planes are in the crate
--- `signals`.
+-- `grade_inputs`.
 use Prim.Native.Nat.{ℕ, _+_, _-_, _*_, _/_, _%_, _<_, _≤_}
 use mathlib.Core.Bool.{Bool, true, false, cond}
 use mathlib.Core.List.{List, []}

@@ -1,4 +1,4 @@
--- `classes::first_labels` meets its contract. The outer loop's invariant: the labels so far have their first labels.
+-- `grade_classes::first_labels` meets its contract. The outer loop's invariant: the labels so far have their first labels.
 -- The inner loop's: the first label is the one that the labels from m on give. Assumes nothing.
 use mathlib.Core.Path.{_≡_, refl, sym, ap, _∙_}
 use mathlib.Core.Logic.{⊎-elim}

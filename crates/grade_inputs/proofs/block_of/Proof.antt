@@ -1,4 +1,4 @@
--- `signals::block_of` meets its contract. The loop's invariant: the first `v` places of both columns are filled. Assumes nothing.
+-- `grade_inputs::block_of` meets its contract. The loop's invariant: the first `v` places of both columns are filled. Assumes nothing.
 use mathlib.Core.List.{List}
 use mathlib.Core.Path.{_≡_, refl}
 use Prim.Native.Nat.{ℕ, _+_, _*_, _≤_, _<_, _-_}

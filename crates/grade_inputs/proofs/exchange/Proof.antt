@@ -1,4 +1,4 @@
--- `signals::exchange` meets its contract. The loop's invariant: the words of the first `i` turns are stepped, the others as they were. Assumes nothing.
+-- `grade_inputs::exchange` meets its contract. The loop's invariant: the words of the first `i` turns are stepped, the others as they were. Assumes nothing.
 use mathlib.Core.Path.{_≡_, _∙_}
 use Prim.Native.Nat.{_+_, _-_, _≤_, _<_}
 use native.Mathlib.Numerals.{add-one}

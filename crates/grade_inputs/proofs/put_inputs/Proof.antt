@@ -1,4 +1,4 @@
--- `signals::put_inputs` meets its contract. The loop's invariant: word `w` of the inputs below `i` is put. Assumes nothing.
+-- `grade_inputs::put_inputs` meets its contract. The loop's invariant: word `w` of the inputs below `i` is put. Assumes nothing.
 use mathlib.Core.Path.{_≡_}
 use Prim.Native.Nat.{_≤_, _-_}
 use native.Mathlib.Numerals.{add-one}

@@ -1,4 +1,4 @@
--- `signals::put_signals` meets its contract. The loop's invariant: the first `w` words of each input are there. Assumes nothing.
+-- `grade_inputs::put_signals` meets its contract. The loop's invariant: the first `w` words of each input are there. Assumes nothing.
 use mathlib.Core.Path.{_≡_, _∙_, ap}
 use Prim.Native.Nat.{_-_, _≤_, _<_}
 use native.Mathlib.Numerals.{add-one}

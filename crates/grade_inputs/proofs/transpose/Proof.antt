@@ -1,4 +1,4 @@
--- `signals::transpose` meets its contract: each call does one of the six steps. Assumes nothing.
+-- `grade_inputs::transpose` meets its contract: each call does one of the six steps. Assumes nothing.
 use mathlib.Core.Path.{_∙_, ap}
 use lib.ListN.{length}
 use Rattle.grade_inputs.proofs.TurnLaws.{length-stepped, step-32, step-16, step-8, step-4, step-2, step-1, steps-all}

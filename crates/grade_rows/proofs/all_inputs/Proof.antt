@@ -1,4 +1,4 @@
--- `rows::all_inputs` meets its contract. The loop's invariant: the codes of the nodes below `m` are written. Assumes nothing.
+-- `grade_rows::all_inputs` meets its contract. The loop's invariant: the codes of the nodes below `m` are written. Assumes nothing.
 use Prim.Native.Nat.{_+_, _-_, _≤_}
 use native.Mathlib.Omega.{arith}
 use Rattle.circuit.specs.Circuit.{joinLists, nodeInputs}

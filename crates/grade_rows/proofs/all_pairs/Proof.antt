@@ -1,4 +1,4 @@
--- `rows::all_pairs` meets its contract. The loop's invariant: the codes of the nodes below `a` are written. Assumes nothing.
+-- `grade_rows::all_pairs` meets its contract. The loop's invariant: the codes of the nodes below `a` are written. Assumes nothing.
 use Prim.Native.Nat.{_+_, _-_, _≤_}
 use native.Mathlib.Omega.{arith}
 use Rattle.circuit.specs.Circuit.{joinLists, nodePairs}

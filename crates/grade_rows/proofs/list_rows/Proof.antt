@@ -1,4 +1,4 @@
--- `rows::list_rows` meets its contract: each choice has its own codes, and the exhaustive list's are written in two pieces. Assumes nothing.
+-- `grade_rows::list_rows` meets its contract: each choice has its own codes, and the exhaustive list's are written in two pieces. Assumes nothing.
 use Prim.Native.Nat.{ℕ, _+_}
 use mathlib.Core.Path.{_≡_, sym, ap, _∙_}
 use mathlib.Core.List.{List, _++_, map, map-append}

@@ -1,4 +1,4 @@
--- `rows::listed` meets its contract. The loop's invariant: the codes of the list's bridges among the first `i` are written. Assumes nothing.
+-- `grade_rows::listed` meets its contract. The loop's invariant: the codes of the list's bridges among the first `i` are written. Assumes nothing.
 use Prim.Native.Nat.{_-_, _≤_, _<_}
 use mathlib.Core.Path.{_≡_}
 use mathlib.Core.Logic.{⊎-elim}

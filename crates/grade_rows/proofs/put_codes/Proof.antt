@@ -1,4 +1,4 @@
--- `rows::put_codes` meets its contract. The loop's invariant: the codes of the seconds before the present one are written. Assumes nothing.
+-- `grade_rows::put_codes` meets its contract. The loop's invariant: the codes of the seconds before the present one are written. Assumes nothing.
 use Prim.Native.Nat.{_-_, _≤_, _<_}
 use mathlib.Core.Path.{_≡_}
 use native.Mathlib.Omega.{arith}

@@ -1,4 +1,4 @@
--- `rows::rows_of` meets its contract. The loop's invariant: whatever good circuit the record tells, the codes of its first `i` instances are written.
+-- `grade_rows::rows_of` meets its contract. The loop's invariant: whatever good circuit the record tells, the codes of its first `i` instances are written.
 -- The measure is what is left of the instances. Assumes nothing.
 use Prim.Native.Nat.{ℕ, _-_, _≤_, _<_}
 use mathlib.Core.Path.{_≡_}

@@ -1,4 +1,4 @@
--- `bridges::bridge_in` meets its contract: four bytes of a body are the record of its bridge. Assumes nothing.
+-- `read_bridges::bridge_in` meets its contract: four bytes of a body are the record of its bridge. Assumes nothing.
 use borrow.Author.Needs.{needs}
 use Rattle.read_fields.specs.Steps.{bodyOf}
 use Rattle.read_bridges.proofs.BridgeLaws.{record-in}

@@ -1,4 +1,4 @@
--- `bridges::bridge_of` meets its contract: what stands in the field that was found, if one was. Assumes nothing.
+-- `read_bridges::bridge_of` meets its contract: what stands in the field that was found, if one was. Assumes nothing.
 use Prim.Native.Nat.{ℕ, _+_, _≤_}
 use mathlib.Core.Path.{_≡_, _∙_}
 use mathlib.Core.List.{List}

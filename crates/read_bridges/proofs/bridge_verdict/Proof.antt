@@ -1,4 +1,4 @@
--- `bridges::bridge_verdict` meets its contract: one call for each test of the table. Assumes nothing.
+-- `read_bridges::bridge_verdict` meets its contract: one call for each test of the table. Assumes nothing.
 use mathlib.Core.Path.{_∙_}
 use mathlib.Core.List.{List}
 use Prim.Native.Nat.{ℕ}

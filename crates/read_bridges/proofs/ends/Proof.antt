@@ -1,4 +1,4 @@
--- `bridges::ends` meets its contract: a field that is refused ends the stage, and so does none of its own. Assumes nothing.
+-- `read_bridges::ends` meets its contract: a field that is refused ends the stage, and so does none of its own. Assumes nothing.
 use mathlib.Core.Path.{ap, _∙_}
 use borrow.Author.Needs.{needs}
 use Rattle.circuit.specs.Verdicts.{isRefused}

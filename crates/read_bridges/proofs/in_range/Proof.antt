@@ -1,4 +1,4 @@
--- `bridges::in_range` meets its contract. Assumes nothing.
+-- `read_bridges::in_range` meets its contract. Assumes nothing.
 use Prim.Native.Nat.{ℕ, zero, suc, _≤_, _<_}
 use mathlib.Core.Path.{_≡_, sym}
 use mathlib.Core.Logic.{⊎-elim}

@@ -1,4 +1,4 @@
--- `bridges::no_bridges` meets its contract. Assumes nothing.
+-- `read_bridges::no_bridges` meets its contract. Assumes nothing.
 use mathlib.Core.Path.{ap}
 use borrow.Author.Needs.{needs}
 use lib.ListN.{replicate}

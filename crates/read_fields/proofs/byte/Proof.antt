@@ -1,4 +1,4 @@
--- `fields::byte` meets its contract: inside the body it gives the byte of the file there, past its end 0. Assumes nothing.
+-- `read_fields::byte` meets its contract: inside the body it gives the byte of the file there, past its end 0. Assumes nothing.
 use mathlib.Core.Path.{sym}
 use borrow.Author.Needs.{needs}
 use Rattle.read_fields.proofs.Bodies.{getD-body, getD-body-past}

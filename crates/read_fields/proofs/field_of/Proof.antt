@@ -1,4 +1,4 @@
--- `fields::field_of` meets its contract: the field at the offset if it is of the kind, and else there is none of it. Assumes nothing.
+-- `read_fields::field_of` meets its contract: the field at the offset if it is of the kind, and else there is none of it. Assumes nothing.
 use mathlib.Core.Path.{sym, subst}
 use borrow.Author.Needs.{needs}
 use Rattle.circuit.specs.Kinds.{kindTag}

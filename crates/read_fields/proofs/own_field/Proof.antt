@@ -1,4 +1,4 @@
--- `fields::own_field` meets its contract: the field that was told, if it is of the kind. Assumes nothing.
+-- `read_fields::own_field` meets its contract: the field that was told, if it is of the kind. Assumes nothing.
 use mathlib.Core.Path.{_≡_, refl, sym, _∙_}
 use mathlib.Core.Bool.{Bool, cond}
 use mathlib.Core.List.{[], _∷_}

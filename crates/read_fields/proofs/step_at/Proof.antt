@@ -1,4 +1,4 @@
--- `fields::step_at` meets its contract: a walk of its MIR, by hand. The `Reader` that `reader_at` returns is stored in a local, which is lent to `next` (Loans).
+-- `read_fields::step_at` meets its contract: a walk of its MIR, by hand. The `Reader` that `reader_at` returns is stored in a local, which is lent to `next` (Loans).
 -- Assumes nothing.
 use mathlib.Core.Path.{refl}
 use Prim.Native.Nat.{ℕ, _<_, _≤_, _^_}

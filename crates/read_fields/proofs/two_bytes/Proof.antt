@@ -1,4 +1,4 @@
--- `fields::two_bytes` meets its contract: 256 times the one byte, and the byte after it. Assumes nothing.
+-- `read_fields::two_bytes` meets its contract: 256 times the one byte, and the byte after it. Assumes nothing.
 use native.Mathlib.Omega.{arith}
 use borrow.Author.Needs.{needs}
 use Rattle.circuit.specs.Fields.{twoBytes}

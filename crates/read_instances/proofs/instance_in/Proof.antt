@@ -1,4 +1,4 @@
--- `instances::instance_in` meets its contract. The loop's invariant: the first i places hold the records of the first i references. Assumes nothing.
+-- `read_instances::instance_in` meets its contract. The loop's invariant: the first i places hold the records of the first i references. Assumes nothing.
 use native.Mathlib.Omega.{arith}
 use Prim.Native.Nat.{ℕ, _-_, _/_, _≤_, _<_}
 use mathlib.Core.Path.{_≡_, sym, ap, _∙_}

@@ -1,4 +1,4 @@
--- `instances::instance_verdict` meets its contract: its calls look at the tests in order, and each condition is that of its test.
+-- `read_instances::instance_verdict` meets its contract: its calls look at the tests in order, and each condition is that of its test.
 -- Assumes nothing.
 use Prim.Native.Nat.{ℕ, _-_, _/_}
 use mathlib.Core.Path.{_≡_, sym, ap, _∙_}

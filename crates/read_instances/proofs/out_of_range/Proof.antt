@@ -1,4 +1,4 @@
--- `instances::out_of_range` meets its contract, by its tests. Assumes nothing.
+-- `read_instances::out_of_range` meets its contract, by its tests. Assumes nothing.
 use native.Mathlib.Omega.{arith}
 use Prim.Native.Nat.{ℕ, _-_, _≤_, _<_}
 use mathlib.Core.Path.{_≡_, refl}

@@ -1,4 +1,4 @@
--- `instances::wrong_length` meets its contract, by its tests. Assumes nothing.
+-- `read_instances::wrong_length` meets its contract, by its tests. Assumes nothing.
 use mathlib.Core.Path.{_≡_, refl}
 use mathlib.Core.Bool.{Bool, true, false, not}
 use Prim.Native.Nat.{ℕ, _≤_}

@@ -1,4 +1,4 @@
--- `vectors::ended` meets its contract: the verdict on the field that was found, if one was, beside what was read. Assumes nothing.
+-- `read_vectors::ended` meets its contract: the verdict on the field that was found, if one was, beside what was read. Assumes nothing.
 use mathlib.Core.Path.{refl, _∙_}
 use borrow.Author.Needs.{needs}
 use Rattle.read_fields.proofs.Turns.{nothing-passes, inside, verdict-found, verdict-other}

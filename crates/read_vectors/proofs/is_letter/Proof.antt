@@ -1,4 +1,4 @@
--- `vectors::is_letter` meets its contract. Assumes nothing.
+-- `read_vectors::is_letter` meets its contract. Assumes nothing.
 use borrow.Author.Tests.{ne-eqb}
 use Rattle.circuit.specs.Table.{isLetter}
 use Rattle.read_vectors.proofs.is_letter.Statement.{statement}

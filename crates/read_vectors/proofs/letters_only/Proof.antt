@@ -1,4 +1,4 @@
--- `vectors::letters_only` meets its contract. The loop's invariant: the whole body is letters exactly when those before `i` are and the rest
+-- `read_vectors::letters_only` meets its contract. The loop's invariant: the whole body is letters exactly when those before `i` are and the rest
 -- from `i` on is. Assumes nothing.
 use Prim.Native.Nat.{_≤_, _-_}
 use mathlib.Core.Path.{_≡_, refl, sym, ap, _∙_}

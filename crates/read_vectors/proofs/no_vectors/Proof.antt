@@ -1,4 +1,4 @@
--- `vectors::no_vectors` meets its contract. Assumes nothing.
+-- `read_vectors::no_vectors` meets its contract. Assumes nothing.
 use mathlib.Core.Path.{ap}
 use borrow.Author.Needs.{needs}
 use lib.ListN.{replicate}

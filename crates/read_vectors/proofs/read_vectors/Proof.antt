@@ -1,4 +1,4 @@
--- `vectors::read_vectors` meets its contract: a walk of its MIR, by hand. A reader is made, and in each turn of the loop it is lent to `next` (Loans); what stands there ends the stage, or one vector more stands in the array.
+-- `read_vectors::read_vectors` meets its contract: a walk of its MIR, by hand. A reader is made, and in each turn of the loop it is lent to `next` (Loans); what stands there ends the stage, or one vector more stands in the array.
 -- The walk has four parts: `begins` up to the loop, `turns` up to the branch, `leaves` and `keeps`, its arms. The measure is what is left of the file. Assumes nothing.
 use mathlib.Core.Path.{_≡_, refl, sym, subst}
 use mathlib.Core.Bool.{Bool, true, false}

@@ -1,4 +1,4 @@
--- `vectors::vector_in` meets its contract. The loop's invariant: the planes hold the letters below `i`. Assumes nothing.
+-- `read_vectors::vector_in` meets its contract. The loop's invariant: the planes hold the letters below `i`. Assumes nothing.
 use Prim.Native.Nat.{_≤_, _-_}
 use mathlib.Core.Path.{_≡_, sym, _∙_}
 use mathlib.Core.Logic.{⊎-elim}

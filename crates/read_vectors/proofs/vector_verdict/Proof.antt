@@ -1,4 +1,4 @@
--- `vectors::vector_verdict` meets its contract: the tests one after the other give the first that refuses. Assumes nothing.
+-- `read_vectors::vector_verdict` meets its contract: the tests one after the other give the first that refuses. Assumes nothing.
 use mathlib.Core.Path.{sym, _∙_}
 use borrow.Author.Needs.{needs}
 use Rattle.circuit.specs.Table.{vectorTests}

@@ -1,4 +1,4 @@
--- `grader::grade::grade` meets its contract: the reading tells what the file says. Assumes nothing.
+-- `grade_file::grade::grade` meets its contract: the reading tells what the file says. Assumes nothing.
 use borrow.Author.Needs.{needs}
 use Rattle.grade_file.proofs.grade.grade.Statement.{statement}
 use Rattle.grade_file.proofs.grade.grade.Tie as tie

@@ -1,4 +1,4 @@
--- `marks::instance::label_planes` meets its contract. The loop's invariant: the labels below `l` have their words, and the others 0. Assumes nothing.
+-- `grade_marks::instance::label_planes` meets its contract. The loop's invariant: the labels below `l` have their words, and the others 0. Assumes nothing.
 use mathlib.Core.Path.{_≡_, ap, _∙_}
 use Prim.Native.Nat.{ℕ, _*_, _≤_, _<_, _-_}
 use native.Mathlib.Omega.{arith}

@@ -1,4 +1,4 @@
--- `marks::instance::mark_instance` meets its contract. Assumes nothing.
+-- `grade_marks::instance::mark_instance` meets its contract. Assumes nothing.
 use mathlib.Core.Path.{_≡_, _∙_}
 use mathlib.Core.List.{List}
 use Prim.Native.Nat.{ℕ, _+_, _*_}

@@ -1,4 +1,4 @@
--- `marks::instance::put_output` meets its contract. The loop's invariant: the first `w` words of both planes are written. Assumes nothing.
+-- `grade_marks::instance::put_output` meets its contract. The loop's invariant: the first `w` words of both planes are written. Assumes nothing.
 use mathlib.Core.Path.{_≡_, sym, refl}
 use mathlib.Core.List.{List}
 use Prim.Native.Nat.{ℕ, _+_, _*_, _≤_, _-_}

@@ -1,4 +1,4 @@
--- `marks::instance::signal_of` meets its contract. Assumes nothing.
+-- `grade_marks::instance::signal_of` meets its contract. Assumes nothing.
 use borrow.Author.Needs.{needs}
 use Rattle.grade_marks.specs.Model.{placeOfSignal}
 use Rattle.grade_marks.proofs.instance.signal_of.Statement.{statement}

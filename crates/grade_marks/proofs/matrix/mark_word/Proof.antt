@@ -1,4 +1,4 @@
--- `marks::matrix::mark_word` meets its contract: the model's word, by the row's kind. Assumes nothing.
+-- `grade_marks::matrix::mark_word` meets its contract: the model's word, by the row's kind. Assumes nothing.
 use Prim.Native.Nat.{_%_, _<_}
 use native.Mathlib.Omega.{arith}
 use borrow.Author.Needs.{needs}

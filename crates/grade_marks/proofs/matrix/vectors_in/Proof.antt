@@ -1,4 +1,4 @@
--- `marks::matrix::vectors_in` meets its contract. Assumes nothing.
+-- `grade_marks::matrix::vectors_in` meets its contract. Assumes nothing.
 use mathlib.Core.Path.{_≡_}
 use Prim.Native.Nat.{_-_, _*_}
 use native.Mathlib.Omega.{arith}

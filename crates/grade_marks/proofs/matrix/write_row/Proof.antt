@@ -1,4 +1,4 @@
--- `marks::matrix::write_row` meets its contract. The loop's invariant: the first `w` words of the row are written. Assumes nothing.
+-- `grade_marks::matrix::write_row` meets its contract. The loop's invariant: the first `w` words of the row are written. Assumes nothing.
 use mathlib.Core.Path.{_≡_, refl, sym}
 use mathlib.Core.List.{List}
 use Prim.Native.Nat.{ℕ, _+_, _-_, _≤_}

@@ -1,4 +1,4 @@
--- `marks::matrix::write_rows` meets its contract. The loop's invariant: the rows before the present one are written. Assumes nothing.
+-- `grade_marks::matrix::write_rows` meets its contract. The loop's invariant: the rows before the present one are written. Assumes nothing.
 use mathlib.Core.Path.{_≡_, refl, sym, ap, _∙_}
 use mathlib.Core.List.{List, [], _∷_, _++_}
 use Prim.Native.Nat.{ℕ, zero, suc, _+_, _-_, _*_, _/_, _%_, _≤_, _<_}

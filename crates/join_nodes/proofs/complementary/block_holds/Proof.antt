@@ -1,4 +1,4 @@
--- `joining::complementary::block_holds` meets its contract: the calls' words are those of the block's settings. Assumes nothing.
+-- `join_nodes::complementary::block_holds` meets its contract: the calls' words are those of the block's settings. Assumes nothing.
 use borrow.Author.Needs.{needs}
 use Rattle.join_nodes.proofs.Check.{block-verdict}
 use Rattle.join_nodes.proofs.complementary.block_holds.Statement.{statement}

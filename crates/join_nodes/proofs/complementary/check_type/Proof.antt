@@ -1,4 +1,4 @@
--- `joining::complementary::check_type` meets its contract: a walk of its MIR, by hand. The used edges of the record are lent to `complementary` for the call. Assumes nothing.
+-- `join_nodes::complementary::check_type` meets its contract: a walk of its MIR, by hand. The used edges of the record are lent to `complementary` for the call. Assumes nothing.
 use mathlib.Core.Path.{_≡_, refl, ap, _∙_}
 use Prim.Native.Nat.{ℕ, _^_, _<_}
 use native.Mathlib.Omega.{arith}

@@ -1,4 +1,4 @@
--- `joining::complementary::complementary` meets its contract: a walk of its MIR, by hand. The slice is spread, and `complementary_of` is called on the record. Assumes nothing.
+-- `join_nodes::complementary::complementary` meets its contract: a walk of its MIR, by hand. The slice is spread, and `complementary_of` is called on the record. Assumes nothing.
 use mathlib.Core.Path.{_≡_, refl, ap, _∙_}
 use Prim.Native.Nat.{ℕ, _<_}
 use mathlib.Core.Bool.{Bool}

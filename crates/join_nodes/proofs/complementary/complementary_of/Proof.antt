@@ -1,4 +1,4 @@
--- `joining::complementary::complementary_of` meets its contract. The loop's invariant: every setting below 64 times `block` joins the output to exactly one rail.
+-- `join_nodes::complementary::complementary_of` meets its contract. The loop's invariant: every setting below 64 times `block` joins the output to exactly one rail.
 -- Assumes nothing.
 use mathlib.Core.Path.{_≡_}
 use Prim.Native.Nat.{_≤_, _<_, _+_, _-_, _*_, _^_}

@@ -1,4 +1,4 @@
--- `joining::conduction::edge_words` meets its contract. The loop's invariant: the first `w` words of the edge are written. Assumes nothing.
+-- `join_nodes::conduction::edge_words` meets its contract. The loop's invariant: the first `w` words of the edge are written. Assumes nothing.
 use mathlib.Core.Path.{_≡_, sym, refl}
 use mathlib.Core.List.{List}
 use Prim.Native.Nat.{ℕ, _+_, _≤_, _-_}

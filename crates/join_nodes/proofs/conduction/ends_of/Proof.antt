@@ -1,4 +1,4 @@
--- `joining::conduction::ends_of` meets its contract. The loop's invariant: the first `i` places of both columns are written. Assumes nothing.
+-- `join_nodes::conduction::ends_of` meets its contract. The loop's invariant: the first `i` places of both columns are written. Assumes nothing.
 use mathlib.Core.Path.{_≡_}
 use mathlib.Core.List.{List}
 use Prim.Native.Nat.{ℕ, _≤_, _<_, _-_}

@@ -1,4 +1,4 @@
--- `joining::conduction::on_word` meets its contract. The loop's invariant: `on` is the or over the first `j` labels, in their words w. Assumes nothing.
+-- `join_nodes::conduction::on_word` meets its contract. The loop's invariant: `on` is the or over the first `j` labels, in their words w. Assumes nothing.
 use mathlib.Core.Path.{_≡_, refl}
 use Prim.Native.Nat.{ℕ, _+_, _*_, _≤_, _<_, _-_}
 use native.Mathlib.Numerals.{add-one}

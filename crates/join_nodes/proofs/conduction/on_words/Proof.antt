@@ -1,4 +1,4 @@
--- `joining::conduction::on_words` meets its contract. The loop's invariant: the words of the first `i` edges stand, and the others are 0. Assumes nothing.
+-- `join_nodes::conduction::on_words` meets its contract. The loop's invariant: the words of the first `i` edges stand, and the others are 0. Assumes nothing.
 use mathlib.Core.Path.{_≡_, sym, _∙_}
 use Prim.Native.Nat.{_+_, _*_, _≤_, _<_, _-_}
 use native.Mathlib.Numerals.{add-one}

@@ -1,4 +1,4 @@
--- `joining::edges::edge_at` meets its contract: a walk of its MIR, by hand. The place of `edges[i]` is 8 i past the slice's pointer, and the edge is read there.
+-- `join_nodes::edges::edge_at` meets its contract: a walk of its MIR, by hand. The place of `edges[i]` is 8 i past the slice's pointer, and the edge is read there.
 -- Assumes nothing.
 use mathlib.Core.Path.{refl, sym}
 use Prim.Native.Nat.{ℕ, _*_, _<_, _^_}

@@ -1,4 +1,4 @@
--- `joining::edges::spread` meets its contract: a walk of its MIR, by hand, with a loop that calls `edge_at`. The loop's invariant: the first i edges of the slice stand in the array.
+-- `join_nodes::edges::spread` meets its contract: a walk of its MIR, by hand, with a loop that calls `edge_at`. The loop's invariant: the first i edges of the slice stand in the array.
 -- Assumes nothing.
 use mathlib.Core.Path.{_≡_, refl, sym, subst}
 use mathlib.Core.WellFounded.{WellFounded, InvImage·wf}

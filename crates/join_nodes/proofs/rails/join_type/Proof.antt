@@ -1,4 +1,4 @@
--- `joining::rails::join_type` meets its contract: a walk of its MIR, by hand. The used edges of the record are lent to `joining` for the call. Assumes nothing.
+-- `join_nodes::rails::join_type` meets its contract: a walk of its MIR, by hand. The used edges of the record are lent to `joining` for the call. Assumes nothing.
 use mathlib.Core.Path.{_≡_, refl, ap, _∙_}
 use Prim.Native.Nat.{ℕ, _^_, _<_}
 use native.Mathlib.Omega.{arith}

@@ -1,4 +1,4 @@
--- `joining::rails::joining` meets its contract: a walk of its MIR, by hand. The slice is spread, and `joining_of` is called on the record and the planes. Assumes nothing.
+-- `join_nodes::rails::joining` meets its contract: a walk of its MIR, by hand. The slice is spread, and `joining_of` is called on the record and the planes. Assumes nothing.
 use mathlib.Core.Path.{_≡_, refl, ap, _∙_}
 use Prim.Native.Nat.{ℕ, _<_}
 use mathlib.Core.List.{List, [], _∷_}

@@ -1,4 +1,4 @@
--- `joining::rails::joining_of` meets its contract: the rounds' words over the type's columns are the type's. Assumes nothing.
+-- `join_nodes::rails::joining_of` meets its contract: the rounds' words over the type's columns are the type's. Assumes nothing.
 use mathlib.Core.Path.{_≡_, refl}
 use mathlib.Core.List.{List}
 use Prim.Native.Nat.{ℕ, _+_}

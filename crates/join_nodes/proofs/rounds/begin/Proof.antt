@@ -1,4 +1,4 @@
--- `joining::rounds::begin` meets its contract. The loop's invariant: the first `w` words have all ones. Assumes nothing.
+-- `join_nodes::rounds::begin` meets its contract. The loop's invariant: the first `w` words have all ones. Assumes nothing.
 use mathlib.Core.Path.{_≡_, refl, ap, _∙_}
 use Prim.Native.Nat.{_≤_, _-_, _*_}
 use native.Mathlib.Numerals.{add-one}

@@ -1,4 +1,4 @@
--- `joining::rounds::hand_on` meets its contract. The loop's invariant: the first `w` words are handed on. Assumes nothing.
+-- `join_nodes::rounds::hand_on` meets its contract. The loop's invariant: the first `w` words are handed on. Assumes nothing.
 use mathlib.Core.Path.{_≡_, refl}
 use Prim.Native.Nat.{_≤_, _-_}
 use native.Mathlib.Numerals.{add-one}

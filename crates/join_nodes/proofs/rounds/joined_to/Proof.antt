@@ -1,4 +1,4 @@
--- `joining::rounds::joined_to` meets its contract. The loop's invariant: for each word of a node, a node has a bit only where it is joined to the rail,
+-- `join_nodes::rounds::joined_to` meets its contract. The loop's invariant: for each word of a node, a node has a bit only where it is joined to the rail,
 -- and the rail has all (`WideReached`); `next` is as `joined`. The measure: how far the sum of the words is from its bound. Assumes nothing.
 use mathlib.Core.Path.{_≡_, ap, sym, _∙_}
 use mathlib.Core.List.{List}

@@ -1,4 +1,4 @@
--- `joining::rounds::round` meets its contract. The loop's invariant: `next` is the model's words after the first `i` edges. Assumes nothing.
+-- `join_nodes::rounds::round` meets its contract. The loop's invariant: `next` is the model's words after the first `i` edges. Assumes nothing.
 use mathlib.Core.Path.{_≡_, ap, _∙_}
 use mathlib.Core.List.{List}
 use Prim.Native.Nat.{ℕ, _≤_, _<_, _-_, _+_, _*_}

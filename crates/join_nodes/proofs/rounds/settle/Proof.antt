@@ -1,4 +1,4 @@
--- `joining::rounds::settle` meets its contract. The loop's invariant: the first `p` words are taken over, and `added` tells of them. Assumes nothing.
+-- `join_nodes::rounds::settle` meets its contract. The loop's invariant: the first `p` words are taken over, and `added` tells of them. Assumes nothing.
 use mathlib.Core.Path.{_≡_, refl}
 use Prim.Native.Nat.{suc, _≤_, _-_}
 use native.Mathlib.Numerals.{add-one}

@@ -1,4 +1,4 @@
--- `joining::settings::setting_ones` meets its contract. The loop's invariant: the labels below `l` have their planes, and the others 0. Assumes nothing.
+-- `join_nodes::settings::setting_ones` meets its contract. The loop's invariant: the labels below `l` have their planes, and the others 0. Assumes nothing.
 use mathlib.Core.Path.{_≡_, ap, _∙_}
 use mathlib.Core.Logic.{⊎-elim}
 use mathlib.Core.List.{List}

@@ -1,4 +1,4 @@
--- `joining::settings::setting_zeros` meets its contract. The loop's invariant: the labels below `l` have their known-0 planes, the others 0. Assumes nothing.
+-- `join_nodes::settings::setting_zeros` meets its contract. The loop's invariant: the labels below `l` have their known-0 planes, the others 0. Assumes nothing.
 use mathlib.Core.Path.{_≡_, ap, _∙_}
 use mathlib.Core.List.{List}
 use Prim.Native.Nat.{ℕ, _≤_, _-_, _^_}

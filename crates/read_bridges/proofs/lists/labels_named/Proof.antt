@@ -1,4 +1,4 @@
--- `bridges::lists::labels_named` meets its contract. Assumes nothing.
+-- `read_bridges::lists::labels_named` meets its contract. Assumes nothing.
 use native.Mathlib.Numerals.{add-one}
 use borrow.Author.Needs.{needs}
 use borrow.Author.Tests.{eq-eqb, ne-eqb}

@@ -1,4 +1,4 @@
--- `bridges::lists::lists_of` meets its contract. The loop's invariant: the columns are the sums of the first `i` bridges. Assumes nothing.
+-- `read_bridges::lists::lists_of` meets its contract. The loop's invariant: the columns are the sums of the first `i` bridges. Assumes nothing.
 use Prim.Native.Nat.{ℕ, _+_, _-_, _≤_, _<_, max}
 use mathlib.Core.Path.{refl, ap, _∙_}
 use mathlib.Core.List.{List}

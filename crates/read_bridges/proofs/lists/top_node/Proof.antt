@@ -1,4 +1,4 @@
--- `bridges::lists::top_node` meets its contract. Assumes nothing.
+-- `read_bridges::lists::top_node` meets its contract. Assumes nothing.
 use mathlib.Core.Path.{_∙_}
 use borrow.Author.Needs.{needs}
 use borrow.Author.Tests.{eq-eqb, ne-eqb}

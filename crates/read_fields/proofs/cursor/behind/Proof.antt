@@ -1,4 +1,4 @@
--- `fields::cursor::behind` meets its contract: the place behind a field is where its body ends, and without one it stays. Assumes nothing.
+-- `read_fields::cursor::behind` meets its contract: the place behind a field is where its body ends, and without one it stays. Assumes nothing.
 use Prim.Native.Nat.{ℕ, _+_, _<_, _^_}
 use mathlib.Core.Path.{_≡_, refl, sym, subst}
 use borrow.Author.Needs.{needs}

@@ -1,4 +1,4 @@
--- `fields::cursor::cut_at` meets its contract: what is left of the file decides between its end, no whole field, and a field. Assumes nothing.
+-- `read_fields::cursor::cut_at` meets its contract: what is left of the file decides between its end, no whole field, and a field. Assumes nothing.
 use Prim.Native.Nat.{ℕ, _+_, _*_, _≤_}
 use mathlib.Core.Path.{_≡_, refl, ap}
 use mathlib.Core.List.{List}

@@ -1,4 +1,4 @@
--- `fields::cursor::next` meets its contract: a walk of its MIR, by hand. The borrow is opened, `place` is called on a copy of the struct, `cut_at` on the slice that the struct holds and the place that was told, `behind` on the step told, the new place is stored beside the slice, and the borrow is closed at the struct with it.
+-- `read_fields::cursor::next` meets its contract: a walk of its MIR, by hand. The borrow is opened, `place` is called on a copy of the struct, `cut_at` on the slice that the struct holds and the place that was told, `behind` on the step told, the new place is stored beside the slice, and the borrow is closed at the struct with it.
 -- All that the proof knows of the three is that each meets its contract. The struct is Copy: what it owns is had once more for each call that needs it, whole for `place` and what file owns for `cut_at`, and stays for the closing.
 -- Assumes nothing.
 use mathlib.Core.Path.{_≡_, refl, ap, _∙_}

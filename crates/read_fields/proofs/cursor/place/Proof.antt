@@ -1,4 +1,4 @@
--- `fields::cursor::place` meets its contract: a walk of its MIR, by hand. A number is read from a field of the struct, and the struct is seen at exit as it was passed.
+-- `read_fields::cursor::place` meets its contract: a walk of its MIR, by hand. A number is read from a field of the struct, and the struct is seen at exit as it was passed.
 -- That the number fits its type is in the struct's relation, at the field's place.
 -- Assumes nothing.
 use mathlib.Core.Path.{refl}

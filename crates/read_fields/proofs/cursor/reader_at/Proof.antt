@@ -1,4 +1,4 @@
--- `fields::cursor::reader_at` meets its contract: a walk of its MIR, by hand. A `Reader` is made of the slice and the place passed, in the result's local.
+-- `read_fields::cursor::reader_at` meets its contract: a walk of its MIR, by hand. A `Reader` is made of the slice and the place passed, in the result's local.
 -- A `&[u8]` is Copy, so what it owns is had twice: once for file at exit, and once inside the result, beside the facts of at.
 -- Assumes nothing.
 use mathlib.Core.Path.{refl}

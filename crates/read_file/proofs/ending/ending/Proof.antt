@@ -1,4 +1,4 @@
--- `reader::ending::ending` meets its contract: each of the three that can stand at an offset has its verdict. Assumes nothing.
+-- `read_file::ending::ending` meets its contract: each of the three that can stand at an offset has its verdict. Assumes nothing.
 use Prim.Native.Nat.{ℕ}
 use mathlib.Core.Path.{_≡_, _∙_}
 use mathlib.Core.Bool.{Bool}

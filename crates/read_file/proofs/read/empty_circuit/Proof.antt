@@ -1,4 +1,4 @@
--- `reader::read::empty_circuit` meets its contract: every place of every array holds what unused places hold. Assumes nothing.
+-- `read_file::read::empty_circuit` meets its contract: every place of every array holds what unused places hold. Assumes nothing.
 use borrow.Author.Needs.{needs}
 use Rattle.read_file.proofs.ReadLaws.{empty-record}
 use Rattle.read_file.proofs.read.empty_circuit.Statement.{statement}

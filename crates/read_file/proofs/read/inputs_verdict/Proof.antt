@@ -1,4 +1,4 @@
--- `reader::read::inputs_verdict` meets its contract: the tests one after the other give the first that refuses. Assumes nothing.
+-- `read_file::read::inputs_verdict` meets its contract: the tests one after the other give the first that refuses. Assumes nothing.
 use mathlib.Core.Path.{sym, _∙_}
 use mathlib.Core.Logic.{⊎-elim}
 use borrow.Author.Needs.{needs}

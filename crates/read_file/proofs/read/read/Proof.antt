@@ -1,4 +1,4 @@
--- `reader::read::read` meets its contract: what the stages tell, with an empty circuit beside a refusal. Assumes nothing.
+-- `read_file::read::read` meets its contract: what the stages tell, with an empty circuit beside a refusal. Assumes nothing.
 use mathlib.Core.Path.{sym, subst, _∙_}
 use borrow.Author.Needs.{needs}
 use Rattle.circuit.specs.Answers.{Answers}

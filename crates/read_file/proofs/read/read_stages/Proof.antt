@@ -1,4 +1,4 @@
--- `reader::read::read_stages` meets its contract: each stage goes on from where the one before it ended, the first verdict that refuses counts, and
+-- `read_file::read::read_stages` meets its contract: each stage goes on from where the one before it ended, the first verdict that refuses counts, and
 -- beside it stands what the stages have gathered. Assumes nothing.
 use mathlib.Core.Path.{sym, subst}
 use borrow.Author.Needs.{needs}

@@ -1,4 +1,4 @@
--- `reader::read::read_start` meets its contract: the file is too long, does not begin with its inputs, has them refused, or goes on behind them.
+-- `read_file::read::read_start` meets its contract: the file is too long, does not begin with its inputs, has them refused, or goes on behind them.
 -- Assumes nothing.
 use Prim.Native.Nat.{ℕ, _+_}
 use mathlib.Core.Path.{_≡_, refl, sym, _∙_}

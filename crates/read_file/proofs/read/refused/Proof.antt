@@ -1,4 +1,4 @@
--- `reader::read::refused` meets its contract. Assumes nothing.
+-- `read_file::read::refused` meets its contract. Assumes nothing.
 use borrow.Author.Needs.{needs}
 use Rattle.read_file.proofs.read.refused.Statement.{statement}
 use Rattle.read_file.proofs.read.refused.Tie as tie

@@ -1,4 +1,4 @@
--- `instances::choices::faults_chosen` meets its contract, by the tests of the choice. Assumes nothing.
+-- `read_instances::choices::faults_chosen` meets its contract, by the tests of the choice. Assumes nothing.
 use native.Mathlib.Nat.{mul-le-mul}
 use native.Mathlib.Omega.{arith}
 use Prim.Native.Nat.{ℕ, _+_, _*_, _≤_}

@@ -1,4 +1,4 @@
--- `instances::choices::given_by` meets its contract: the sums are those of the list that the choice names. Assumes nothing.
+-- `read_instances::choices::given_by` meets its contract: the sums are those of the list that the choice names. Assumes nothing.
 use Prim.Native.Nat.{_<_}
 use mathlib.Core.Path.{_∙_}
 use native.Mathlib.Omega.{arith}

@@ -1,4 +1,4 @@
--- `instances::choices::list_named` meets its contract, by the test of the choice. Assumes nothing.
+-- `read_instances::choices::list_named` meets its contract, by the test of the choice. Assumes nothing.
 use borrow.Author.Tests.{lt-ltb, le-ltb}
 use Rattle.read_instances.specs.Choices.{listNamed}
 use Rattle.read_instances.proofs.choices.list_named.Statement.{statement}

@@ -1,4 +1,4 @@
--- `instances::references::reference_good` meets its contract, by its tests. Assumes nothing.
+-- `read_instances::references::reference_good` meets its contract, by its tests. Assumes nothing.
 use native.Mathlib.Omega.{arith}
 use Prim.Native.Nat.{_-_}
 use borrow.Author.Needs.{needs}

@@ -1,4 +1,4 @@
--- `instances::references::reference_in` meets its contract: a reference that is good has a number that fits a byte. Assumes nothing.
+-- `read_instances::references::reference_in` meets its contract: a reference that is good has a number that fits a byte. Assumes nothing.
 use native.Mathlib.Omega.{arith}
 use Prim.Native.Nat.{ℕ, _-_, _≤_, _<_}
 use borrow.Author.Tests.{lt-ltb, le-ltb}

@@ -1,4 +1,4 @@
--- `instances::references::references_good` meets its contract. The loop's invariant: each reference passed is good. Assumes nothing.
+-- `read_instances::references::references_good` meets its contract. The loop's invariant: each reference passed is good. Assumes nothing.
 use native.Mathlib.Omega.{arith}
 use Prim.Native.Nat.{ℕ, _+_, _-_, _*_, _/_, _≤_, _<_}
 use mathlib.Core.Path.{_≡_, sym, ap, _∙_}

@@ -1,4 +1,4 @@
--- `instances::shapes::of_type` meets its contract: a number with a place reads it, and any other has none. Assumes nothing.
+-- `read_instances::shapes::of_type` meets its contract: a number with a place reads it, and any other has none. Assumes nothing.
 use Prim.Native.Nat.{ℕ, zero, suc, _-_, _≤_, _<_}
 use mathlib.Core.Path.{_≡_, refl, sym}
 use mathlib.Core.Logic.{⊎-elim}

@@ -1,4 +1,4 @@
--- `instances::shapes::shapes_of` meets its contract. The loop's invariant: the columns hold the shapes of the first `i` places. Assumes nothing.
+-- `read_instances::shapes::shapes_of` meets its contract. The loop's invariant: the columns hold the shapes of the first `i` places. Assumes nothing.
 use Prim.Native.Nat.{ℕ, _-_, _≤_, _<_}
 use mathlib.Core.Path.{_≡_}
 use mathlib.Core.List.{List, []}

@@ -1,4 +1,4 @@
--- `modules::edges::edge_verdict` meets its contract: each test of the table, in its order. The code does not count an edge's labels again for number 7:
+-- `read_types::edges::edge_verdict` meets its contract: each test of the table, in its order. The code does not count an edge's labels again for number 7:
 -- where the field's length has passed 5 there are 1 to 4. Assumes nothing.
 use Prim.Native.Nat.{ℕ, _<_, _≤_}
 use mathlib.Core.Logic.{⊎-elim}

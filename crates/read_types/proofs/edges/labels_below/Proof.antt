@@ -1,4 +1,4 @@
--- `modules::edges::labels_below` meets its contract. The loop's invariant: all labels pass exactly when those from `i` on do. Assumes nothing.
+-- `read_types::edges::labels_below` meets its contract. The loop's invariant: all labels pass exactly when those from `i` on do. Assumes nothing.
 use Prim.Native.Nat.{ℕ, _-_, _≤_, _<_}
 use mathlib.Core.Path.{_≡_, refl, sym, _∙_}
 use native.Mathlib.Omega.{arith}

@@ -1,4 +1,4 @@
--- `modules::edges::n_end` meets its contract. Assumes nothing.
+-- `read_types::edges::n_end` meets its contract. Assumes nothing.
 use borrow.Author.Needs.{needs}
 use borrow.Author.Tests.{eq-eqb, ne-eqb}
 use Rattle.switch.specs.Conduction.{nEnd}

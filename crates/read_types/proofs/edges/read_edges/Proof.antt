@@ -1,4 +1,4 @@
--- `modules::edges::read_edges` meets its contract. The loop's invariant: the type so far, with the edges that are left, is what all edges make of it.
+-- `read_types::edges::read_edges` meets its contract. The loop's invariant: the type so far, with the edges that are left, is what all edges make of it.
 -- The measure is what is left of the file. Assumes nothing.
 use Prim.Native.Nat.{_-_, _≤_, _<_}
 use mathlib.Core.Path.{_≡_, sym, _∙_}

@@ -1,4 +1,4 @@
--- `modules::types::failing` meets its contract: each of the three that can stand at an offset has its verdict. Assumes nothing.
+-- `read_types::types::failing` meets its contract: each of the three that can stand at an offset has its verdict. Assumes nothing.
 use Prim.Native.Nat.{ℕ}
 use mathlib.Core.Path.{_≡_, _∙_}
 use mathlib.Core.List.{List}

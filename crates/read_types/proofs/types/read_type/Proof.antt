@@ -1,4 +1,4 @@
--- `modules::types::read_type` meets its contract: its edges failed, or it is complementary, or it is not. Assumes nothing.
+-- `read_types::types::read_type` meets its contract: its edges failed, or it is complementary, or it is not. Assumes nothing.
 use mathlib.Core.Path.{sym, _∙_}
 use borrow.Author.Needs.{needs}
 use Rattle.read_fields.specs.Steps.{bodyOf}

@@ -1,4 +1,4 @@
--- `modules::types::read_types` meets its contract. The loop's invariant: the types so far are judged, and with what is left of the file they make the stage.
+-- `read_types::types::read_types` meets its contract. The loop's invariant: the types so far are judged, and with what is left of the file they make the stage.
 -- Each turn adds a type, of which there are at most 16. Assumes nothing.
 use Prim.Native.Nat.{ℕ, _-_, _<_}
 use mathlib.Core.Path.{_≡_, sym, subst, ap, _∙_}

@@ -1,4 +1,4 @@
--- `modules::types::type_verdict` meets its contract: each test of the table, in its order. Assumes nothing.
+-- `read_types::types::type_verdict` meets its contract: each test of the table, in its order. Assumes nothing.
 use Prim.Native.Nat.{ℕ}
 use mathlib.Core.Path.{_≡_, sym, _∙_}
 use mathlib.Core.Bool.{Bool, not, _&&_}

@@ -9,31 +9,36 @@ use lib.Dec.{T}
 use lib.ListN.{length, getD, set, replicate, length-append, length-map}
 use Rattle.switch.specs.Modules.{ModuleType, mostEdges, allOf, typeInRange, inRange}
 use Rattle.switch.specs.Deciding.{isComplementary}
-use Rattle.switch.specs.Records.{typeOf, TypeGiven}
+use Rattle.switch.specs.Records.{unusedEdge, typeOf, TypeGiven}
 use Rattle.switch.specs.declared.Edge.{Edge as EdgeRecord}
 use Rattle.switch.specs.declared.ModuleType.{ModuleType as TypeRecord}
 use Rattle.switch.proofs.Deciding.{and-both}
 use Rattle.circuit.specs.Limits.{mostTypes}
-use Rattle.circuit.specs.Fields.{Cut, clean, cutFrom}
-use Rattle.circuit.specs.Order.{type-tag, edge-tag}
+use Rattle.circuit.specs.Fields.{Field, Cut, clean, field, cutFrom}
+use Rattle.circuit.specs.Order.{type-tag, edge-tag, tagOf}
 use Rattle.circuit.specs.Known.{typeIn, edgeIn, withEdge}
 use Rattle.circuit.specs.Table.{Verdict, passes, refusedAt, firstOf, typeTests, edgeTests, edgeTestsOf}
 use Rattle.circuit.specs.Records.{padded, unusedType, edgeRecord, typeRecord}
 use Rattle.circuit.specs.Refusals.{refusalNumber, refusalPlace, numberedVerdict, verdictOf}
 use Rattle.circuit.specs.Verdicts.{isRefused}
 use Rattle.circuit.specs.Stages.{Stage, ifPasses, edgeStage, failingVerdict, fieldPlace, typeStage, stageOf}
-use Rattle.read_fields.specs.Steps.{bodyOf, fieldIn, NextIs}
-use Rattle.read_types.specs.ReadTypes.{bareOf, BareType, EdgesRead, TypeRead, TypesRead}
+use Rattle.read_fields.specs.Steps.{bodyOf, fieldIn, NextIs, endsBy, verdictBy, keptBy}
+use Rattle.read_types.specs.EdgeTurns.{edgeVerdict, edgeKept, EdgeNext, shapedRecord, EdgesEnded}
+use Rattle.read_types.specs.ReadTypes.{bareOf, EdgesRead, TypeRead, TypesRead}
 use Rattle.read_fields.specs.declared.Field.{Field as FieldRecord}
+use Rattle.read_fields.specs.declared.Next.{Next}
 use Rattle.read_fields.specs.declared.Next.the-variants.{Found, Other}
 use Rattle.circuit.specs.declared.refusal.Refusal.{Refusal}
 use Rattle.circuit.specs.declared.refusal.Refusal.the-variants.{Nothing}
 use Rattle.read_types.specs.declared.edges.OneType.{OneType}
+use Rattle.read_types.specs.declared.edges.Shape.{Shape}
 use Rattle.circuit.proofs.Padding.{padded-nil, padded-snoc}
 use Rattle.circuit.proofs.Verdicts.{first-passes, passes-is}
 use Rattle.circuit.proofs.GatheredLaws.{failing-refuses}
+use Rattle.read_fields.proofs.Bodies.{length-body}
 use Rattle.read_fields.proofs.Cuts.{section-step, section-stop}
-use Rattle.circuit.proofs.TypeLaws.{accepts, type-back, type-given, edge-passes, with-edge-ranges, with-edge-record}
+use Rattle.read_fields.proofs.Turns.{Turned}
+use Rattle.circuit.proofs.TypeLaws.{accepts, type-back, type-given, EdgePasses, edge-passes, with-edge-ranges, with-edge-record}
 use Rattle.read_types.proofs.TypeStages.{afterEdges, edges-first, failing-stage, Settled, settled-none, settled-more, type-step, type-stop}
 
 -- ---- a stage that fails
@@ -53,122 +58,162 @@ if-passes v w e r a cut s = rw (← e, passes-is v r)
 
 -- ---- edges
 
--- the edges from an offset on, as far as they are read
-pub record EdgesSoFar (file : List ℕ) (from : ℕ) (bare : TypeRecord) (r : TypeRecord) (at : ℕ) : Type 0 where
+-- the edges from an offset on, as far as they are read: the type that they make, and the code's array, count and offset
+pub record EdgesSoFar (file : List ℕ) (from : ℕ) (shape : Shape) (edges : List EdgeRecord) (count at : ℕ) : Type 0 where
   pub type : ModuleType
-  pub stage : edgeStage (bareOf bare) (cutFrom file from) ≡ edgeStage type (cutFrom file at)
+  pub stage : edgeStage (bareOf shape) (cutFrom file from) ≡ edgeStage type (cutFrom file at)
   pub place : at ≤ length file
   pub ranges : T (inRange type)
   pub within : length (type .edges) ≤ mostEdges
-  pub is : r ≡ typeRecord type
+  pub is : shapedRecord shape count edges ≡ typeRecord type
 
 abbrev plusEdge : ModuleType → List ℕ → ModuleType
 plusEdge t body = withEdge t (edgeIn (t .output) body)
 
--- the tests of an edge field, from the record's numbers
-tests-of-record : (r : TypeRecord) (t : ModuleType) → r ≡ typeRecord t → (at : ℕ) (body : List ℕ)
-    → edgeTestsOf (r .highest) (r .output) (r .labels) (r .count) at body ≡ edgeTests t at body
-unfolding edgeTests typeRecord
-tests-of-record r t e at body = rw e
+pub edges-start : (file : List ℕ) (from : ℕ) (shape : Shape) → from ≤ length file → T (typeInRange (shape .highest) (shape .output) (shape .labels))
+    → EdgesSoFar file from shape (replicate mostEdges unusedEdge) 0 from
+unfolding inRange allOf typeRecord
+edges-start file from shape h ranges = record {
+  type = bareOf shape;
+  stage = refl;
+  place = h;
+  ranges = and-both (typeInRange (shape .highest) (shape .output) (shape .labels)) true ranges tt;
+  within = omega arith;
+  is = rw (padded-nil unusedEdge mostEdges);
+}
 
-module _ (file : List ℕ) (from : ℕ) (bare : TypeRecord) where
-  pub edges-start : BareType bare → from ≤ length file → EdgesSoFar file from bare bare from
-  unfolding inRange allOf
-  edges-start b h = record {
-    type = bareOf bare;
-    stage = refl;
-    place = h;
-    ranges = and-both (typeInRange (bare .highest) (bare .output) (bare .labels)) true (b .ranges) tt;
-    within = omega arith;
-    is = b .bare;
+module _ {file : List ℕ} {from : ℕ} {shape : Shape} {edges : List EdgeRecord} {count at : ℕ} (sofar : EdgesSoFar file from shape edges count at) where
+  abbrev made : ModuleType
+  made = sofar .type
+
+  -- what is given where the stage ends here
+  abbrev given : Refusal → OneType
+  given v = record { refusal = v; at = at; «module_type» = shapedRecord shape count edges }
+
+  pub edge-count : count ≡ length (made .edges)
+  unfolding typeRecord
+  edge-count = ap (λ (r : TypeRecord). r .count) (sofar .is)
+
+  -- the verdict on a field is that in the type which the edges make so far
+  verdict-so-far : (f : FieldRecord) → edgeVerdict file shape count f ≡ firstOf (edgeTests made (f .at) (bodyOf file f))
+  unfolding edgeVerdict edgeTests typeRecord
+  verdict-so-far f =
+      ap (λ (r : TypeRecord). firstOf (edgeTestsOf (r .highest) (r .output) (r .labels) (r .count) (f .at) (bodyOf file f))) (sofar .is)
+
+  -- what was read, with a verdict by which the stage ends here
+  edges-read : (v : Refusal) → edgeStage made (cutFrom file at) ≡ stageOf (verdictOf v) made (cutFrom file at)
+      → ((f : Field) (rest : Cut) → verdictOf v ≡ passes → cutFrom file at ≡ field f rest → tagOf (f .tag) ≡ edge-tag → ⊥)
+      → EdgesRead file from shape (given v)
+  edges-read v e none = record {
+    type = made;
+    stage = sofar .stage ∙ e;
+    place = sofar .place;
+    ranges = sofar .ranges;
+    within = sofar .within;
+    next = none;
+    is = sofar .is;
   }
 
-  module _ (r : TypeRecord) (at : ℕ) (sofar : EdgesSoFar file from bare r at) where
-    pub edges-stop : NextIs file at edge-tag Other → EdgesRead file from bare (record { refusal = Nothing; at = at; «module_type» = r })
-    unfolding NextIs verdictOf refusalNumber refusalPlace numberedVerdict
-    edges-stop other = record {
-      type = sofar .type;
-      stage = sofar .stage ∙ section-stop edge-tag edgeTests plusEdge (sofar .type) file at other;
-      place = sofar .place;
-      ranges = sofar .ranges;
-      within = sofar .within;
-      next = λ f rest p e. other f rest e;
-      is = sofar .is;
-    }
+  -- no edge stands here
+  edges-stop : NextIs file at edge-tag Other → (v : Refusal) → verdictOf v ≡ passes → EdgesRead file from shape (given v)
+  unfolding NextIs
+  edges-stop other v e =
+      edges-read v (section-stop edge-tag edgeTests plusEdge made file at other ∙ rw e) (λ f rest p here. other f rest here)
 
-    module _ (f : FieldRecord) (here : NextIs file at edge-tag (Found f)) (v : Refusal)
-        (tested : verdictOf v ≡ firstOf (edgeTestsOf (r .highest) (r .output) (r .labels) (r .count) (f .at) (bodyOf file f))) where
-      verdict-is : verdictOf v ≡ firstOf (edgeTests (sofar .type) (f .at) (bodyOf file f))
-      verdict-is = tested ∙ ap firstOf (tests-of-record r (sofar .type) (sofar .is) (f .at) (bodyOf file f))
+  module _ (f : FieldRecord) (here : NextIs file at edge-tag (Found f)) where
+    -- the stage at this edge
+    stage-here : edgeStage made (cutFrom file at)
+        ≡ ifPasses (edgeVerdict file shape count f) made (cutFrom file at) (edgeStage (plusEdge made (bodyOf file f)) (cutFrom file (f .body + f .len)))
+    unfolding NextIs
+    stage-here = section-step edge-tag edgeTests plusEdge made file at f (here .0) (here .1) ∙ rw (verdict-so-far f)
 
-      -- the stage at this edge
-      stage-here : edgeStage (bareOf bare) (cutFrom file from)
-          ≡ ifPasses (firstOf (edgeTests (sofar .type) (f .at) (bodyOf file f))) (sofar .type) (cutFrom file at)
-          (edgeStage (withEdge (sofar .type) (edgeIn (sofar .type .output) (bodyOf file f))) (cutFrom file (f .body + f .len)))
-      unfolding NextIs
-      stage-here =
-          sofar .stage ∙ section-step edge-tag edgeTests plusEdge (sofar .type) file at f (here .0) (here .1)
+    edges-refused : (v : Refusal) → verdictOf v ≡ edgeVerdict file shape count f → isRefused (verdictOf v) ≡ true → EdgesRead file from shape (given v)
+    edges-refused v tested e =
+        edges-read v (stage-here ∙ if-refused (verdictOf v) _ tested e _ made (cutFrom file at)) (λ g rest p. never-passes (verdictOf v) e p)
 
-      pub edges-refused : isRefused (verdictOf v) ≡ true → EdgesRead file from bare (record { refusal = v; at = at; «module_type» = r })
-      edges-refused e = record {
-        type = sofar .type;
-        stage = stage-here ∙ if-refused (verdictOf v) _ verdict-is e _ (sofar .type) (cutFrom file at);
-        place = sofar .place;
-        ranges = sofar .ranges;
-        within = sofar .within;
-        next = λ g rest p. never-passes (verdictOf v) e p;
-        is = sofar .is;
-      }
+    module _ (accepted : isRefused (edgeVerdict file shape count f) ≡ false) where
+      edge-passed : EdgePasses made (bodyOf file f)
+      edge-passed = edge-passes made (f .at) (bodyOf file f) (sym (verdict-so-far f) ∙ passes-is (edgeVerdict file shape count f) accepted)
 
-      module _ (accepted : isRefused (verdictOf v) ≡ false) where
-        passed : firstOf (edgeTests (sofar .type) (f .at) (bodyOf file f)) ≡ passes
-        passed = sym verdict-is ∙ passes-is (verdictOf v) accepted
+      one-edge-more : EdgesSoFar file from shape (set edges count (edgeKept file shape f)) (count + 1) (f .body + f .len)
+      unfolding NextIs withEdge typeRecord edgeKept
+      one-edge-more =
+          let body = bodyOf file f in
+          let edge = edgeIn (made .output) body in
+          let p = edge-passed in
+          record {
+            type = withEdge made edge;
+            stage = sofar .stage ∙ stage-here ∙ if-passes (edgeVerdict file shape count f) _ refl accepted _ _ _;
+            place = here .0 .inside;
+            ranges = with-edge-ranges made edge (sofar .ranges) (p .ranges);
+            within = omega (arith, length-append (made .edges) (edge ∷ []), p .few);
+            is =
+                ap (λ (r : TypeRecord). record {
+                  highest = r .highest;
+                  output = r .output;
+                  labels = r .labels;
+                  count = r .count + 1;
+                  edges = set (r .edges) (r .count) (edgeRecord (edgeIn (r .output) body));
+                }) (sofar .is)
+                ∙ sym (with-edge-record made edge (p .few));
+          }
 
-        pub edge-fits : (2 ≤ length (bodyOf file f)) × (length (bodyOf file f) ≤ 6) × (r .count < mostEdges)
-        unfolding typeRecord
-        edge-fits =
-            let p = edge-passes (sofar .type) (f .at) (bodyOf file f) passed in
-            (omega (arith, p .long), p .short, rw (sofar .is) (p .few))
+  -- a turn, which found n and has m behind it
+  module _ {n : Next} {m : ℕ} (turn : Turned file at edge-tag n m) where
+    pub edges-end : endsBy (edgeVerdict file shape count) n ≡ true → (r : OneType) → EdgesEnded file n shape at count edges r → EdgesRead file from shape r
+    unfolding endsBy verdictBy
+    edges-end ends r is = subst (EdgesRead file from shape) (sym (is .rest)) (go n refl)
+      where
+        go : (x : Next) → n ≡ x → EdgesRead file from shape (given (r .refusal))
+        go Other e = edges-stop (rw e at (turn .own)) (r .refusal) (rw e at (is .why))
+        go (Found f) e =
+            let why : verdictOf (r .refusal) ≡ edgeVerdict file shape count f = rw e at (is .why) in
+            edges-refused f (rw e at (turn .own)) (r .refusal) why (ap isRefused why ∙ (rw e at ends))
 
-        pub edges-more : (e : EdgeRecord) → e ≡ edgeRecord (edgeIn (r .output) (bodyOf file f))
-            → EdgesSoFar file from bare (record {
-              highest = r .highest;
-              output = r .output;
-              labels = r .labels;
-              count = r .count + 1;
-              edges = set (r .edges) (r .count) e;
-            }) (f .body + f .len)
-        unfolding NextIs withEdge typeRecord
-        edges-more e q =
-            let t = sofar .type in
-            let edge = edgeIn (t .output) (bodyOf file f) in
-            let p = edge-passes t (f .at) (bodyOf file f) passed in
-            record {
-              type = withEdge t edge;
-              stage = stage-here ∙ if-passes (verdictOf v) _ verdict-is accepted _ _ _;
-              place = here .0 .inside;
-              ranges = with-edge-ranges t edge (sofar .ranges) (p .ranges);
-              within = omega (arith, length-append (t .edges) (edge ∷ []), p .few);
-              is = rw (q, sofar .is) (sym (with-edge-record t edge (p .few)));
-            }
+    -- of an edge that does not end the stage
+    module _ (goes : endsBy (edgeVerdict file shape count) n ≡ false) where
+      pub edge-next : EdgeNext file n
+      unfolding endsBy EdgeNext NextIs
+      edge-next = go n refl
+        where
+          go : (x : Next) → n ≡ x → EdgeNext file x
+          go Other e = tt
+          go (Found f) e =
+              let here : NextIs file at edge-tag (Found f) = rw e at (turn .own) in
+              let p = edge-passed f here (rw e at goes) in
+              let size = length-body file f (here .0 .inside) in
+              (here .0 .inside, (omega (arith, p .long), omega (arith, p .short)))
+
+      pub edges-more : EdgesSoFar file from shape (set edges count (keptBy (edgeKept file shape) unusedEdge n)) (count + 1) m × (count < mostEdges) × (at < m)
+      unfolding endsBy NextIs keptBy
+      edges-more = go n refl
+        where
+          go : (x : Next) → n ≡ x → EdgesSoFar file from shape (set edges count (keptBy (edgeKept file shape) unusedEdge x)) (count + 1) m × (count < mostEdges) × (at < m)
+          go Other e = let z : _≡_ {A = Bool} true false = rw e at goes in let y : _≡_ {A = ℕ} 0 1 = cc in absurd (omega arith)
+          go (Found f) e =
+              let here : NextIs file at edge-tag (Found f) = rw e at (turn .own) in
+              let accepted : isRefused (edgeVerdict file shape count f) ≡ false = rw e at goes in
+              let past = turn .past f e in (
+                subst (EdgesSoFar file from shape (set edges count (edgeKept file shape f)) (count + 1)) (sym past) (one-edge-more f here accepted),
+                omega (arith, edge-count, edge-passed f here accepted .few),
+                omega (arith, past, here .0 .further),
+              )
 
 -- ---- a type with its edges
 
-pub bare-type : (body : List ℕ) (bare : TypeRecord) → bare ≡ typeRecord (typeIn body)
-    → T (typeInRange (getD body 0 0) (getD body 1 0) (getD body 2 0)) → BareType bare
-unfolding typeRecord typeIn
-bare-type body bare e ranges = record { bare = rw e; ranges = rw e ranges }
+pub shape-ranges : (body : List ℕ) (shape : Shape) → bareOf shape ≡ typeIn body
+    → T (typeInRange (getD body 0 0) (getD body 1 0) (getD body 2 0)) → T (typeInRange (shape .highest) (shape .output) (shape .labels))
+unfolding typeIn
+shape-ranges body shape e ranges = subst (λ (t : ModuleType). T (typeInRange (t .highest) (t .output) (t .labels))) (sym e) ranges
 
-module _ (file : List ℕ) (f : FieldRecord) (bare : TypeRecord) (told : bare ≡ typeRecord (typeIn (bodyOf file f))) (one : OneType)
-    (read : EdgesRead file (f .body + f .len) bare one) where
+module _ (file : List ℕ) (f : FieldRecord) (shape : Shape) (told : bareOf shape ≡ typeIn (bodyOf file f)) (one : OneType)
+    (read : EdgesRead file (f .body + f .len) shape one) where
   all-edges : (types : List ModuleType) (from : Cut)
       → typeStage (types ++ (typeIn (bodyOf file f) ∷ [])) from (cutFrom file (f .body + f .len))
       ≡ ifPasses (verdictOf (one .refusal)) types from (typeStage (types ++ (read .type ∷ [])) from (cutFrom file (one .at)))
-  unfolding typeRecord typeIn
   all-edges types from =
-      let same : bareOf bare ≡ typeIn (bodyOf file f) = rw told in
       let stage : edgeStage (typeIn (bodyOf file f)) (cutFrom file (f .body + f .len)) ≡ stageOf (verdictOf (one .refusal)) (read .type) (cutFrom file (one .at)) =
-      rw same at (read .stage) in
+      rw told at (read .stage) in
       edges-first types (typeIn (bodyOf file f)) from (cutFrom file (f .body + f .len)) ∙ ap (afterEdges types from) stage
 
   read-with : (verdictOf (one .refusal) ≡ passes → T (isComplementary (read .type))) → TypeRead file f one

@@ -5,9 +5,8 @@ use mathlib.Core.Path.{_≡_}
 use mathlib.Core.List.{List, [], _∷_, _++_, map}
 use lib.Dec.{T}
 use lib.ListN.{length}
-use Rattle.switch.specs.Modules.{ModuleType, mostEdges, typeInRange, inRange}
+use Rattle.switch.specs.Modules.{ModuleType, mostEdges, inRange}
 use Rattle.switch.specs.Deciding.{isComplementary}
-use Rattle.switch.specs.declared.ModuleType.{ModuleType as TypeRecord}
 use Rattle.circuit.specs.Limits.{mostTypes}
 use Rattle.circuit.specs.Fields.{Field, Cut, clean, field, cutFrom}
 use Rattle.circuit.specs.Order.{edge-tag, tagOf}
@@ -19,21 +18,17 @@ use Rattle.read_fields.specs.declared.Field.{Field as FieldRecord}
 use Rattle.circuit.specs.Stages.{stageOf, ifPasses, edgeStage, fieldPlace, typeStage}
 use Rattle.read_fields.specs.Steps.{bodyOf}
 use Rattle.read_types.specs.declared.edges.OneType.{OneType}
+use Rattle.read_types.specs.declared.edges.Shape.{Shape}
 use Rattle.read_types.specs.declared.types.Types.{Types}
 
--- the type that a record with no edge tells
-abbrev pub bareOf : TypeRecord → ModuleType
-bareOf r = record { highest = r .highest; output = r .output; labels = r .labels; edges = [] }
+-- a type of this shape, with no edge yet
+abbrev pub bareOf : Shape → ModuleType
+bareOf s = record { highest = s .highest; output = s .output; labels = s .labels; edges = [] }
 
--- a record of a type in range that has no edge yet
-pub record BareType (r : TypeRecord) : Type 0 where
-  pub bare : r ≡ typeRecord (bareOf r)
-  pub ranges : T (typeInRange (r .highest) (r .output) (r .labels))
-
--- the edges from an offset on, added to a type: all in range, and no more than there are places
-pub record EdgesRead (file : List ℕ) (from : ℕ) (bare : TypeRecord) (r : OneType) : Type 0 where
+-- the edges from an offset on, of a type of this shape: all in range, and no more than there are places
+pub record EdgesRead (file : List ℕ) (from : ℕ) (shape : Shape) (r : OneType) : Type 0 where
   pub type : ModuleType
-  pub stage : edgeStage (bareOf bare) (cutFrom file from) ≡ stageOf (verdictOf (r .refusal)) type (cutFrom file (r .at))
+  pub stage : edgeStage (bareOf shape) (cutFrom file from) ≡ stageOf (verdictOf (r .refusal)) type (cutFrom file (r .at))
   pub place : r .at ≤ length file
   pub ranges : T (inRange type)
   pub within : length (type .edges) ≤ mostEdges

@@ -7,22 +7,33 @@ use circuit::refusal::refuses;
 use read_fields::Field;
 use read_fields::Next;
 use read_fields::byte;
-use read_fields::field_of;
+use read_fields::cursor::next;
+use read_fields::cursor::reader_at;
+use read_fields::own_field;
 use switch::Edge;
 use switch::MOST_EDGES;
 use switch::ModuleType;
+use switch::NO_EDGE;
 ghost use mathlib.Core.Path.{_≡_};
 ghost use Prim.Native.Nat.{_+_, _≤_};
-ghost use lib.Dec.{ltb};
-ghost use lib.ListN.{length, drop};
+ghost use lib.Dec.{T, ltb};
+ghost use lib.ListN.{length, drop, replicate};
 ghost use Rattle.switch.specs.Conduction.{pEnds, nEnd, badEnds};
-ghost use Rattle.switch.specs.Modules.{allOf};
+ghost use Rattle.switch.specs.Modules.{allOf, typeInRange};
+ghost use Rattle.switch.specs.Records.{unusedEdge};
 ghost use Rattle.circuit.specs.Known.{edgeIn};
-ghost use Rattle.circuit.specs.Table.{firstOf, edgeTestsOf};
 ghost use Rattle.circuit.specs.Records.{edgeRecord};
 ghost use Rattle.circuit.specs.Refusals.{verdictOf};
-ghost use Rattle.read_fields.specs.Steps.{bodyOf};
-ghost use Rattle.read_types.specs.ReadTypes.{BareType, EdgesRead};
+ghost use Rattle.read_fields.specs.Steps.{bodyOf, NextIn, endsBy, keptBy};
+ghost use Rattle.read_types.specs.EdgeTurns.{edgeVerdict, edgeKept, EdgeNext, EdgesEnded};
+ghost use Rattle.read_types.specs.ReadTypes.{EdgesRead};
+
+// What a type's own field says: its highest node, its output node and its number of labels.
+pub struct Shape {
+    pub highest: u8,
+    pub output: u8,
+    pub labels: u8,
+}
 
 // A type with its edges, and where reading goes on.
 pub struct OneType {
@@ -75,11 +86,14 @@ fn bad_nodes(h: u8, o: u8, a: u8, b: u8) -> bool
     !(n_end(h, o, a) && n_end(h, o, b))
 }
 
-// The first test of an edge field that refuses, in a type with h, o, k and `count` edges so far.
-fn edge_verdict(file: &[u8], f: Field, h: u8, o: u8, k: u8, count: usize) -> Refusal
+// The first test of an edge field that refuses, in a type of this shape with `count` edges so far.
+fn edge_verdict(file: &[u8], f: Field, shape: Shape, count: usize) -> Refusal
     requires { ⌜ f .body + f .len ≤ length (now file) ⌝ }
-    ensures { λ r. ⌜ verdictOf r ≡ firstOf (edgeTestsOf h o k count (f .at) (bodyOf (now (file .entry)) f)) ⌝ }
+    ensures { λ r. ⌜ verdictOf r ≡ edgeVerdict (now (file .entry)) shape count f ⌝ }
 {
+    let h = shape.highest;
+    let o = shape.output;
+    let k = shape.labels;
     let a = byte(file, f, 0);
     let b = byte(file, f, 1);
     let in_range = a <= h && b <= h && labels_below(file, f, k);
@@ -116,41 +130,79 @@ fn edge_in(file: &[u8], f: Field, o: u8) -> Edge
     }
 }
 
-// The edges from an offset on, added to a type that has none.
-pub fn read_edges(file: &[u8], from: usize, bare: ModuleType) -> OneType
-    requires { ⌜ from ≤ length (now file) ⌝ }
-    requires { ⌜ BareType bare ⌝ }
-    ensures { λ r. ⌜ EdgesRead (now (file .entry)) from bare r ⌝ }
+// Whether the stage ends here: no edge stands next, or one that is refused.
+fn ends(file: &[u8], found: Next, shape: Shape, count: usize) -> bool
+    requires { ⌜ NextIn (now file) found ⌝ }
+    ensures { λ r. ⌜ r ≡ endsBy (edgeVerdict (now (file .entry)) shape count) found ⌝ }
 {
-    let mut module_type = bare;
-    let mut at = from;
+    match found {
+        Next::Found(f) => refuses(edge_verdict(file, f, shape, count)),
+        Next::Other => true,
+    }
+}
+
+// The edge that was found.
+fn edge_of(file: &[u8], found: Next, shape: Shape) -> Edge
+    requires { ⌜ EdgeNext (now file) found ⌝ }
+    ensures { λ r. ⌜ r ≡ keptBy (edgeKept (now (file .entry)) shape) unusedEdge found ⌝ }
+{
+    match found {
+        Next::Found(f) => edge_in(file, f, shape.output),
+        Next::Other => NO_EDGE,
+    }
+}
+
+// The type with the edges that were read, and why the stage ended there.
+fn ended(
+    file: &[u8],
+    found: Next,
+    shape: Shape,
+    at: usize,
+    count: usize,
+    edges: [Edge; MOST_EDGES],
+) -> OneType
+    requires { ⌜ NextIn (now file) found ⌝ }
+    ensures { λ r. ⌜ EdgesEnded (now (file .entry)) found shape at count edges r ⌝ }
+{
+    let refusal = match found {
+        Next::Found(f) => edge_verdict(file, f, shape, count),
+        Next::Other => Refusal::Nothing,
+    };
+    let module_type = ModuleType {
+        highest: shape.highest,
+        output: shape.output,
+        labels: shape.labels,
+        count,
+        edges,
+    };
+    OneType {
+        refusal,
+        at,
+        module_type,
+    }
+}
+
+fn no_edges() -> [Edge; MOST_EDGES]
+    ensures { λ r. ⌜ r ≡ replicate 64 unusedEdge ⌝ }
+{
+    [NO_EDGE; MOST_EDGES]
+}
+
+// The edges from an offset on, of a type of this shape, read by one reader.
+pub fn read_edges(file: &[u8], from: usize, shape: Shape) -> OneType
+    requires { ⌜ (from ≤ length (now file)) × T (typeInRange (shape .highest) (shape .output) (shape .labels)) ⌝ }
+    ensures { λ r. ⌜ EdgesRead (now (file .entry)) from shape r ⌝ }
+{
+    let mut reader = reader_at(file, from);
+    let mut edges = no_edges();
+    let mut count: usize = 0;
     loop {
-        let Next::Found(f) = field_of(file, at, Kind::Edge) else {
-            return OneType {
-                refusal: Refusal::Nothing,
-                at,
-                module_type,
-            };
-        };
-        let count = module_type.count;
-        let refusal = edge_verdict(
-            file,
-            f,
-            module_type.highest,
-            module_type.output,
-            module_type.labels,
-            count,
-        );
-        if refuses(refusal) {
-            return OneType {
-                refusal,
-                at,
-                module_type,
-            };
+        let at = reader.at;
+        let found = own_field(next(&mut reader), Kind::Edge);
+        if ends(file, found, shape, count) {
+            return ended(file, found, shape, at, count, edges);
         }
-        let e = edge_in(file, f, module_type.output);
-        module_type.edges[count] = e;
-        module_type.count = count + 1;
-        at = f.body + f.len;
+        edges[count] = edge_of(file, found, shape);
+        count += 1;
     }
 }

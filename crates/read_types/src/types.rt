@@ -1,5 +1,6 @@
 // Types: each is a field, followed at once by its edges, and is judged when its edges are read.
 use crate::edges::OneType;
+use crate::edges::Shape;
 use crate::edges::read_edges;
 use circuit::limits::MOST_TYPES;
 use circuit::order::Kind;
@@ -27,11 +28,11 @@ ghost use Rattle.circuit.specs.Fields.{cutFrom};
 ghost use Rattle.circuit.specs.Order.{tagOf};
 ghost use Rattle.circuit.specs.Known.{typeIn};
 ghost use Rattle.circuit.specs.Table.{firstOf, typeTests};
-ghost use Rattle.circuit.specs.Records.{unusedType, typeRecord};
+ghost use Rattle.circuit.specs.Records.{unusedType};
 ghost use Rattle.circuit.specs.Refusals.{verdictOf};
 ghost use Rattle.circuit.specs.Stages.{failingBefore, failingVerdict};
 ghost use Rattle.read_fields.specs.Steps.{bodyOf, FieldAt};
-ghost use Rattle.read_types.specs.ReadTypes.{TypeRead, TypesRead};
+ghost use Rattle.read_types.specs.ReadTypes.{bareOf, TypeRead, TypesRead};
 
 pub struct Types {
     pub refusal: Refusal,
@@ -67,17 +68,15 @@ fn type_verdict(file: &[u8], f: Field, count: usize) -> Refusal
     or_if(v, !in_range, Refusal::OutOfRange(f.at))
 }
 
-// The type of a field, with no edge yet.
-fn type_in(file: &[u8], f: Field) -> ModuleType
+// The shape that a type's field says.
+fn shape_in(file: &[u8], f: Field) -> Shape
     requires { ⌜ f .body + f .len ≤ length (now file) ⌝ }
-    ensures { λ r. ⌜ r ≡ typeRecord (typeIn (bodyOf (now (file .entry)) f)) ⌝ }
+    ensures { λ r. ⌜ bareOf r ≡ typeIn (bodyOf (now (file .entry)) f) ⌝ }
 {
-    ModuleType {
+    Shape {
         highest: byte(file, f, 0),
         output: byte(file, f, 1),
         labels: byte(file, f, 2),
-        count: 0,
-        edges: [NO_EDGE; MOST_EDGES],
     }
 }
 
@@ -112,8 +111,8 @@ fn read_type(file: &[u8], f: Field) -> OneType
     requires { ⌜ T (typeInRange (getD (bodyOf (now file) f) 0 0) (getD (bodyOf (now file) f) 1 0) (getD (bodyOf (now file) f) 2 0)) ⌝ }
     ensures { λ r. ⌜ TypeRead (now (file .entry)) f r ⌝ }
 {
-    let bare = type_in(file, f);
-    let one = read_edges(file, f.body + f.len, bare);
+    let shape = shape_in(file, f);
+    let one = read_edges(file, f.body + f.len, shape);
     let refusal = one.refusal;
     if refuses(refusal) {
         return one;

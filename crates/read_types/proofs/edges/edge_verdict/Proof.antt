@@ -22,6 +22,7 @@ use Rattle.read_fields.proofs.Bodies.{length-body}
 use Rattle.circuit.proofs.Verdicts.{chain, firstAfter}
 use Rattle.circuit.proofs.RangeLaws.{between-in, between-below, between-above}
 use Rattle.circuit.proofs.TypeLaws.{and-came}
+use Rattle.read_types.specs.EdgeTurns.{edgeVerdict}
 use Rattle.read_types.proofs.edges.edge_verdict.Statement.{statement}
 use Rattle.read_types.proofs.edges.edge_verdict.Tie as tie
 
@@ -93,23 +94,24 @@ or-if-requires-4 : tie.Need-or-if-requires-4
 or-if-requires-4 c κs = search needs
 
 returns : tie.Need-returns
-unfolding verdictOf refusalNumber refusalPlace numberedVerdict
+unfolding edgeVerdict verdictOf refusalNumber refusalPlace numberedVerdict
 returns c =
     let start = c .before .before .before .before .before .before .before .before .before .before .before in
     let a = start .args in
     let file = a .file .now in
+    let shape = a .shape in
     let body = bodyOf file (a .f) in
     let nodes = c .before .before .before .before .before .before .before in
     let first = nodes .before .before .byte in
     let second = nodes .before .byte2 in
-    let both-nodes : nodes .if1 .if2 ≡ (leb (first .result) (a .h) && leb (second .result) (a .h)) =
-    and-came (leb (first .result) (a .h)) (leb (second .result) (a .h)) (nodes .if1 .if2) (nodes .if1 .came)
-    (λ w. (le-leb (first .result) (a .h) (w .0 .taken), w .1))
-    (λ w. (lt-leb (first .result) (a .h) (w .0 .left), w .1)) in
+    let both-nodes : nodes .if1 .if2 ≡ (leb (first .result) (shape .highest) && leb (second .result) (shape .highest)) =
+    and-came (leb (first .result) (shape .highest)) (leb (second .result) (shape .highest)) (nodes .if1 .if2) (nodes .if1 .came)
+    (λ w. (le-leb (first .result) (shape .highest) (w .0 .taken), w .1))
+    (λ w. (lt-leb (first .result) (shape .highest) (w .0 .left), w .1)) in
     let all = c .before .before .before .before .before .before .if2 in
-    let below-k : Bool = allOf (λ (l : ℕ). ltb l (a .k)) (drop 2 body) in
-    let range : all .in-range ≡ (leb (first .result) (a .h) && leb (second .result) (a .h) && below-k) =
-    and-came (leb (first .result) (a .h) && leb (second .result) (a .h)) below-k (all .in-range) (all .came)
+    let below-k : Bool = allOf (λ (l : ℕ). ltb l (shape .labels)) (drop 2 body) in
+    let range : all .in-range ≡ (leb (first .result) (shape .highest) && leb (second .result) (shape .highest) && below-k) =
+    and-came (leb (first .result) (shape .highest) && leb (second .result) (shape .highest)) below-k (all .in-range) (all .came)
     (λ w. (sym both-nodes ∙ w .0 .taken, w .2 ∙ w .1 .ensures))
     (λ w. (sym both-nodes ∙ w .0 .left, w .1 ∙ both-nodes)) in
     let size = c .before .before .before .before .before .if3 in
@@ -118,9 +120,9 @@ returns c =
     c .or-if4 .ensures
     ∙ rw (c .before .before .or-if3 .ensures, c .before .before .before .or-if2 .ensures, c .before .before .before .before .or-if .ensures)
     (in-turn
-    (a .h)
-    (a .o)
-    (a .k)
+    (shape .highest)
+    (shape .output)
+    (shape .labels)
     (a .count)
     (a .f .at)
     body

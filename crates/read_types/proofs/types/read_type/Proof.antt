@@ -2,12 +2,12 @@
 use mathlib.Core.Path.{sym, _∙_}
 use borrow.Author.Needs.{needs}
 use Rattle.read_fields.specs.Steps.{bodyOf}
-use Rattle.read_types.proofs.ReadingTypes.{bare-type, type-refused, type-read-given, type-complementary, type-failing}
+use Rattle.read_types.proofs.ReadingTypes.{shape-ranges, type-refused, type-read-given, type-complementary, type-failing}
 use Rattle.read_types.proofs.types.read_type.Statement.{statement}
 use Rattle.read_types.proofs.types.read_type.Tie as tie
 
-type-in-requires : tie.Need-type-in-requires
-type-in-requires c κs = search needs
+shape-in-requires : tie.Need-shape-in-requires
+shape-in-requires c κs = search needs
 
 add-read-edges : tie.Need-add-read-edges
 add-read-edges c = search needs
@@ -15,8 +15,8 @@ add-read-edges c = search needs
 read-edges-requires : tie.Need-read-edges-requires
 read-edges-requires c κs =
     let start = c .before .before .before in
-    let bare = c .before .type-in in
-    (start .pre .0 .inside, bare-type (bodyOf (start .args .file .now) (start .args .f)) (bare .result) (bare .ensures) (start .pre .1))
+    let shape = c .before .shape-in in
+    (start .pre .0 .inside, shape-ranges (bodyOf (start .args .file .now) (start .args .f)) (shape .result) (shape .ensures) (start .pre .1))
 
 refuses-requires : tie.Need-refuses-requires
 refuses-requires c κs = search needs
@@ -24,29 +24,29 @@ refuses-requires c κs = search needs
 returns : tie.Need-returns
 returns c =
     let edges = c .before .before in
-    let bare = edges .before .before .type-in in
+    let shape = edges .before .before .shape-in in
     let a = edges .before .before .before .before .args in
-    type-refused (a .file .now) (a .f) (bare .result) (bare .ensures) (edges .read-edges .result) (edges .read-edges .ensures)
+    type-refused (a .file .now) (a .f) (shape .result) (shape .ensures) (edges .read-edges .result) (edges .read-edges .ensures)
     (sym (c .before .refuses .ensures) ∙ c .if1 .taken)
 
 check-type-requires : tie.Need-check-type-requires
 check-type-requires c κs =
     let edges = c .before .before .before in
-    let bare = edges .before .before .type-in in
+    let shape = edges .before .before .shape-in in
     let a = edges .before .before .before .before .args in
-    type-read-given (a .file .now) (a .f) (bare .result) (bare .ensures) (edges .read-edges .result) (edges .read-edges .ensures)
+    type-read-given (a .file .now) (a .f) (shape .result) (shape .ensures) (edges .read-edges .result) (edges .read-edges .ensures)
 
 returns-2 : tie.Need-returns-2
 returns-2 c =
     let edges = c .before .before .before .before .before in
-    let bare = edges .before .before .type-in in
+    let shape = edges .before .before .shape-in in
     let a = edges .before .before .before .before .args in
     let test = c .before .check-type in
     type-complementary
     (a .file .now)
     (a .f)
-    (bare .result)
-    (bare .ensures)
+    (shape .result)
+    (shape .ensures)
     (edges .read-edges .result)
     (edges .read-edges .ensures)
     (test .result)
@@ -60,14 +60,14 @@ returns-3 : tie.Need-returns-3
 returns-3 c =
     let out = c .before .before .before .before in
     let edges = out .before .before in
-    let bare = edges .before .before .type-in in
+    let shape = edges .before .before .shape-in in
     let a = edges .before .before .before .before .args in
     let test = c .before .before .check-type in
     type-failing
     (a .file .now)
     (a .f)
-    (bare .result)
-    (bare .ensures)
+    (shape .result)
+    (shape .ensures)
     (edges .read-edges .result)
     (edges .read-edges .ensures)
     (test .result)
@@ -81,7 +81,7 @@ pub read-type-spec : {M : Type 1} → statement M
 read-type-spec =
     tie.close
     (tie.spec
-    type-in-requires
+    shape-in-requires
     add-read-edges
     read-edges-requires
     refuses-requires

@@ -1,4 +1,4 @@
--- What the walks by hand that hold a reader share: it is made over the file, and lent to `next` for a step of the stage.
+-- What the walks by hand that hold a reader share: it is made over the file, lent to `next` for a step of the stage, and set to another place.
 -- A stage carries the reader's cell alone, at a place of the file. What the reader owns is made anew for each step, of what the file's slice owns; the loan's lifetime is made for the call, within the file's (`borrow.Within.Token`).
 -- In a local of a body MIR erases the lifetime of the struct's type, so the value is shown to have the type at `erased`.
 -- Assumes `Given`.
@@ -19,9 +19,9 @@ use prog.Wp.{Heap, Env, Calls, Loops}
 use ghost.Atoms.{Atoms, sem}
 use contract.BorrowLft.{meet-⊑-right}
 use contract.Monad.{Fun}
-use types.Kit.{Given, Item, ‵, raw, _⊛_, mean, ⋆, some, later, _$_, _∵_, !, qed, by, move, keep, drop, use1, use2, use3, split, join, pick, rewrite, fsplit, fjoin, fpick, fpack, frame, await, updating, now as at-once, done, Post, runs, lands, Seq}
-use types.Run.{Finds, look, init, forget, load, lit, of-opd, addr, and-then, no-more, assigns, land}
-use types.Part.{agg}
+use types.Kit.{Given, Item, ‵, raw, _⊛_, mean, ⋆, nth, put, some, later, _$_, _∵_, !, qed, by, move, keep, drop, use1, use2, use3, split, join, pick, rewrite, fsplit, fjoin, fpick, fpack, frame, await, updating, now as at-once, done, Post, runs, lands, Seq}
+use types.Run.{Finds, Writes, look, init, forget, load, lit, of-opd, addr, and-then, no-more, assigns, land}
+use types.Part.{Part, whole, sub, agg, store-in}
 use types.SemTy.{Body}
 use types.Tokens.{lft-new}
 use borrow.Within.Token.{Rest, within-token, within-end}
@@ -190,6 +190,15 @@ module _ {M : Type 1} (𝓤 : URA M) (H : Heap 𝓤) (A : Atoms 𝓤) (W : Given
 
   same-value : (u w : Val) → _≡_ {A = List Val} (u ∷ []) (w ∷ []) → u ≡ w
   same-value u w e = cc
+
+  -- the reader's place is set to m′: its cell is the entry n of the context. A step that assigns to the place takes this as what is written
+  pub sets : {K : Type 0} {Γ : List (Item 𝓤)} → K → (n : ℕ) {l m m′ : ℕ} → nth 𝓤 H A n Γ ≡ ‵ (Cell l m) → m′ < 2 ^ 64 → Writes K W Γ (tyInt w64) l 16 (vint w64 m′) (put 𝓤 H A n (‵ (Cell l m′)) Γ)
+  sets {K} t₀ n {l} {m} {m′} e ok =
+      store-in t₀ n (subst (λ (i : Item 𝓤). Part K W i fullShare (tyInt w64) l 16 (vint w64 m) (Put l)) (sym e) (sub t₀ 1 refl (whole t₀))) (tt, record { fits = ok })
+    where
+      -- the cell with the value w in the place's field
+      Put : ℕ → Val → Item 𝓤
+      Put l w = ‵ (fat fullShare readerTy l 0 (vstruct (ofList (v ∷ w ∷ []))))
 
   module _ {K : Type 0} {Γ : List (Item 𝓤)} {E : Env 𝓤 H} {C : Calls 𝓤 H} {Λ : Loops 𝓤 H} {Q : Post 𝓤 H} {rest : Code} (fm : FmC 𝓤 H (W .laws) C) where
     -- a reader is made at the place n: f and g are the locals of the file and the place, c that of the call's result, a the reader's

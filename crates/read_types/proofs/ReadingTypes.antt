@@ -4,7 +4,6 @@ use mathlib.Core.Path.{_≡_, refl, sym, ap, subst, _∙_}
 use mathlib.Core.Bool.{Bool, true, false}
 use mathlib.Core.List.{List, [], _∷_, _++_, map, map-append}
 use native.Mathlib.Omega.{arith}
-use borrow.Author.Tests.{leb-false}
 use lib.Dec.{T}
 use lib.ListN.{length, getD, set, replicate, length-append, length-map}
 use Rattle.switch.specs.Modules.{ModuleType, mostEdges, allOf, typeInRange, inRange}
@@ -12,6 +11,7 @@ use Rattle.switch.specs.Deciding.{isComplementary}
 use Rattle.switch.specs.Records.{unusedEdge, typeOf, TypeGiven}
 use Rattle.switch.specs.declared.Edge.{Edge as EdgeRecord}
 use Rattle.switch.specs.declared.ModuleType.{ModuleType as TypeRecord}
+use Rattle.switch.proofs.Paths.{both}
 use Rattle.switch.proofs.Deciding.{and-both}
 use Rattle.circuit.specs.Limits.{mostTypes}
 use Rattle.circuit.specs.Fields.{Field, Cut, clean, field, cutFrom}
@@ -19,26 +19,27 @@ use Rattle.circuit.specs.Order.{type-tag, edge-tag, tagOf}
 use Rattle.circuit.specs.Known.{typeIn, edgeIn, withEdge}
 use Rattle.circuit.specs.Table.{Verdict, passes, refusedAt, firstOf, typeTests, edgeTests, edgeTestsOf}
 use Rattle.circuit.specs.Records.{padded, unusedType, edgeRecord, typeRecord}
-use Rattle.circuit.specs.Refusals.{refusalNumber, refusalPlace, numberedVerdict, verdictOf}
+use Rattle.circuit.specs.Refusals.{verdictOf}
 use Rattle.circuit.specs.Verdicts.{isRefused}
 use Rattle.circuit.specs.Stages.{Stage, ifPasses, edgeStage, failingVerdict, fieldPlace, typeStage, stageOf}
-use Rattle.read_fields.specs.Steps.{bodyOf, fieldIn, NextIs, endsBy, verdictBy, keptBy}
+use Rattle.read_fields.specs.Steps.{bodyOf, fieldIn, FieldAt, NextIs, endsBy, verdictBy, keptBy}
 use Rattle.read_types.specs.EdgeTurns.{edgeVerdict, edgeKept, EdgeNext, shapedRecord, EdgesEnded}
 use Rattle.read_types.specs.ReadTypes.{bareOf, EdgesRead, TypeRead, TypesRead}
+use Rattle.read_types.specs.TypeTurns.{FoundWhole, typeVerdict, ToldBy, TypeTold, endsAt}
 use Rattle.read_fields.specs.declared.Field.{Field as FieldRecord}
 use Rattle.read_fields.specs.declared.Next.{Next}
 use Rattle.read_fields.specs.declared.Next.the-variants.{Found, Other}
 use Rattle.circuit.specs.declared.refusal.Refusal.{Refusal}
-use Rattle.circuit.specs.declared.refusal.Refusal.the-variants.{Nothing}
 use Rattle.read_types.specs.declared.edges.OneType.{OneType}
 use Rattle.read_types.specs.declared.edges.Shape.{Shape}
 use Rattle.circuit.proofs.Padding.{padded-nil, padded-snoc}
-use Rattle.circuit.proofs.Verdicts.{first-passes, passes-is}
+use Rattle.circuit.proofs.Verdicts.{passes-is}
 use Rattle.circuit.proofs.GatheredLaws.{failing-refuses}
 use Rattle.read_fields.proofs.Bodies.{length-body}
 use Rattle.read_fields.proofs.Cuts.{section-step, section-stop}
 use Rattle.read_fields.proofs.Turns.{Turned}
-use Rattle.circuit.proofs.TypeLaws.{accepts, type-back, type-given, EdgePasses, edge-passes, with-edge-ranges, with-edge-record}
+use Rattle.circuit.proofs.Tested.{type-pass}
+use Rattle.circuit.proofs.TypeLaws.{type-back, type-given, EdgePasses, edge-passes, with-edge-ranges, with-edge-record}
 use Rattle.read_types.proofs.TypeStages.{afterEdges, edges-first, failing-stage, Settled, settled-none, settled-more, type-step, type-stop}
 
 -- ---- a stage that fails
@@ -272,96 +273,130 @@ pub record TypesSoFar (file : List ℕ) (from : ℕ) (all : List TypeRecord) (co
   pub is : all ≡ padded mostTypes unusedType (map typeRecord types)
   pub settled : Settled types (cutFrom file at)
 
-module _ (file : List ℕ) (from : ℕ) where
-  pub types-start : from ≤ length file → (all : List TypeRecord) → all ≡ replicate mostTypes unusedType → TypesSoFar file from all 0 from
-  unfolding allOf
-  types-start h all e = record {
-    types = [];
-    latest = clean;
-    stage = refl;
-    place = h;
-    within = omega arith;
-    counted = refl;
-    is = e ∙ sym (padded-nil unusedType mostTypes);
-    settled = settled-none (cutFrom file from);
+pub types-start : (file : List ℕ) (from : ℕ) → from ≤ length file → (all : List TypeRecord) → all ≡ replicate mostTypes unusedType
+    → TypesSoFar file from all 0 from
+types-start file from h all e = record {
+  types = [];
+  latest = clean;
+  stage = refl;
+  place = h;
+  within = omega arith;
+  counted = refl;
+  is = e ∙ sym (padded-nil unusedType mostTypes);
+  settled = settled-none (cutFrom file from);
+}
+
+-- what holds of a type field that passes its own tests, after `count` types
+pub type-fits : (count at : ℕ) (body : List ℕ) → firstOf (typeTests count at body) ≡ passes
+    → (count < mostTypes) × T (typeInRange (getD body 0 0) (getD body 1 0) (getD body 2 0))
+unfolding typeIn inRange allOf
+type-fits count at body e =
+    let p = type-pass count at body e in (p .0, both (typeInRange (getD body 0 0) (getD body 1 0) (getD body 2 0)) true (p .1 .ranges) .0)
+
+module _ {file : List ℕ} {from : ℕ} {all : List TypeRecord} {count at : ℕ} (sofar : TypesSoFar file from all count at) where
+  -- what was read, with a verdict by which the stage ends here
+  ended : (v : Refusal) → typeStage (sofar .types) (sofar .latest) (cutFrom file at) ≡ stageOf (verdictOf v) (sofar .types) (cutFrom file at)
+      → TypesRead file from (record { refusal = v; at = at; count = count; all = all })
+  ended v e = record {
+    types = sofar .types;
+    stage = sofar .stage ∙ e;
+    place = sofar .place;
+    within = sofar .within;
+    count = sofar .counted;
+    all = sofar .is;
   }
 
-  module _ (all : List TypeRecord) (count at : ℕ) (sofar : TypesSoFar file from all count at) where
-    -- what was read, with a verdict by which the stage ends here
-    ended : (v : Refusal) → typeStage (sofar .types) (sofar .latest) (cutFrom file at) ≡ stageOf (verdictOf v) (sofar .types) (cutFrom file at)
-        → TypesRead file from (record { refusal = v; at = at; count = count; all = all })
-    ended v e = record {
-      types = sofar .types;
-      stage = sofar .stage ∙ e;
-      place = sofar .place;
-      within = sofar .within;
-      count = sofar .counted;
-      all = sofar .is;
-    }
+  -- at a type
+  module _ (f : FieldRecord) (here : NextIs file at type-tag (Found f)) (one : OneType) where
+    type-here : typeStage (sofar .types) (sofar .latest) (cutFrom file at)
+        ≡ ifPasses (typeVerdict file count f) (sofar .types) (cutFrom file at)
+        (typeStage (sofar .types ++ (typeIn (bodyOf file f) ∷ [])) (cutFrom file at) (cutFrom file (f .body + f .len)))
+    unfolding NextIs typeVerdict
+    type-here = rw (sofar .counted) (type-step (sofar .types) (sofar .latest) file at (sofar .settled) f (here .0) (here .1))
 
-    pub types-stop : NextIs file at type-tag Other → TypesRead file from (record { refusal = Nothing; at = at; count = count; all = all })
-    unfolding verdictOf refusalNumber refusalPlace numberedVerdict
-    types-stop other = ended Nothing (type-stop (sofar .types) (sofar .latest) file at (sofar .settled) other)
+    stands-at : fieldPlace (cutFrom file at) ≡ f .at
+    unfolding NextIs fieldPlace fieldIn
+    stands-at = rw (here .0 .cut)
 
-    module _ (f : FieldRecord) (here : NextIs file at type-tag (Found f)) (v : Refusal)
-        (tested : verdictOf v ≡ firstOf (typeTests count (f .at) (bodyOf file f))) where
-      type-tested : verdictOf v ≡ firstOf (typeTests (length (sofar .types)) (f .at) (bodyOf file f))
-      type-tested = tested ∙ ap (λ (n : ℕ). firstOf (typeTests n (f .at) (bodyOf file f))) (sofar .counted)
+    -- its own bytes pass, and it is read with its edges and judged
+    module _ (passed : typeVerdict file count f ≡ passes) (read : TypeRead file f one) where
+      one-read : typeStage (sofar .types) (sofar .latest) (cutFrom file at)
+          ≡ ifPasses (verdictOf (one .refusal)) (sofar .types) (cutFrom file at)
+          (typeStage (sofar .types ++ (read .type ∷ [])) (cutFrom file at) (cutFrom file (one .at)))
+      unfolding ifPasses
+      one-read = type-here ∙ rw passed (read .stage (sofar .types) (cutFrom file at) stands-at)
 
-      -- the stage at this type
-      type-here : typeStage (sofar .types) (sofar .latest) (cutFrom file at)
-          ≡ ifPasses (firstOf (typeTests (length (sofar .types)) (f .at) (bodyOf file f))) (sofar .types) (cutFrom file at)
-          (typeStage (sofar .types ++ (typeIn (bodyOf file f) ∷ [])) (cutFrom file at) (cutFrom file (f .body + f .len)))
-      unfolding NextIs
-      type-here = type-step (sofar .types) (sofar .latest) file at (sofar .settled) f (here .0) (here .1)
+      one-more : isRefused (verdictOf (one .refusal)) ≡ false
+          → TypesSoFar file from (set all count (one .«module_type»)) (count + 1) (one .at) × (count < mostTypes)
+      unfolding typeVerdict
+      one-more e =
+          let types = sofar .types in
+          let t = read .type in
+          let accepted = passes-is (verdictOf (one .refusal)) e in
+          let few = type-fits count (f .at) (bodyOf file f) passed .0 in
+          let same = length-map types typeRecord in
+          let more = length-append types (t ∷ []) in
+          let counted = sofar .counted in (
+            record {
+              types = types ++ (t ∷ []);
+              latest = cutFrom file at;
+              stage = sofar .stage ∙ one-read ∙ if-passes (verdictOf (one .refusal)) (verdictOf (one .refusal)) refl e _ _ _;
+              place = read .place;
+              within = omega arith;
+              counted = omega arith;
+              is =
+                  rw (sofar .is, read .is, counted, map-append typeRecord types (t ∷ []), ← same)
+                  (padded-snoc unusedType mostTypes (map typeRecord types) (typeRecord t) (omega arith));
+              settled = settled-more types t (cutFrom file (one .at)) (read .complementary accepted) (λ g rest. read .next g rest accepted);
+            },
+            few,
+          )
 
-      stands-at : fieldPlace (cutFrom file at) ≡ f .at
-      unfolding NextIs fieldPlace fieldIn
-      stands-at = rw (here .0 .cut)
+    -- the two ways through a turn, by the verdict on its own bytes
+    type-ends : (v : Verdict) → typeVerdict file count f ≡ v → ToldBy file f v one → isRefused (verdictOf (one .refusal)) ≡ true
+        → TypesRead file from (record { refusal = one .refusal; at = at; count = count; all = all })
+    unfolding ToldBy
+    type-ends passes e read r =
+        ended (one .refusal) (one-read e read ∙ if-refused (verdictOf (one .refusal)) (verdictOf (one .refusal)) refl r _ (sofar .types) (cutFrom file at))
+    type-ends (refusedAt number place) e why r =
+        ended (one .refusal) (type-here ∙ if-refused (verdictOf (one .refusal)) _ (why ∙ sym e) r _ (sofar .types) (cutFrom file at))
 
-      pub types-refused : isRefused (verdictOf v) ≡ true → TypesRead file from (record { refusal = v; at = at; count = count; all = all })
-      types-refused e = ended v (type-here ∙ if-refused (verdictOf v) _ type-tested e _ (sofar .types) (cutFrom file at))
+    type-goes-on : (v : Verdict) → typeVerdict file count f ≡ v → ToldBy file f v one → isRefused (verdictOf (one .refusal)) ≡ false
+        → TypesSoFar file from (set all count (one .«module_type»)) (count + 1) (one .at) × (count < mostTypes)
+    unfolding ToldBy isRefused
+    type-goes-on passes e read r = one-more e read r
+    type-goes-on (refusedAt number place) e why r = let z : _≡_ {A = Bool} true false = rw why at r in let y : _≡_ {A = ℕ} 0 1 = cc in absurd (omega arith)
 
-      module _ (accepted : isRefused (verdictOf v) ≡ false) where
-        pub type-fits : let body = bodyOf file f in (count < mostTypes) × T (typeInRange (getD body 0 0) (getD body 1 0) (getD body 2 0))
-        unfolding typeTests
-        type-fits =
-            let body = bodyOf file f in
-            let a = first-passes _ _ (sym tested ∙ passes-is (verdictOf v) accepted) in
-            let b = first-passes _ _ (a .1) in
-            let c = first-passes _ _ (b .1) in
-            (leb-false mostTypes count (b .0), accepts (typeInRange (getD body 0 0) (getD body 1 0) (getD body 2 0)) (c .0))
+  -- a turn, which found n
+  module _ {n : Next} {m : ℕ} (turn : Turned file at type-tag n m) where
+    pub found-whole : FoundWhole file n
+    unfolding FoundWhole NextIs
+    found-whole = go n refl
+      where
+        go : (x : Next) → n ≡ x → FoundWhole file x
+        go Other e = tt
+        go (Found f) e =
+            let here : NextIs file at type-tag (Found f) = rw e at (turn .own) in subst (λ (k : ℕ). FieldAt file k f) (sym (here .0 .place)) (here .0)
 
-        module _ (one : OneType) (read : TypeRead file f one) where
-          one-read : typeStage (sofar .types) (sofar .latest) (cutFrom file at)
-              ≡ ifPasses (verdictOf (one .refusal)) (sofar .types) (cutFrom file at)
-              (typeStage (sofar .types ++ (read .type ∷ [])) (cutFrom file at) (cutFrom file (one .at)))
-          one-read = type-here ∙ if-passes (verdictOf v) _ type-tested accepted _ _ _ ∙ read .stage (sofar .types) (cutFrom file at) stands-at
+    -- and made a type of it
+    module _ (one : OneType) (told : TypeTold file count n one) where
+      pub types-end : endsAt n (one .refusal) ≡ true
+          → TypesRead file from (record { refusal = one .refusal; at = at; count = count; all = all })
+      unfolding endsBy TypeTold
+      types-end ends = go n refl
+        where
+          go : (x : Next) → n ≡ x → TypesRead file from (record { refusal = one .refusal; at = at; count = count; all = all })
+          go Other e =
+              ended (one .refusal)
+              (type-stop (sofar .types) (sofar .latest) file at (sofar .settled) (rw e at (turn .own))
+              ∙ ap (λ (v : Verdict). stageOf v (sofar .types) (cutFrom file at)) (sym (rw e at told)))
+          go (Found f) e = type-ends f (rw e at (turn .own)) one (typeVerdict file count f) refl (rw e at told) (rw e at ends)
 
-          pub types-refused-after : isRefused (verdictOf (one .refusal)) ≡ true
-              → TypesRead file from (record { refusal = one .refusal; at = at; count = count; all = all })
-          types-refused-after e =
-              ended (one .refusal) (one-read ∙ if-refused (verdictOf (one .refusal)) (verdictOf (one .refusal)) refl e _ (sofar .types) (cutFrom file at))
-
-          pub types-more : isRefused (verdictOf (one .refusal)) ≡ false → TypesSoFar file from (set all count (one .«module_type»)) (count + 1) (one .at)
-          types-more e =
-              let types = sofar .types in
-              let t = read .type in
-              let passed = passes-is (verdictOf (one .refusal)) e in
-              let sound = read .complementary passed in
-              let few = type-fits .0 in
-              let same = length-map types typeRecord in
-              let more = length-append types (t ∷ []) in
-              let counted = sofar .counted in
-              record {
-                types = types ++ (t ∷ []);
-                latest = cutFrom file at;
-                stage = sofar .stage ∙ one-read ∙ if-passes (verdictOf (one .refusal)) (verdictOf (one .refusal)) refl e _ _ _;
-                place = read .place;
-                within = omega arith;
-                counted = omega arith;
-                is =
-                    rw (sofar .is, read .is, counted, map-append typeRecord types (t ∷ []), ← same)
-                    (padded-snoc unusedType mostTypes (map typeRecord types) (typeRecord t) (omega arith));
-                settled = settled-more types t (cutFrom file (one .at)) sound (λ g rest. read .next g rest passed);
-              }
+      pub types-more : endsAt n (one .refusal) ≡ false
+          → TypesSoFar file from (set all count (one .«module_type»)) (count + 1) (one .at) × (count < mostTypes)
+      unfolding endsBy TypeTold
+      types-more goes = go n refl
+        where
+          go : (x : Next) → n ≡ x → TypesSoFar file from (set all count (one .«module_type»)) (count + 1) (one .at) × (count < mostTypes)
+          go Other e = let z : _≡_ {A = Bool} true false = rw e at goes in let y : _≡_ {A = ℕ} 0 1 = cc in absurd (omega arith)
+          go (Found f) e = type-goes-on f (rw e at (turn .own)) one (typeVerdict file count f) refl (rw e at told) (rw e at goes)

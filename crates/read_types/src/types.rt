@@ -14,7 +14,9 @@ use read_fields::Field;
 use read_fields::Next;
 use read_fields::Step;
 use read_fields::byte;
-use read_fields::field_of;
+use read_fields::cursor::next;
+use read_fields::cursor::reader_at;
+use read_fields::own_field;
 use read_fields::step_at;
 use switch::MOST_EDGES;
 use switch::ModuleType;
@@ -22,7 +24,7 @@ use switch::NO_EDGE;
 ghost use mathlib.Core.Path.{_≡_};
 ghost use Prim.Native.Nat.{_+_, _≤_};
 ghost use lib.Dec.{T};
-ghost use lib.ListN.{length, getD};
+ghost use lib.ListN.{length, getD, replicate};
 ghost use Rattle.switch.specs.Modules.{typeInRange};
 ghost use Rattle.circuit.specs.Fields.{cutFrom};
 ghost use Rattle.circuit.specs.Order.{tagOf};
@@ -33,6 +35,7 @@ ghost use Rattle.circuit.specs.Refusals.{verdictOf};
 ghost use Rattle.circuit.specs.Stages.{failingBefore, failingVerdict};
 ghost use Rattle.read_fields.specs.Steps.{bodyOf, FieldAt};
 ghost use Rattle.read_types.specs.ReadTypes.{bareOf, TypeRead, TypesRead};
+ghost use Rattle.read_types.specs.TypeTurns.{FoundWhole, TypeTold, endsAt};
 
 pub struct Types {
     pub refusal: Refusal,
@@ -128,10 +131,47 @@ fn read_type(file: &[u8], f: Field) -> OneType
     }
 }
 
-// What was read, with why reading stopped there.
-fn types_read(refusal: Refusal, at: usize, count: usize, all: [ModuleType; MOST_TYPES]) -> Types
-    ensures { λ r. ⌜ r ≡ record { refusal = refusal; at = at; count = count; all = all } ⌝ }
+// No type, for the reason given. Its place is not used: the stage ends where it stands.
+fn none_read(refusal: Refusal) -> OneType
+    ensures { λ r. ⌜ r .refusal ≡ refusal ⌝ }
 {
+    OneType {
+        refusal,
+        at: 0,
+        module_type: no_type(),
+    }
+}
+
+// The type that was found after `count` types, with its edges, judged; or none, with why the stage ends.
+fn type_of(file: &[u8], found: Next, count: usize) -> OneType
+    requires { ⌜ FoundWhole (now file) found ⌝ }
+    ensures { λ r. ⌜ TypeTold (now (file .entry)) count found r ⌝ }
+{
+    let Next::Found(f) = found else {
+        return none_read(Refusal::Nothing);
+    };
+    let refusal = type_verdict(file, f, count);
+    if refuses(refusal) {
+        return none_read(refusal);
+    }
+    read_type(file, f)
+}
+
+// Whether the stage ends here: no type stands next, or one that is refused.
+fn ends(found: Next, refusal: Refusal) -> bool
+    ensures { λ r. ⌜ r ≡ endsAt found refusal ⌝ }
+{
+    match found {
+        Next::Found(_) => refuses(refusal),
+        Next::Other => true,
+    }
+}
+
+// What was read, with why the stage ended there.
+fn ended(one: OneType, at: usize, count: usize, all: [ModuleType; MOST_TYPES]) -> Types
+    ensures { λ r. ⌜ r ≡ record { refusal = one .refusal; at = at; count = count; all = all } ⌝ }
+{
+    let refusal = one.refusal;
     Types {
         refusal,
         at,
@@ -140,30 +180,29 @@ fn types_read(refusal: Refusal, at: usize, count: usize, all: [ModuleType; MOST_
     }
 }
 
-// The types from an offset on.
+fn no_types() -> [ModuleType; MOST_TYPES]
+    ensures { λ r. ⌜ r ≡ replicate 16 unusedType ⌝ }
+{
+    [no_type(); MOST_TYPES]
+}
+
+// The types from an offset on, read by one reader, which moves behind each type's edges.
 pub fn read_types(file: &[u8], from: usize) -> Types
     requires { ⌜ from ≤ length (now file) ⌝ }
     ensures { λ r. ⌜ TypesRead (now (file .entry)) from r ⌝ }
 {
-    let mut all = [no_type(); MOST_TYPES];
+    let mut reader = reader_at(file, from);
+    let mut all = no_types();
     let mut count: usize = 0;
-    let mut at = from;
     loop {
-        let Next::Found(f) = field_of(file, at, Kind::Module) else {
-            return types_read(Refusal::Nothing, at, count, all);
-        };
-        let refusal = type_verdict(file, f, count);
-        if refuses(refusal) {
-            return types_read(refusal, at, count, all);
+        let at = reader.at;
+        let found = own_field(next(&mut reader), Kind::Module);
+        let one = type_of(file, found, count);
+        if ends(found, one.refusal) {
+            return ended(one, at, count, all);
         }
-        let one = read_type(file, f);
-        let refusal = one.refusal;
-        if refuses(refusal) {
-            return types_read(refusal, at, count, all);
-        }
-        let module_type = one.module_type;
-        all[count] = module_type;
+        all[count] = one.module_type;
         count += 1;
-        at = one.at;
+        reader.at = one.at;
     }
 }

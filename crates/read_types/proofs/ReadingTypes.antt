@@ -25,7 +25,7 @@ use Rattle.circuit.specs.Stages.{Stage, ifPasses, edgeStage, failingVerdict, fi
 use Rattle.read_fields.specs.Steps.{bodyOf, fieldIn, FieldAt, NextIs, endsBy, verdictBy, keptBy}
 use Rattle.read_types.specs.EdgeTurns.{edgeVerdict, edgeKept, EdgeNext, shapedRecord, EdgesEnded}
 use Rattle.read_types.specs.ReadTypes.{bareOf, EdgesRead, TypeRead, TypesRead}
-use Rattle.read_types.specs.TypeTurns.{FoundWhole, typeVerdict, ToldBy, TypeTold, endsAt}
+use Rattle.read_types.specs.TypeTurns.{FoundWhole, typeVerdict, FieldTold, TypeTold, endsAt}
 use Rattle.read_fields.specs.declared.Field.{Field as FieldRecord}
 use Rattle.read_fields.specs.declared.Next.{Next}
 use Rattle.read_fields.specs.declared.Next.the-variants.{Found, Other}
@@ -353,17 +353,17 @@ module _ {file : List ℕ} {from : ℕ} {all : List TypeRecord} {count at : ℕ}
           )
 
     -- the two ways through a turn, by the verdict on its own bytes
-    type-ends : (v : Verdict) → typeVerdict file count f ≡ v → ToldBy file f v one → isRefused (verdictOf (one .refusal)) ≡ true
+    type-ends : (v : Verdict) → typeVerdict file count f ≡ v → FieldTold file f v one → isRefused (verdictOf (one .refusal)) ≡ true
         → TypesRead file from (record { refusal = one .refusal; at = at; count = count; all = all })
-    unfolding ToldBy
+    unfolding FieldTold
     type-ends passes e read r =
         ended (one .refusal) (one-read e read ∙ if-refused (verdictOf (one .refusal)) (verdictOf (one .refusal)) refl r _ (sofar .types) (cutFrom file at))
     type-ends (refusedAt number place) e why r =
         ended (one .refusal) (type-here ∙ if-refused (verdictOf (one .refusal)) _ (why ∙ sym e) r _ (sofar .types) (cutFrom file at))
 
-    type-goes-on : (v : Verdict) → typeVerdict file count f ≡ v → ToldBy file f v one → isRefused (verdictOf (one .refusal)) ≡ false
+    type-goes-on : (v : Verdict) → typeVerdict file count f ≡ v → FieldTold file f v one → isRefused (verdictOf (one .refusal)) ≡ false
         → TypesSoFar file from (set all count (one .«module_type»)) (count + 1) (one .at) × (count < mostTypes)
-    unfolding ToldBy isRefused
+    unfolding FieldTold isRefused
     type-goes-on passes e read r = one-more e read r
     type-goes-on (refusedAt number place) e why r = let z : _≡_ {A = Bool} true false = rw why at r in let y : _≡_ {A = ℕ} 0 1 = cc in absurd (omega arith)
 

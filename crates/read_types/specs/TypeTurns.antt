@@ -23,13 +23,13 @@ unfoldable pub typeVerdict : List ℕ → ℕ → FieldRecord → Verdict
 typeVerdict file count f = firstOf (typeTests count (f .at) (bodyOf file f))
 
 -- what is told of a field with that verdict: the refusal, or the type, read with its edges and judged
-unfoldable pub ToldBy : List ℕ → FieldRecord → Verdict → OneType → Type 0
-ToldBy file f passes one = TypeRead file f one
-ToldBy file f (refusedAt number place) one = verdictOf (one .refusal) ≡ refusedAt number place
+unfoldable pub FieldTold : List ℕ → FieldRecord → Verdict → OneType → Type 0
+FieldTold file f passes one = TypeRead file f one
+FieldTold file f (refusedAt number place) one = verdictOf (one .refusal) ≡ refusedAt number place
 
 -- and of what was found: where no type stands, nothing is refused
 unfoldable pub TypeTold : List ℕ → ℕ → Next → OneType → Type 0
-TypeTold file count (Found f) one = ToldBy file f (typeVerdict file count f) one
+TypeTold file count (Found f) one = FieldTold file f (typeVerdict file count f) one
 TypeTold file count Other one = verdictOf (one .refusal) ≡ passes
 
 -- whether the stage ends: no type stands next, or one of which this refusal was told

@@ -15,7 +15,7 @@ use Rattle.read_fields.specs.declared.Next.{Next}
 use Rattle.read_fields.specs.declared.Next.the-variants.{Found, Other}
 use Rattle.read_fields.proofs.Turns.{nothing-passes}
 use Rattle.read_types.specs.ReadTypes.{TypeRead}
-use Rattle.read_types.specs.TypeTurns.{FoundWhole, typeVerdict, ToldBy, TypeTold}
+use Rattle.read_types.specs.TypeTurns.{FoundWhole, typeVerdict, FieldTold, TypeTold}
 use Rattle.read_types.specs.declared.edges.OneType.{OneType}
 use Rattle.read_types.proofs.ReadingTypes.{type-fits}
 use Rattle.read_types.proofs.types.type_of.Statement.{statement}
@@ -31,17 +31,17 @@ module _ (file : List ℕ) (count : ℕ) (n : Next) where
     unfolding FoundWhole
     stands whole = rw e at whole
 
-    told-by : (one : OneType) → ToldBy file f (typeVerdict file count f) one → TypeTold file count n one
+    told-by : (one : OneType) → FieldTold file f (typeVerdict file count f) one → TypeTold file count n one
     unfolding TypeTold
     told-by one told = rw e told
 
-told-refused : (file : List ℕ) (f : FieldRecord) (v : Verdict) (one : OneType) → isRefused v ≡ true → verdictOf (one .refusal) ≡ v → ToldBy file f v one
-unfolding ToldBy isRefused
+told-refused : (file : List ℕ) (f : FieldRecord) (v : Verdict) (one : OneType) → isRefused v ≡ true → verdictOf (one .refusal) ≡ v → FieldTold file f v one
+unfolding FieldTold isRefused
 told-refused file f passes one r is = let z : _≡_ {A = ℕ} 0 1 = cc in absurd (omega arith)
 told-refused file f (refusedAt number place) one r is = is
 
-told-read : (file : List ℕ) (f : FieldRecord) (v : Verdict) (one : OneType) → v ≡ passes → TypeRead file f one → ToldBy file f v one
-unfolding ToldBy
+told-read : (file : List ℕ) (f : FieldRecord) (v : Verdict) (one : OneType) → v ≡ passes → TypeRead file f one → FieldTold file f v one
+unfolding FieldTold
 told-read file f v one e read = rw e read
 
 -- the field that was found stands whole in the file

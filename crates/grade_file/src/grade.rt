@@ -35,21 +35,26 @@ fn counted(vectors: usize, faults: usize, classes: u16, found: usize) -> Counts
 }
 
 // The counts of a circuit whose buffers are long enough, with its rows and classes written.
+// The arrays are taken out of the circuit, each once: one that is indexed inside it makes the compiler copy the circuit whole, and its bridges and vectors again.
 fn fill_buffers(c: Circuit, matrix: &mut [u64], classes: &mut [u16]) -> Counts
     requires { ⌜ CircuitGiven c × (4 * (c .faults) ≤ length (now matrix)) × (c .faults ≤ length (now classes)) ⌝ }
     ensures { λ r. ⌜ ((meant : CircuitMeant) → c ≡ circuitRecord meant → CircuitGood meant → Graded meant r (now (matrix .entry)) (now (classes .entry)) (now (matrix .exit)) (now (classes .exit))) ⌝ }
 {
-    let vectors = c.vector_count;
+    let types = c.types;
     let bridges = c.bridges;
+    let instances = c.instances;
+    let all_vectors = c.vectors;
+    let count = c.instance_count;
+    let vectors = c.vector_count;
     let mut ones = [0u64; 768];
     let mut zeros = [0u64; 768];
-    put_signals(c.vectors, (vectors + 63) / 64, &mut ones, &mut zeros);
+    put_signals(all_vectors, (vectors + 63) / 64, &mut ones, &mut zeros);
     let mut codes = [0u32; MOST_FAULTS];
     let mut from: usize = 0;
     let mut i: usize = 0;
-    while i < c.instance_count {
-        let one = c.instances[i];
-        let t = c.types[(one.type_number as usize) - 1];
+    while i < count {
+        let one = instances[i];
+        let t = types[(one.type_number as usize) - 1];
         let to = list_rows(one, t, bridges, c.bridge_count, i, &mut codes, from);
         mark_instance(
             t,

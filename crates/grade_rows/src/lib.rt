@@ -125,18 +125,21 @@ pub fn list_rows(
     listed(codes, from, number, one.choice, bridges, bridge_count)
 }
 
-// The rows of a circuit, in instance order.
+// The rows of a circuit, in instance order. The arrays are taken out of the circuit, so that the compiler does not copy it whole.
 pub fn rows_of(c: Circuit) -> [u32; MOST_FAULTS]
     requires { ⌜ CircuitGiven c ⌝ }
     ensures { λ r. ⌜ ((meant : CircuitMeant) → c ≡ circuitRecord meant → CircuitGood meant → r ≡ padded 2048 0 (codesOf (rowsOf meant))) ⌝ }
 {
+    let types = c.types;
     let bridges = c.bridges;
+    let instances = c.instances;
+    let count = c.instance_count;
     let mut codes = [0u32; MOST_FAULTS];
     let mut at: usize = 0;
     let mut i: usize = 0;
-    while i < c.instance_count {
-        let one = c.instances[i];
-        let t = c.types[(one.type_number as usize) - 1];
+    while i < count {
+        let one = instances[i];
+        let t = types[(one.type_number as usize) - 1];
         at = list_rows(one, t, bridges, c.bridge_count, i, &mut codes, at);
         i += 1;
     }

@@ -27,16 +27,20 @@ abbrev noType : TypeRecord
 noType = record { highest = 0; output = 0; labels = 0; count = 0; edges = [] }
 
 abbrev Inv-loop : tie.InvT-loop
-Inv-loop c bridges codes₀ at₀ i₀ codes at i = (meant : Circuit) → c ≡ circuitRecord meant → CircuitGood meant → Rowed meant i codes at
+Inv-loop c types bridges instances count codes₀ at₀ i₀ codes at i = (meant : Circuit) → c ≡ circuitRecord meant → CircuitGood meant → Rowed meant i codes at
 
 abbrev μ-loop : tie.MeasureT-loop
-μ-loop c bridges codes₀ at₀ i₀ codes at i = c .«instance_count» - i
+μ-loop c types bridges instances count codes₀ at₀ i₀ codes at i = c .«instance_count» - i
+
+-- where the function began
+abbrev start-of : tie.At-loop Inv-loop μ-loop → tie.Start Inv-loop μ-loop
+start-of c = c .before .before .before .before
 
 -- ---- a turn
 
 module _ (c : tie.In-loop Inv-loop μ-loop) where
   abbrev told : CircuitRecord
-  told = c .before .before .before .args .t1
+  told = start-of (c .before) .args .c
 
   abbrev index : ℕ
   index = c .before .loop .i
@@ -52,7 +56,7 @@ module _ (c : tie.In-loop Inv-loop μ-loop) where
 
   -- for the circuit that it is known to tell
   abbrev known : CircuitGiven told
-  known = c .before .before .before .pre
+  known = start-of (c .before) .pre
 
   there : index < length (known .circuit .instances)
   there = here (known .circuit) (known .is) (known .good)
@@ -69,8 +73,8 @@ loop-holds c = λ meant is good. rowed-none meant
 mul-one : tie.Need-mul-one Inv-loop μ-loop
 mul-one c = omega (arith, small c)
 
-element-copy-out-one : tie.Need-element-copy-out-one Inv-loop μ-loop
-element-copy-out-one c = small c
+array-copy-out-one : tie.Need-array-copy-out-one Inv-loop μ-loop
+array-copy-out-one c = small c
 
 cast-t : tie.Need-cast-t Inv-loop μ-loop
 cast-t c = omega (arith, place (c .before .before))
@@ -81,8 +85,8 @@ sub-t c = place (c .before .before) .0
 mul-t : tie.Need-mul-t Inv-loop μ-loop
 mul-t c = omega (arith, place (c .before .before))
 
-element-copy-out-t : tie.Need-element-copy-out-t Inv-loop μ-loop
-element-copy-out-t c = omega (arith, place (c .before .before))
+array-copy-out-t : tie.Need-array-copy-out-t Inv-loop μ-loop
+array-copy-out-t c = omega (arith, place (c .before .before))
 
 list-rows-requires : tie.Need-list-rows-requires Inv-loop μ-loop
 list-rows-requires c κs =
@@ -119,7 +123,7 @@ returns c =
     λ meant is good.
     let l = c .before .loop in
     rowed-end meant good (l .codes) (l .at) (l .i)
-    (omega (arith, count-is meant good (c .before .before .before .args .t1) is, c .loop-test .left)) (l .inv meant is good)
+    (omega (arith, count-is meant good (start-of (c .before) .args .c) is, c .loop-test .left)) (l .inv meant is good)
 
 pub rows-of-spec : {M : Type 1} → statement M
 rows-of-spec =
@@ -129,11 +133,11 @@ rows-of-spec =
     μ-loop
     loop-holds
     mul-one
-    element-copy-out-one
+    array-copy-out-one
     cast-t
     sub-t
     mul-t
-    element-copy-out-t
+    array-copy-out-t
     list-rows-requires
     add-i
     loop-less

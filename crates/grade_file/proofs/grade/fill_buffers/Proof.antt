@@ -18,12 +18,12 @@ use Rattle.grade_file.proofs.grade.fill_buffers.Statement.{statement}
 use Rattle.grade_file.proofs.grade.fill_buffers.Tie as tie
 
 abbrev Inv-loop : tie.InvT-loop
-Inv-loop matrix₀ classes c vectors bridges ones₀ zeros₀ codes₀ from₀ i₀ matrix ones zeros codes from i =
+Inv-loop c matrix₀ classes types bridges instances count vectors ones₀ zeros₀ codes₀ from₀ i₀ matrix ones zeros codes from i =
     (told : CircuitGiven c)
     → Turned (told .circuit) matrix₀ record { ones = ones; zeros = zeros; matrix = matrix; codes = codes; from = from; place = i }
 
 abbrev μ-loop : tie.MeasureT-loop
-μ-loop matrix₀ classes c vectors bridges ones₀ zeros₀ codes₀ from₀ i₀ matrix ones zeros codes from i = c .«instance_count» - i
+μ-loop c matrix₀ classes types bridges instances count vectors ones₀ zeros₀ codes₀ from₀ i₀ matrix ones zeros codes from i = c .«instance_count» - i
 
 -- what an array read past its end gives
 abbrev noOne : InstanceRecord
@@ -35,7 +35,7 @@ noType = record { highest = 0; output = 0; labels = 0; count = 0; edges = [] }
 -- ---- where things stand
 
 abbrev start-at : tie.After-put-signals Inv-loop μ-loop → tie.Start Inv-loop μ-loop
-start-at c = c .before .before .before .before .before .before .before
+start-at c = c .before .before .before .before .before .before .before .before .before
 
 abbrev turn-listed : tie.After-list-rows Inv-loop μ-loop → tie.In-loop Inv-loop μ-loop
 turn-listed c = c .before .before .before .before .before
@@ -53,10 +53,10 @@ abbrev loop-classed : tie.After-class-rows Inv-loop μ-loop → tie.After-loop I
 loop-classed c = c .before .before .before .before
 
 -- the circuit is known to have few vectors
-vectors-few : (start : tie.Start Inv-loop μ-loop) → start .args .t1 .«vector_count» ≤ 256
+vectors-few : (start : tie.Start Inv-loop μ-loop) → start .args .c .«vector_count» ≤ 256
 vectors-few start =
     let p = start .pre .0 in
-    omega (arith, assembly.vectors-are (p .circuit) (start .args .t1) (p .is), p .good .few-vectors)
+    omega (arith, assembly.vectors-are (p .circuit) (start .args .c) (p .is), p .good .few-vectors)
 
 -- ---- the loop, at any turn
 
@@ -65,7 +65,7 @@ module _ (c : tie.At-loop Inv-loop μ-loop) where
   begin = start-at (c .before)
 
   abbrev whole : CircuitRecord
-  whole = begin .args .t1
+  whole = begin .args .c
 
   abbrev known : CircuitGiven whole
   known = begin .pre .0
@@ -161,21 +161,21 @@ turned c told =
 -- ---- the needs
 
 add-put-signals : tie.Need-add-put-signals Inv-loop μ-loop
-add-put-signals c = omega (arith, vectors-few (c .before .before .before .before))
+add-put-signals c = omega (arith, vectors-few (c .before .before .before .before .before .before))
 
 put-signals-requires : tie.Need-put-signals-requires Inv-loop μ-loop
-put-signals-requires c κs = (omega (arith, vectors-few (c .before .before .before .before .before .before)), (refl, refl))
+put-signals-requires c κs = (omega (arith, vectors-few (c .before .before .before .before .before .before .before .before)), (refl, refl))
 
 loop-holds : tie.Need-loop-holds Inv-loop μ-loop
 loop-holds c = λ told.
-    assembly.turned-none (told .circuit) (start-at c .args .t1) (told .is) _ _ _ _ (length-replicate {A = ℕ} 2048 0)
+    assembly.turned-none (told .circuit) (start-at c .args .c) (told .is) _ _ _ _ (length-replicate {A = ℕ} 2048 0)
     (c .put-signals .ensures .0) (c .put-signals .ensures .1)
 
 mul-one : tie.Need-mul-one Inv-loop μ-loop
 mul-one c = omega (arith, few c)
 
-element-copy-out-one : tie.Need-element-copy-out-one Inv-loop μ-loop
-element-copy-out-one c = few c
+array-copy-out-one : tie.Need-array-copy-out-one Inv-loop μ-loop
+array-copy-out-one c = few c
 
 cast-t : tie.Need-cast-t Inv-loop μ-loop
 cast-t c = omega (arith, type-placed (c .before .before))
@@ -186,8 +186,8 @@ sub-t c = type-placed (c .before .before) .0
 mul-t : tie.Need-mul-t Inv-loop μ-loop
 mul-t c = omega (arith, type-placed (c .before .before))
 
-element-copy-out-t : tie.Need-element-copy-out-t Inv-loop μ-loop
-element-copy-out-t c = omega (arith, type-placed (c .before .before))
+array-copy-out-t : tie.Need-array-copy-out-t Inv-loop μ-loop
+array-copy-out-t c = omega (arith, type-placed (c .before .before))
 
 list-rows-requires : tie.Need-list-rows-requires Inv-loop μ-loop
 list-rows-requires c κs =
@@ -254,11 +254,11 @@ fill-buffers-spec =
     put-signals-requires
     loop-holds
     mul-one
-    element-copy-out-one
+    array-copy-out-one
     cast-t
     sub-t
     mul-t
-    element-copy-out-t
+    array-copy-out-t
     list-rows-requires
     mark-instance-requires
     write-keys-requires

@@ -24,8 +24,10 @@ use Rattle.circuit.proofs.CircuitLaws.{accepted-is-good}
 use Rattle.circuit.proofs.Tested.{each-none}
 use Rattle.read_fields.specs.declared.Field.{Field}
 use Rattle.read_bridges.specs.ListSums.{listsOf, ListedBridges}
-use Rattle.read_bridges.specs.declared.lists.Lists.{Lists}
-use Rattle.read_instances.specs.ReadInstances.{HeldTo}
+use Rattle.read_instances.specs.ReadInstances.{HeldAt}
+use Rattle.read_instances.specs.declared.Held.{Held}
+use Rattle.read_file.specs.Whole.{columnOf}
+use Rattle.read_file.proofs.ColumnLaws.{nodes-told, labels-told}
 use Rattle.grading.specs.Codes.{CodesFit}
 use Rattle.grading.specs.Given.{CircuitGiven, Read}
 use Rattle.grading.specs.Promise.{countsOf}
@@ -69,19 +71,30 @@ pub rows-held : RowsHeld (ShortMatrix 0) [] [] []
 unfolding countsOf
 rows-held = record { codes-held = omega arith; words-held = omega arith; classes-held = omega arith }
 
--- no types, and the sums of no lists
-abbrev pub noTypes : List ModuleType
+-- no types, their columns, and the sums of no lists
+abbrev noTypes : List ModuleType
 noTypes = padded mostTypes unusedType []
 
-abbrev pub noLists : Lists
-noLists = listsOf []
+abbrev pub heldNone : Held
+heldNone = record {
+  nodes = columnOf (λ (t : ModuleType). t .highest) noTypes 0;
+  labels = columnOf (λ (t : ModuleType). t .labels) noTypes 0;
+  lists = listsOf [];
+}
 
-pub held-to-none : HeldTo 0 noTypes noLists
+pub held-at-none : HeldAt 0 heldNone
 unfolding computing
-held-to-none = record {
+held-at-none = record {
   types = [];
   bridges = [];
-  held = record { within = omega arith; counted = refl; is = refl; good = each-none _; few = omega arith; summed = refl; ranges = tt };
+  told = record {
+    counted = refl;
+    nodes-of = nodes-told [] 0 noTypes (omega arith) refl refl;
+    labels-of = labels-told [] 0 noTypes (omega arith) refl refl;
+    good = each-none _;
+    few = omega arith;
+    summed = refl;
+  };
 }
 
 -- the codes of no rows

@@ -32,7 +32,7 @@ use Rattle.demands.proofs.Outcomes.{same-counts, answered-once}
 use Rattle.demands.proofs.KindsOnce.{kind-once}
 use Rattle.demands.proofs.StepsOnce.{step-once, next-once}
 use Rattle.demands.proofs.CanBeMet.{lent, emptyField, bareType, edges-given, type-given, noBridges, bridges-listed, codes-fit, codes-of-none}
-use Rattle.demands.proofs.CanBeMet.{rows-held, noTypes, noLists, held-to-none, firstInput, instance-given, readingOfNone, none-read, circuit-given}
+use Rattle.demands.proofs.CanBeMet.{rows-held, heldNone, held-at-none, firstInput, instance-given, readingOfNone, none-read, circuit-given}
 
 both : {A B : Type 0} {one other : A × B} → one .0 ≡ other .0 → one .1 ≡ other .1 → one ≡ other
 both p q i = (p i, q i)
@@ -125,9 +125,9 @@ unique = record {
   read-bridges-read-bridges = record { can-be-met = λ κs. ((lent [], (0, tt)), omega arith); one-outcome = λ κs a asked one other p q. both (bridges-once (now (a .0)) (a .1 .0) (one .0) (other .0) p q) refl };
   read-instances-no-instance = record { asks-nothing = λ κs a. tt; one-outcome = λ κs a asked one other p q. both (p ∙ sym q) refl };
   read-instances-read-instances = record {
-    can-be-met = λ κs. ((lent [], (0, (0, (0, (noTypes, (noLists, tt)))))), (omega arith, (omega arith, held-to-none)));
+    can-be-met = λ κs. ((lent [], (0, (0, (0, (heldNone, tt))))), (omega arith, (omega arith, held-at-none)));
     one-outcome = λ κs a asked one other p q.
-        both (instances-once (now (a .0)) (a .1 .0) (a .1 .1 .0) (a .1 .1 .1 .0) (a .1 .1 .1 .1 .0) (a .1 .1 .1 .1 .1 .0) (asked .1 .1) (one .0) (other .0) p q) refl;
+        both (instances-once (now (a .0)) (a .1 .0) (a .1 .1 .0) (a .1 .1 .1 .0) (a .1 .1 .1 .1 .0) (asked .1 .1) (one .0) (other .0) p q) refl;
   };
   read-vectors-no-vector = record { asks-nothing = λ κs a. tt; one-outcome = λ κs a asked one other p q. both (p ∙ sym q) refl };
   read-vectors-read-vectors = record { can-be-met = λ κs. ((lent [], (0, (0, tt))), (omega arith, omega arith)); one-outcome = λ κs a asked one other p q. both (vectors-once (now (a .0)) (a .1 .0) (a .1 .1 .0) (one .0) (other .0) p q) refl };

@@ -13,7 +13,7 @@ use Rattle.switch.specs.Conduction.{Value, between}
 use Rattle.switch.specs.Modules.{ModuleType}
 use Rattle.circuit.specs.Limits.{mostBytes, mostTypes, mostBridges, mostInstances, mostVectors}
 use Rattle.circuit.specs.Fields.{Cut, clean, broken, field, cutFrom, twoBytes}
-use Rattle.circuit.specs.Circuit.{Circuit, Instance, Listed, faultCount}
+use Rattle.circuit.specs.Circuit.{Circuit, Instance, Listed, numbered, faultCount}
 use Rattle.circuit.specs.Order.{inputs-tag, tagOf, isUnknown}
 use Rattle.circuit.specs.Table.{Verdict, passes, refusedAt, firstOf, test, isEmpty, inputsTests}
 use Rattle.circuit.specs.Reading.{Reading, accepted, refusal, unless, readingWith}
@@ -27,9 +27,9 @@ use Rattle.read_fields.specs.Steps.{bodyOf, fieldIn, FieldAt, NextIs}
 use Rattle.read_types.specs.ReadTypes.{TypesRead}
 use Rattle.read_bridges.specs.ReadBridges.{BridgesRead}
 use Rattle.read_bridges.specs.ListSums.{SummedTo}
-use Rattle.read_instances.specs.ReadInstances.{TypesAndLists, InstancesRead}
+use Rattle.read_instances.specs.ReadInstances.{ShapesAndLists, InstancesRead}
 use Rattle.read_vectors.specs.ReadVectors.{VectorsRead}
-use Rattle.read_file.specs.Whole.{StartRead, wholeOf}
+use Rattle.read_file.specs.Whole.{StartRead, ShapedRead, wholeOf}
 use Rattle.switch.specs.declared.ModuleType.{ModuleType as TypeRecord}
 use Rattle.circuit.specs.declared.Bridge.{Bridge as BridgeRecord}
 use Rattle.circuit.specs.declared.Instance.{Instance as InstanceRecord}
@@ -44,6 +44,7 @@ use Rattle.read_bridges.specs.declared.Bridges.{Bridges}
 use Rattle.read_bridges.specs.declared.lists.Lists.{Lists}
 use Rattle.read_instances.specs.declared.Instances.{Instances}
 use Rattle.read_file.specs.declared.read.Start.{Start}
+use Rattle.read_file.specs.declared.shapes.Shaped.{Shaped}
 use Rattle.read_vectors.specs.declared.Vectors.{Vectors}
 use Rattle.circuit.proofs.Padding.{padded-nil}
 use Rattle.circuit.proofs.Verdicts.{first-passes}
@@ -51,6 +52,7 @@ use Rattle.circuit.proofs.BeforeLaws.{stage-types}
 use Rattle.circuit.proofs.OrderLaws.{is-kind, not-kind}
 use Rattle.circuit.proofs.GatheredLaws.{gathered-is-before}
 use Rattle.read_fields.proofs.Cuts.{cut-clean}
+use Rattle.read_file.proofs.ColumnLaws.{nodes-told, labels-told}
 
 -- ---- the empty circuit
 
@@ -141,18 +143,18 @@ thenInstances wanted size P types bridges cut = afterStage (instanceStage P type
 abbrev thenBridges : Bool → ℕ → ℕ → List ModuleType → Cut → Reading
 thenBridges wanted size P types cut = afterStage (bridgeStage [] cut) (thenInstances wanted size P types)
 
--- the types and lists that the instances are held to
-pub held-to : {file : List ℕ} {from : ℕ} {t : Types} {b : Bridges} (types : TypesRead file from t) (bridges : BridgesRead file (t .at) b) (lists : Lists)
-    → SummedTo (b .all) (b .count) lists → TypesAndLists (types .types) (bridges .bridges) (t .count) (t .all) lists
-held-to types bridges lists summed = record {
-  within = types .within;
-  counted = types .count;
-  is = types .all;
-  good = stage-types _ _ (types .types) _ (types .stage) .each;
-  few = bridges .within;
-  summed = summed (bridges .bridges) (bridges .count) (bridges .within) (bridges .ranges) (bridges .all);
-  ranges = bridges .ranges;
-}
+-- the shapes and lists that the instances are held to
+pub held-to : {file : List ℕ} {from : ℕ} {t : Shaped} {b : Bridges} (types : ShapedRead file from t) (bridges : BridgesRead file (t .at) b) (lists : Lists)
+    → SummedTo (b .all) (b .count) lists → ShapesAndLists (types .read .types) (bridges .bridges) (t .count) (t .nodes) (t .labels) lists
+held-to {t = t} types bridges lists summed =
+    let read = types .read in record {
+      counted = read .count;
+      nodes-of = λ n. ap (λ (l : List ℕ). numbered l n 0) (types .nodes) ∙ nodes-told (read .types) (t .count) (t .all) (read .within) (read .count) (read .all) n;
+      labels-of = λ n. ap (λ (l : List ℕ). numbered l n 0) (types .labels) ∙ labels-told (read .types) (t .count) (t .all) (read .within) (read .count) (read .all) n;
+      good = stage-types _ _ (read .types) _ (read .stage) .each;
+      few = bridges .within;
+      summed = summed (bridges .bridges) (bridges .count) (bridges .within) (bridges .ranges) (bridges .all);
+    }
 
 module _ (wanted : Bool) {file : List ℕ} {s : Start} (start : StartRead wanted file s)
     {t : Types} (types : TypesRead file (s .at) t)

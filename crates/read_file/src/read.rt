@@ -1,5 +1,7 @@
 // Reading a file: its start, the stages in file order, and then the ending.
 use crate::ending::ending;
+use crate::shapes::Shaped;
+use crate::shapes::read_shaped;
 use circuit::Circuit;
 use circuit::Reading;
 use circuit::limits::MOST_BRIDGES;
@@ -19,12 +21,11 @@ use read_fields::Field;
 use read_fields::Next;
 use read_fields::field_of;
 use read_fields::two_bytes;
+use read_instances::Held;
 use read_instances::Instances;
 use read_instances::no_instance;
 use read_instances::read_instances;
-use read_types::types::Types;
 use read_types::types::no_type;
-use read_types::types::read_types;
 use read_vectors::Vectors;
 use read_vectors::no_vector;
 use read_vectors::read_vectors;
@@ -38,7 +39,7 @@ ghost use Rattle.circuit.specs.Refusals.{verdictOf};
 ghost use Rattle.circuit.specs.Answers.{Answers};
 ghost use Rattle.read_fields.specs.Steps.{bodyOf};
 ghost use Rattle.read_file.specs.ReadStages.{ReadByStages};
-ghost use Rattle.read_file.specs.Whole.{StartRead, wholeOf};
+ghost use Rattle.read_file.specs.Whole.{StartRead, typesOf, wholeOf};
 
 // The circuit with nothing in it.
 fn empty_circuit() -> Circuit
@@ -82,12 +83,12 @@ fn inputs_verdict(file: &[u8], f: Field) -> Refusal
 fn whole(
     refusal: Refusal,
     inputs: usize,
-    types: Types,
+    types: Shaped,
     bridges: Bridges,
     instances: Instances,
     vectors: Vectors,
 ) -> Reading
-    ensures { λ r. ⌜ r ≡ wholeOf refusal inputs types bridges instances vectors ⌝ }
+    ensures { λ r. ⌜ r ≡ wholeOf refusal inputs (typesOf types) bridges instances vectors ⌝ }
 {
     let all_types = types.all;
     let all_bridges = bridges.all;
@@ -153,13 +154,19 @@ pub fn read_stages(file: &[u8], vector_wanted: bool) -> Reading
     ensures { λ r. ⌜ ReadByStages «vector_wanted» (now (file .entry)) r ⌝ }
 {
     let start = read_start(file, vector_wanted);
-    let types = read_types(file, start.at);
+    let types = read_shaped(file, start.at);
     let bridges = read_bridges(file, types.at);
-    let all_types = types.all;
+    let nodes = types.nodes;
+    let labels = types.labels;
     let all_bridges = bridges.all;
     let lists = lists_of(all_bridges, bridges.count);
+    let held = Held {
+        nodes,
+        labels,
+        lists,
+    };
     let inputs = start.inputs;
-    let instances = read_instances(file, bridges.at, inputs, types.count, all_types, lists);
+    let instances = read_instances(file, bridges.at, inputs, types.count, held);
     let vectors = read_vectors(file, instances.at, inputs);
     let last = ending(
         file,

@@ -1,41 +1,33 @@
 -- The laws of an instance field: what its type and its list choice give, that the tests on what the code gathers are those of the table,
 -- and what holds of a field that passes them.
 use Prim.Native.Nat.{ℕ, zero, suc, _+_, _%_, _<_, _≤_}
-use mathlib.Core.Path.{_≡_, refl, sym, ap, _∙_}
+use mathlib.Core.Path.{_≡_, refl}
 use mathlib.Core.Bool.{Bool, true, false, cond, not, _&&_}
-use mathlib.Core.List.{List, [], _∷_, _++_, map}
+use mathlib.Core.List.{List, [], _∷_}
 use native.Mathlib.Nat.{mul-le-mul}
 use native.Mathlib.Decide.{decLt}
 use native.Mathlib.Omega.{arith}
 use borrow.Author.Tests.{ltb-true, ltb-false, leb-false, le-leb, lt-leb}
-use lib.Dec.{T, eqb, leb, ltb, eqb·suc-zero}
-use lib.ListN.{length, getD, List·getD-eq-default, List·getD-map}
-use Rattle.words.specs.Tables.{table, upTo}
-use Rattle.words.proofs.Tables.{length-table, getD-table, up-past, getD-fill}
+use lib.Dec.{T, eqb, ltb, eqb·suc-zero}
+use lib.ListN.{length, getD, List·getD-eq-default}
 use Rattle.switch.specs.Conduction.{between}
 use Rattle.switch.specs.Modules.{ModuleType, allOf, typeInRange}
-use Rattle.switch.specs.Records.{unusedEdge}
-use Rattle.switch.specs.declared.ModuleType.{ModuleType as TypeRecord}
 use Rattle.switch.proofs.Paths.{both}
 use Rattle.switch.proofs.Deciding.{and-both}
-use Rattle.circuit.specs.Limits.{mostTypes, mostBridges}
 use Rattle.circuit.specs.Circuit.{Reference, primary, outputOf, Choice, exhaustive, no-faults, list, Instance, Listed}
 use Rattle.circuit.specs.Circuit.{numbered, noType, typeOfInstance, userList, exhaustiveSize, chosenSize, faultCount}
 use Rattle.circuit.specs.Numbers.{signed, choiceOf, choiceInRange, referenceGood}
 use Rattle.circuit.specs.Known.{referencesIn, instanceIn}
-use Rattle.circuit.specs.Records.{padded, unusedType, typeRecord}
 use Rattle.circuit.specs.Table.{Test, passes, firstOf, listUnsuited, listEmpty, instanceTests, instanceTestsOf}
 use Rattle.circuit.specs.Stages.{readTo}
 use Rattle.circuit.specs.Laws.{Each, TypeGood}
-use Rattle.read_bridges.specs.ListSums.{topNode, labelsNamed, most, listsOf}
+use Rattle.read_bridges.specs.ListSums.{topNode, labelsNamed, most}
 use Rattle.read_instances.specs.Choices.{listNamed, chosenOf, givenBy}
-use Rattle.read_instances.specs.ReadInstances.{shapesOf, gatheredTests, InstanceFits, TypesAndLists, ShapesAndLists}
+use Rattle.read_instances.specs.ReadInstances.{gatheredTests, InstanceFits, ShapesAndLists}
 use Rattle.read_instances.specs.declared.choices.Chosen.{Chosen}
-use Rattle.read_instances.specs.declared.shapes.Shapes.{Shapes}
 use Rattle.read_bridges.specs.declared.lists.Lists.{Lists}
 use Rattle.circuit.proofs.StageLaws.{empty-count}
 use Rattle.circuit.proofs.TypeLaws.{edges-ranges}
-use Rattle.circuit.proofs.Padding.{getD-padded, padded-nil}
 use Rattle.circuit.proofs.Verdicts.{first-passes}
 use Rattle.circuit.proofs.RangeLaws.{between-in}
 use Rattle.switch.proofs.Channels.{in-between}
@@ -83,64 +75,6 @@ named-place b = go (ltb b 128) refl
     go : (low : Bool) → ltb b 128 ≡ low → cond low b 0 < 128
     go true e = ltb-true b 128 e
     go false e = omega arith
-
--- ---- types
-
-no-type-record : typeRecord noType ≡ unusedType
-unfolding typeRecord
-no-type-record = rw (padded-nil unusedEdge 64)
-
--- the record in a place is that of the type there, and of no type past the last
-type-at : (types : List ModuleType) (d : TypeRecord) (m : ℕ) → m < 16
-    → getD (padded mostTypes unusedType (map typeRecord types)) m d ≡ typeRecord (getD types m noType)
-type-at types d m h =
-    getD-padded unusedType 16 (map typeRecord types) d m h
-    ∙ ap (getD (map typeRecord types) m) (sym no-type-record)
-    ∙ List·getD-map typeRecord types m noType
-
--- from a place on a column holds 0, also past its end
-past : (m : ℕ) (f : ℕ → ℕ) (n i : ℕ) → n ≤ i → getD (table m (upTo n f)) i 0 ≡ 0
-past m f n i h = go (decLt i m)
-  where
-    go : Dec (i < m) → getD (table m (upTo n f)) i 0 ≡ 0
-    go (yes q) = getD-table m (upTo n f) 0 i q ∙ up-past n f i h
-    go (no q) = List·getD-eq-default (table m (upTo n f)) 0 {n = i} (omega (arith, length-table m (upTo n f)))
-
-module _ {types : List ModuleType} {bridges : List Listed} {typeCount : ℕ} {all : List TypeRecord} {lists : Lists}
-    (held : TypesAndLists types bridges typeCount all lists) where
-  -- what the places hold of the types
-  abbrev column : (TypeRecord → ℕ) → ℕ → ℕ
-  column shown m = shown (getD all m unusedType)
-
-  -- what a column holds of a number is that of the type with it
-  shape-of : (shown : TypeRecord → ℕ) (of : ModuleType → ℕ) → ((t : ModuleType) → shown (typeRecord t) ≡ of t) → of noType ≡ 0
-      → (n : ℕ) → numbered (table mostTypes (upTo typeCount (column shown))) n 0 ≡ of (numbered types n noType)
-  unfolding numbered
-  shape-of shown of same none zero = sym none
-  shape-of shown of same none (suc m) = go (decLt m typeCount)
-    where
-      go : Dec (m < typeCount) → getD (table 16 (upTo typeCount (column shown))) m 0 ≡ of (getD types m noType)
-      go (yes h) =
-          let few : typeCount ≤ 16 = omega (arith, held .within, held .counted) in
-          getD-fill 16 (column shown) typeCount m h few
-          ∙ ap (λ (l : List TypeRecord). shown (getD l m unusedType)) (held .is)
-          ∙ ap shown (type-at types unusedType m (omega arith))
-          ∙ same (getD types m noType)
-      go (no h) =
-          past 16 (column shown) typeCount m (omega arith)
-          ∙ sym none
-          ∙ ap of (sym (List·getD-eq-default types noType {n = m} (omega (arith, held .counted))))
-
-  pub shapes-told : (s : Shapes) → s ≡ shapesOf all typeCount → ShapesAndLists types bridges typeCount (s .nodes) (s .labels) lists
-  unfolding typeRecord
-  shapes-told s e = rw e record {
-    counted = held .counted;
-    nodes-of = shape-of (λ (r : TypeRecord). r .highest) (λ (t : ModuleType). t .highest) (λ t. refl) refl;
-    labels-of = shape-of (λ (r : TypeRecord). r .labels) (λ (t : ModuleType). t .labels) (λ t. refl) refl;
-    good = held .good;
-    few = held .few;
-    summed = held .summed;
-  }
 
 -- ---- the tests
 

@@ -17,8 +17,8 @@ use Rattle.circuit.specs.Refusals.{verdictOf}
 use Rattle.circuit.specs.Verdicts.{isRefused}
 use Rattle.circuit.specs.Stages.{readTo, instanceStage, stageOf}
 use Rattle.read_fields.specs.Steps.{bodyOf, FieldAt, NextIs, endsBy, verdictBy, keptBy}
-use Rattle.read_instances.specs.ReadInstances.{ShapesAndLists, InstancesRead}
-use Rattle.read_instances.specs.Turns.{askedOf, noneAsked, HeldAt, instanceVerdict, TurnGiven, instanceKept, InstanceNext, InstancesEnded}
+use Rattle.read_instances.specs.ReadInstances.{ShapesAndLists, HeldAt, InstancesRead}
+use Rattle.read_instances.specs.Turns.{askedOf, noneAsked, instanceVerdict, TurnGiven, instanceKept, InstanceNext, InstancesEnded}
 use Rattle.read_instances.specs.declared.Asked.{Asked}
 use Rattle.read_instances.specs.declared.Held.{Held}
 use Rattle.read_instances.specs.declared.Instances.{Instances}

@@ -4,12 +4,11 @@ use mathlib.Core.Path.{_≡_, sym, ap, _∙_}
 use mathlib.Core.List.{List, map}
 use lib.ListN.{length}
 use Rattle.switch.specs.Modules.{ModuleType}
-use Rattle.switch.specs.declared.ModuleType.{ModuleType as TypeRecord}
 use Rattle.circuit.specs.Limits.{mostInstances}
 use Rattle.circuit.specs.Circuit.{Instance, Listed, faultCount}
 use Rattle.circuit.specs.Records.{padded, unusedInstance, instanceRecord}
-use Rattle.read_bridges.specs.declared.lists.Lists.{Lists}
-use Rattle.read_instances.specs.ReadInstances.{TypesAndLists, HeldTo, InstancesRead}
+use Rattle.read_instances.specs.ReadInstances.{ShapesAndLists, HeldAt, InstancesRead}
+use Rattle.read_instances.specs.declared.Held.{Held}
 use Rattle.read_instances.specs.declared.Instances.{Instances}
 use Rattle.circuit.proofs.AnswerLaws.{verdict-tells}
 use Rattle.read_fields.proofs.Places.{ended-once}
@@ -27,9 +26,9 @@ read-once file from P types bridges r s p q =
     λ i. record { refusal = refusal i; at = at i; count = count i; faults = faults i; all = all i }
 
 -- the arguments tell some, since they are asked to
-pub instances-once : (file : List ℕ) (from P typeCount : ℕ) (all : List TypeRecord) (lists : Lists) → HeldTo typeCount all lists → (r s : Instances)
-    → ((ts : List ModuleType) (bs : List Listed) → TypesAndLists ts bs typeCount all lists → InstancesRead file from P ts bs r)
-    → ((ts : List ModuleType) (bs : List Listed) → TypesAndLists ts bs typeCount all lists → InstancesRead file from P ts bs s)
+pub instances-once : (file : List ℕ) (from P typeCount : ℕ) (held : Held) → HeldAt typeCount held → (r s : Instances)
+    → ((ts : List ModuleType) (bs : List Listed) → ShapesAndLists ts bs typeCount (held .nodes) (held .labels) (held .lists) → InstancesRead file from P ts bs r)
+    → ((ts : List ModuleType) (bs : List Listed) → ShapesAndLists ts bs typeCount (held .nodes) (held .labels) (held .lists) → InstancesRead file from P ts bs s)
     → r ≡ s
-instances-once file from P typeCount all lists h r s p q =
-    read-once file from P (h .types) (h .bridges) r s (p (h .types) (h .bridges) (h .held)) (q (h .types) (h .bridges) (h .held))
+instances-once file from P typeCount held h r s p q =
+    read-once file from P (h .types) (h .bridges) r s (p (h .types) (h .bridges) (h .told)) (q (h .types) (h .bridges) (h .told))

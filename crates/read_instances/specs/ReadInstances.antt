@@ -1,17 +1,15 @@
 -- What the functions that read instances promise: their tests, the list that was read, and how it stands in the record.
 use Prim.Native.Nat.{ℕ, _≤_}
 use mathlib.Core.Path.{_≡_}
-use mathlib.Core.List.{List, [], _∷_, map}
+use mathlib.Core.List.{List, [], map}
 use lib.Dec.{T}
 use lib.ListN.{length, getD}
-use Rattle.words.specs.Tables.{table, upTo}
 use Rattle.switch.specs.Modules.{ModuleType, allOf}
-use Rattle.switch.specs.declared.ModuleType.{ModuleType as TypeRecord}
-use Rattle.circuit.specs.Limits.{mostTypes, mostBridges, mostInstances}
+use Rattle.circuit.specs.Limits.{mostBridges, mostInstances}
 use Rattle.circuit.specs.Fields.{cutFrom}
 use Rattle.circuit.specs.Circuit.{Instance, Listed, numbered, noType, faultCount}
-use Rattle.circuit.specs.Table.{Test, listedGood, instanceTestsOf}
-use Rattle.circuit.specs.Records.{padded, unusedType, typeRecord, unusedInstance, instanceRecord}
+use Rattle.circuit.specs.Table.{Test, instanceTestsOf}
+use Rattle.circuit.specs.Records.{padded, unusedInstance, instanceRecord}
 use Rattle.circuit.specs.Refusals.{verdictOf}
 use Rattle.circuit.specs.Known.{referencesIn}
 use Rattle.circuit.specs.Numbers.{signed, choiceInRange, referenceGood}
@@ -19,16 +17,9 @@ use Rattle.circuit.specs.Laws.{Each, TypeGood}
 use Rattle.circuit.specs.Stages.{stageOf, instanceStage}
 use Rattle.read_bridges.specs.declared.lists.Lists.{Lists}
 use Rattle.read_instances.specs.declared.Instances.{Instances}
-use Rattle.read_instances.specs.declared.shapes.Shapes.{Shapes}
+use Rattle.read_instances.specs.declared.Held.{Held}
 use Rattle.read_instances.specs.declared.choices.Chosen.{Chosen}
 use Rattle.read_bridges.specs.ListSums.{listsOf}
-
--- of each of the first n places for types, the highest node and the number of labels; 0 in the others
-abbrev pub shapesOf : List TypeRecord → ℕ → Shapes
-shapesOf all n = record {
-  nodes = table mostTypes (upTo n (λ (m : ℕ). getD all m unusedType .highest));
-  labels = table mostTypes (upTo n (λ (m : ℕ). getD all m unusedType .labels));
-}
 
 -- the tests of an instance field, from what the code has gathered
 abbrev pub gatheredTests : List ℕ → ℕ → ℕ → ℕ → ℕ → Chosen → ℕ → ℕ → List Test
@@ -41,22 +32,6 @@ pub record InstanceFits (body : List ℕ) : Type 0 where
   pub few : length (referencesIn body) ≤ 12
   pub good : T (allOf (referenceGood 64 128) (referencesIn body))
 
--- the types and lists that instances are held to
-pub record TypesAndLists (types : List ModuleType) (bridges : List Listed) (typeCount : ℕ) (all : List TypeRecord)
-    (lists : Lists) : Type 0 where
-  pub within : length types ≤ mostTypes
-  pub counted : typeCount ≡ length types
-  pub is : all ≡ padded mostTypes unusedType (map typeRecord types)
-  pub good : Each (λ (i : ℕ) (t : ModuleType). TypeGood t) types
-  pub few : length bridges ≤ mostBridges
-  pub summed : lists ≡ listsOf bridges
-  pub ranges : T (allOf listedGood bridges)
-
-pub record HeldTo (typeCount : ℕ) (all : List TypeRecord) (lists : Lists) : Type 0 where
-  pub types : List ModuleType
-  pub bridges : List Listed
-  pub held : TypesAndLists types bridges typeCount all lists
-
 -- what the code's columns and sums tell of types and bridges
 pub record ShapesAndLists (types : List ModuleType) (bridges : List Listed) (typeCount : ℕ) (nodes labels : List ℕ)
     (lists : Lists) : Type 0 where
@@ -66,6 +41,12 @@ pub record ShapesAndLists (types : List ModuleType) (bridges : List Listed) (typ
   pub good : Each (λ (i : ℕ) (t : ModuleType). TypeGood t) types
   pub few : length bridges ≤ mostBridges
   pub summed : lists ≡ listsOf bridges
+
+-- some types and bridges are told by the columns and sums
+pub record HeldAt (typeCount : ℕ) (held : Held) : Type 0 where
+  pub types : List ModuleType
+  pub bridges : List Listed
+  pub told : ShapesAndLists types bridges typeCount (held .nodes) (held .labels) (held .lists)
 
 -- the instances from an offset on
 pub record InstancesRead (file : List ℕ) (from P : ℕ) (types : List ModuleType) (bridges : List Listed) (r : Instances) : Type 0 where

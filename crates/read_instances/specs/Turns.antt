@@ -5,8 +5,7 @@ use mathlib.Core.Path.{_≡_}
 use mathlib.Core.Bool.{false}
 use mathlib.Core.List.{List}
 use lib.ListN.{length, getD}
-use Rattle.switch.specs.Modules.{ModuleType}
-use Rattle.circuit.specs.Circuit.{Listed, numbered}
+use Rattle.circuit.specs.Circuit.{numbered}
 use Rattle.circuit.specs.Known.{instanceIn}
 use Rattle.circuit.specs.Table.{Verdict, firstOf}
 use Rattle.circuit.specs.Records.{instanceRecord}
@@ -17,7 +16,7 @@ use Rattle.read_fields.specs.declared.Field.{Field as FieldRecord}
 use Rattle.read_fields.specs.declared.Next.{Next}
 use Rattle.read_fields.specs.declared.Next.the-variants.{Found, Other}
 use Rattle.read_instances.specs.Choices.{givenBy}
-use Rattle.read_instances.specs.ReadInstances.{gatheredTests, InstanceFits, ShapesAndLists}
+use Rattle.read_instances.specs.ReadInstances.{gatheredTests, InstanceFits}
 use Rattle.read_instances.specs.declared.Asked.{Asked}
 use Rattle.read_instances.specs.declared.Held.{Held}
 use Rattle.read_instances.specs.declared.Instances.{Instances}
@@ -34,12 +33,6 @@ askedOf file held f = record {
 -- what no field asks
 abbrev pub noneAsked : Asked
 noneAsked = record { k = 0; given = record { faults = 0; unsuited = false; empty = false } }
-
--- some types and bridges are told by the columns and sums
-pub record HeldAt (typeCount : ℕ) (held : Held) : Type 0 where
-  pub types : List ModuleType
-  pub bridges : List Listed
-  pub told : ShapesAndLists types bridges typeCount (held .nodes) (held .labels) (held .lists)
 
 unfoldable pub instanceVerdict : List ℕ → ℕ → ℕ → Asked → ℕ → ℕ → FieldRecord → Verdict
 instanceVerdict file P typeCount asked count faults f =

@@ -1,15 +1,14 @@
 // Instances: the fields with tag 5, each held to its type, to what stands before it, and to its list.
 mod choices;
+mod columns;
 mod references;
-mod shapes;
 
 use crate::choices::Chosen;
 use crate::choices::given_by;
+use crate::columns::of_type;
 use crate::references::reference_count;
 use crate::references::reference_in;
 use crate::references::references_good;
-use crate::shapes::of_type;
-use crate::shapes::shapes_of;
 use circuit::Instance;
 use circuit::Reference;
 use circuit::limits::MOST_FAULTS;
@@ -27,7 +26,6 @@ use read_fields::cursor::next;
 use read_fields::cursor::reader_at;
 use read_fields::own_field;
 use read_fields::two_bytes;
-use switch::ModuleType;
 ghost use mathlib.Core.Path.{_≡_};
 ghost use mathlib.Core.Bool.{not, _&&_};
 ghost use mathlib.Core.List.{List};
@@ -43,8 +41,8 @@ ghost use Rattle.circuit.specs.Table.{firstOf};
 ghost use Rattle.circuit.specs.Records.{unusedInstance, instanceRecord};
 ghost use Rattle.circuit.specs.Refusals.{verdictOf};
 ghost use Rattle.read_fields.specs.Steps.{bodyOf, NextIn, endsBy, keptBy};
-ghost use Rattle.read_instances.specs.ReadInstances.{gatheredTests, InstanceFits, TypesAndLists, HeldTo, ShapesAndLists, InstancesRead};
-ghost use Rattle.read_instances.specs.Turns.{askedOf, noneAsked, HeldAt, instanceVerdict, FieldGiven, TurnGiven, instanceKept, InstanceNext, InstancesEnded};
+ghost use Rattle.read_instances.specs.ReadInstances.{gatheredTests, InstanceFits, ShapesAndLists, HeldAt, InstancesRead};
+ghost use Rattle.read_instances.specs.Turns.{askedOf, noneAsked, instanceVerdict, FieldGiven, TurnGiven, instanceKept, InstanceNext, InstancesEnded};
 
 pub struct Instances {
     pub refusal: Refusal,
@@ -150,10 +148,10 @@ pub fn no_instance() -> Instance
 }
 
 // What instances are held to: of each type its highest node and its number of labels, and the lists in sum.
-struct Held {
-    nodes: [u8; MOST_TYPES],
-    labels: [u8; MOST_TYPES],
-    lists: Lists,
+pub struct Held {
+    pub nodes: [u8; MOST_TYPES],
+    pub labels: [u8; MOST_TYPES],
+    pub lists: Lists,
 }
 
 // What a field asks of its type and its list: the type's number of labels, and what the choice gives.
@@ -288,7 +286,13 @@ fn no_instances() -> [Instance; MOST_INSTANCES]
 }
 
 // The instances from an offset on, held to this, read by one reader.
-fn instances_by(file: &[u8], from: usize, inputs: usize, type_count: usize, held: Held) -> Instances
+pub fn read_instances(
+    file: &[u8],
+    from: usize,
+    inputs: usize,
+    type_count: usize,
+    held: Held,
+) -> Instances
     requires { ⌜ (from ≤ length (now file)) × ((inputs ≤ 64) × HeldAt «type_count» held) ⌝ }
     ensures { λ r. ⌜ ((ts : List TypeMeant) (bs : List Listed) → ShapesAndLists ts bs «type_count» (held .nodes) (held .labels) (held .lists) → InstancesRead (now (file .entry)) from inputs ts bs r) ⌝ }
 {
@@ -317,29 +321,4 @@ fn instances_by(file: &[u8], from: usize, inputs: usize, type_count: usize, held
         all[count] = instance_of(file, found);
         count += 1;
     }
-}
-
-// The instances from an offset on.
-pub fn read_instances(
-    file: &[u8],
-    from: usize,
-    inputs: usize,
-    type_count: usize,
-    types: [ModuleType; MOST_TYPES],
-    lists: Lists,
-) -> Instances
-    requires { ⌜ from ≤ length (now file) ⌝ }
-    requires { ⌜ inputs ≤ 64 ⌝ }
-    requires { ⌜ HeldTo «type_count» types lists ⌝ }
-    ensures { λ r. ⌜ ((ts : List TypeMeant) (bs : List Listed) → TypesAndLists ts bs «type_count» types lists → InstancesRead (now (file .entry)) from inputs ts bs r) ⌝ }
-{
-    let shapes = shapes_of(types, type_count);
-    let nodes = shapes.nodes;
-    let labels = shapes.labels;
-    let held = Held {
-        nodes,
-        labels,
-        lists,
-    };
-    instances_by(file, from, inputs, type_count, held)
 }

@@ -2,7 +2,7 @@
 -- beside it stands what the stages have gathered. Assumes nothing.
 use mathlib.Core.Path.{sym, subst}
 use borrow.Author.Needs.{needs}
-use Rattle.read_instances.specs.ReadInstances.{InstancesRead, TypesAndLists}
+use Rattle.read_instances.specs.ReadInstances.{InstancesRead, ShapesAndLists}
 use Rattle.read_file.specs.ReadStages.{ReadByStages}
 use Rattle.read_file.proofs.ReadLaws.{held-to, stages-gather, stages-tell}
 use Rattle.read_file.proofs.read.read_stages.Statement.{statement}
@@ -11,8 +11,8 @@ use Rattle.read_file.proofs.read.read_stages.Tie as tie
 read-start-requires : tie.Need-read-start-requires
 read-start-requires c κs = search needs
 
-read-types-requires : tie.Need-read-types-requires
-read-types-requires c κs = search needs
+read-shaped-requires : tie.Need-read-shaped-requires
+read-shaped-requires c κs = search needs
 
 read-bridges-requires : tie.Need-read-bridges-requires
 read-bridges-requires c κs = search needs
@@ -24,28 +24,29 @@ lists-of-requires c κs = search needs
 
 module _ (c : tie.After-lists-of) where
   abbrev bridges-of : tie.After-read-bridges
-  bridges-of = c .before .before .before
+  bridges-of = c .before .before .before .before
 
-  abbrev types-of : tie.After-read-types
+  abbrev types-of : tie.After-read-shaped
   types-of = bridges-of .before
 
   abbrev start-of : tie.After-read-start
   start-of = types-of .before
 
-  held : TypesAndLists
-      (types-of .read-types .ensures .types)
+  held : ShapesAndLists
+      (types-of .read-shaped .ensures .read .types)
       (bridges-of .read-bridges .ensures .bridges)
-      (types-of .read-types .result .count)
-      (types-of .read-types .result .all)
+      (types-of .read-shaped .result .count)
+      (types-of .read-shaped .result .nodes)
+      (types-of .read-shaped .result .labels)
       (c .lists-of .result)
-  held = held-to (types-of .read-types .ensures) (bridges-of .read-bridges .ensures) (c .lists-of .result) (c .lists-of .ensures)
+  held = held-to (types-of .read-shaped .ensures) (bridges-of .read-bridges .ensures) (c .lists-of .result) (c .lists-of .ensures)
 
 read-instances-requires : tie.Need-read-instances-requires
 read-instances-requires c κs = (
   bridges-of c .read-bridges .ensures .place,
   (
     start-of c .read-start .ensures .few,
-    record { types = types-of c .read-types .ensures .types; bridges = bridges-of c .read-bridges .ensures .bridges; held = held c },
+    record { types = types-of c .read-shaped .ensures .read .types; bridges = bridges-of c .read-bridges .ensures .bridges; told = held c },
   ),
 )
 
@@ -54,11 +55,11 @@ instances-are : (c : tie.After-read-instances) → InstancesRead
     (start-of (c .before) .before .before .args .file .now)
     (bridges-of (c .before) .read-bridges .result .at)
     (start-of (c .before) .read-start .result .inputs)
-    (types-of (c .before) .read-types .ensures .types)
+    (types-of (c .before) .read-shaped .ensures .read .types)
     (bridges-of (c .before) .read-bridges .ensures .bridges)
     (c .read-instances .result)
 instances-are c =
-    let l = c .before in c .read-instances .ensures (types-of l .read-types .ensures .types) (bridges-of l .read-bridges .ensures .bridges) (held l)
+    let l = c .before in c .read-instances .ensures (types-of l .read-shaped .ensures .read .types) (bridges-of l .read-bridges .ensures .bridges) (held l)
 
 read-vectors-requires : tie.Need-read-vectors-requires
 read-vectors-requires c κs = (instances-are c .place, start-of (c .before) .read-start .ensures .few)
@@ -97,11 +98,11 @@ returns c =
     let l = n .before in
     subst (ReadByStages _ _) (sym (c .whole .ensures)) record {
       tells =
-          stages-tell _ (start-of l .read-start .ensures) (types-of l .read-types .ensures) (bridges-of l .read-bridges .ensures) (instances-are n)
+          stages-tell _ (start-of l .read-start .ensures) (types-of l .read-shaped .ensures .read) (bridges-of l .read-bridges .ensures) (instances-are n)
           (v .read-vectors .ensures) (z .ending .result) (z .ending .ensures) _ _ _ _ _
           (v₁ .or-if .ensures) (v₂ .or-if2 .ensures) (v₃ .or-if3 .ensures) (v₄ .or-if4 .ensures) (v₅ .or-if5 .ensures);
       circuit =
-          stages-gather _ (start-of l .read-start .ensures) (types-of l .read-types .ensures) (bridges-of l .read-bridges .ensures) (instances-are n)
+          stages-gather _ (start-of l .read-start .ensures) (types-of l .read-shaped .ensures .read) (bridges-of l .read-bridges .ensures) (instances-are n)
           (v .read-vectors .ensures) (z .ending .result) (z .ending .ensures) (v₅ .or-if5 .result);
     }
 
@@ -110,7 +111,7 @@ read-stages-spec =
     tie.close
     (tie.spec
     read-start-requires
-    read-types-requires
+    read-shaped-requires
     read-bridges-requires
     lists-of-requires
     read-instances-requires

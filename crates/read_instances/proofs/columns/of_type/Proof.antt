@@ -1,4 +1,4 @@
--- `read_instances::shapes::of_type` meets its contract: a number with a place reads it, and any other has none. Assumes nothing.
+-- `read_instances::columns::of_type` meets its contract: a number with a place reads it, and any other has none. Assumes nothing.
 use Prim.Native.Nat.{ℕ, zero, suc, _-_, _≤_, _<_}
 use mathlib.Core.Path.{_≡_, refl, sym}
 use mathlib.Core.Logic.{⊎-elim}
@@ -7,8 +7,8 @@ use native.Mathlib.Omega.{arith}
 use borrow.Author.Tests.{ltb-true, ltb-false}
 use lib.ListN.{length, getD, List·getD-eq-default}
 use Rattle.circuit.specs.Circuit.{numbered}
-use Rattle.read_instances.proofs.shapes.of_type.Statement.{statement}
-use Rattle.read_instances.proofs.shapes.of_type.Tie as tie
+use Rattle.read_instances.proofs.columns.of_type.Statement.{statement}
+use Rattle.read_instances.proofs.columns.of_type.Tie as tie
 
 outside : (l : List ℕ) (n : ℕ) → length l ≡ 16 → (1 ≤ n → 16 < n) → 0 ≡ numbered l n 0
 unfolding numbered

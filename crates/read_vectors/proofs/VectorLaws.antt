@@ -26,8 +26,7 @@ use Rattle.circuit.specs.Refusals.{verdictOf}
 use Rattle.circuit.specs.Verdicts.{isRefused}
 use Rattle.circuit.specs.Stages.{vectorStage, stageOf}
 use Rattle.read_fields.specs.Steps.{bodyOf, FieldAt, NextIs, endsBy, verdictBy, keptBy}
-use Rattle.read_vectors.specs.ReadVectors.{vectorVerdict, vectorKept, VectorNext, VectorsEnded, VectorsRead}
-use Rattle.read_vectors.specs.declared.Vectors.{Vectors}
+use Rattle.read_vectors.specs.ReadVectors.{vectorVerdict, vectorKept, VectorNext, VectorsRead}
 use Rattle.circuit.specs.declared.Vector.{Vector as VectorRecord}
 use Rattle.read_fields.specs.declared.Field.{Field as FieldRecord}
 use Rattle.read_fields.specs.declared.Next.{Next}
@@ -216,16 +215,17 @@ module _ {file : List ℕ} {from P : ℕ} {all : List VectorRecord} {count at : 
 
   -- a turn, which found n and has m behind it
   module _ {n : Next} {m : ℕ} (turn : Turned file at vector-tag n m) where
-    pub vectors-end : endsBy (vectorVerdict file P count) n ≡ true → (r : Vectors) → VectorsEnded file n P at count all r → VectorsRead file from P r
+    pub vectors-end : endsBy (vectorVerdict file P count) n ≡ true → (r : Refusal) → verdictOf r ≡ verdictBy (vectorVerdict file P count) n
+        → VectorsRead file from P (record { refusal = r; at = at; count = count; all = all })
     unfolding endsBy verdictBy vectorVerdict NextIs
-    vectors-end ends r is = subst (VectorsRead file from P) (sym (is .rest)) (go n refl)
+    vectors-end ends r is = go n refl
       where
-        go : (x : Next) → n ≡ x → VectorsRead file from P (record { refusal = r .refusal; at = at; count = count; all = all })
-        go Other e = vectors-read (r .refusal) (stops (sofar .so) (rw e at (turn .own)) ∙ ap (λ (v : Verdict). stageOf v (sofar .vectors) (cutFrom file at)) (sym (rw e at (is .why))))
+        go : (x : Next) → n ≡ x → VectorsRead file from P (record { refusal = r; at = at; count = count; all = all })
+        go Other e = vectors-read r (stops (sofar .so) (rw e at (turn .own)) ∙ ap (λ (v : Verdict). stageOf v (sofar .vectors) (cutFrom file at)) (sym (rw e at is)))
         go (Found f) e =
             let here : NextIs file at vector-tag (Found f) = rw e at (turn .own) in
-            let why : verdictOf (r .refusal) ≡ firstOf (vectorTests P count (f .at) (bodyOf file f)) = rw e at (is .why) in
-            vectors-refused f (here .0) (here .1) (r .refusal) why (ap isRefused why ∙ (rw e at ends))
+            let why : verdictOf r ≡ firstOf (vectorTests P count (f .at) (bodyOf file f)) = rw e at is in
+            vectors-refused f (here .0) (here .1) r why (ap isRefused why ∙ (rw e at ends))
 
     -- of a vector that does not end the stage
     module _ (goes : endsBy (vectorVerdict file P count) n ≡ false) where

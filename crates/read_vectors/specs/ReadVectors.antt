@@ -12,7 +12,7 @@ use Rattle.circuit.specs.Records.{padded, unusedVector, vectorRecord}
 use Rattle.circuit.specs.Refusals.{verdictOf}
 use Rattle.circuit.specs.Stages.{stageOf, vectorStage}
 use Rattle.circuit.specs.declared.Vector.{Vector as VectorRecord}
-use Rattle.read_fields.specs.Steps.{bodyOf, verdictBy}
+use Rattle.read_fields.specs.Steps.{bodyOf}
 use Rattle.read_fields.specs.declared.Field.{Field as FieldRecord}
 use Rattle.read_fields.specs.declared.Next.{Next}
 use Rattle.read_fields.specs.declared.Next.the-variants.{Found, Other}
@@ -30,11 +30,6 @@ vectorKept file f = vectorRecord (vectorIn (bodyOf file f))
 unfoldable pub VectorNext : List ℕ → Next → Type 0
 VectorNext file (Found f) = (f .body + f .len ≤ length file) × (f .len ≤ 64)
 VectorNext file Other = Unit {0}
-
--- what is given where the stage ends
-pub record VectorsEnded (file : List ℕ) (found : Next) (P at count : ℕ) (all : List VectorRecord) (r : Vectors) : Type 0 where
-  pub why : verdictOf (r .refusal) ≡ verdictBy (vectorVerdict file P count) found
-  pub rest : r ≡ record { refusal = r .refusal; at = at; count = count; all = all }
 
 -- the vectors from an offset on
 pub record VectorsRead (file : List ℕ) (from P : ℕ) (r : Vectors) : Type 0 where

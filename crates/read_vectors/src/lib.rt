@@ -19,8 +19,8 @@ ghost use Rattle.circuit.specs.Known.{vectorIn};
 ghost use Rattle.circuit.specs.Table.{firstOf, isLetter, vectorTests};
 ghost use Rattle.circuit.specs.Records.{unusedVector, vectorRecord};
 ghost use Rattle.circuit.specs.Refusals.{verdictOf};
-ghost use Rattle.read_fields.specs.Steps.{bodyOf, NextIn, endsBy, keptBy};
-ghost use Rattle.read_vectors.specs.ReadVectors.{vectorVerdict, vectorKept, VectorNext, VectorsEnded, VectorsRead};
+ghost use Rattle.read_fields.specs.Steps.{bodyOf, NextIn, endsBy, verdictBy, keptBy};
+ghost use Rattle.read_vectors.specs.ReadVectors.{vectorVerdict, vectorKept, VectorNext, VectorsRead};
 
 pub struct Vectors {
     pub refusal: Refusal,
@@ -125,22 +125,21 @@ fn vector_of(file: &[u8], found: Next) -> Vector
     }
 }
 
-// What was read, with why the stage ended there.
-fn ended(
-    file: &[u8],
-    found: Next,
-    inputs: usize,
-    at: usize,
-    count: usize,
-    all: [Vector; MOST_VECTORS],
-) -> Vectors
+// Why the stage ends here: the verdict on the vector that stands next, if one does.
+fn why_ended(file: &[u8], found: Next, inputs: usize, count: usize) -> Refusal
     requires { ⌜ NextIn (now file) found ⌝ }
-    ensures { λ r. ⌜ VectorsEnded (now (file .entry)) found inputs at count all r ⌝ }
+    ensures { λ r. ⌜ verdictOf r ≡ verdictBy (vectorVerdict (now (file .entry)) inputs count) found ⌝ }
 {
-    let refusal = match found {
+    match found {
         Next::Found(f) => vector_verdict(file, f, inputs, count),
         Next::Other => Refusal::Nothing,
-    };
+    }
+}
+
+// What was read, with why the stage ended there. The array is copied once: it would be again in a function that looks at what was found.
+fn ended(refusal: Refusal, at: usize, count: usize, all: [Vector; MOST_VECTORS]) -> Vectors
+    ensures { λ r. ⌜ r ≡ record { refusal = refusal; at = at; count = count; all = all } ⌝ }
+{
     Vectors {
         refusal,
         at,
@@ -167,7 +166,7 @@ pub fn read_vectors(file: &[u8], from: usize, inputs: usize) -> Vectors
         let at = reader.at;
         let found = own_field(next(&mut reader), Kind::Vector);
         if ends(file, found, inputs, count) {
-            return ended(file, found, inputs, at, count, all);
+            return ended(why_ended(file, found, inputs, count), at, count, all);
         }
         all[count] = vector_of(file, found);
         count += 1;

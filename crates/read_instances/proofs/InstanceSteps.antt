@@ -18,10 +18,9 @@ use Rattle.circuit.specs.Verdicts.{isRefused}
 use Rattle.circuit.specs.Stages.{readTo, instanceStage, stageOf}
 use Rattle.read_fields.specs.Steps.{bodyOf, FieldAt, NextIs, endsBy, verdictBy, keptBy}
 use Rattle.read_instances.specs.ReadInstances.{ShapesAndLists, HeldAt, InstancesRead}
-use Rattle.read_instances.specs.Turns.{askedOf, noneAsked, instanceVerdict, TurnGiven, instanceKept, InstanceNext, InstancesEnded}
+use Rattle.read_instances.specs.Turns.{askedOf, noneAsked, instanceVerdict, TurnGiven, instanceKept, InstanceNext}
 use Rattle.read_instances.specs.declared.Asked.{Asked}
 use Rattle.read_instances.specs.declared.Held.{Held}
-use Rattle.read_instances.specs.declared.Instances.{Instances}
 use Rattle.read_instances.specs.declared.choices.Chosen.{Chosen}
 use Rattle.circuit.specs.declared.Instance.{Instance as InstanceRecord}
 use Rattle.read_bridges.specs.declared.lists.Lists.{Lists}
@@ -145,19 +144,19 @@ module _ {file : List ℕ} {from P typeCount : ℕ} {held : Held} {all : List In
       go (Found f) e = small f e (some .types) (some .bridges) (some .told)
       go Other e = none-small e
 
-  pub instances-end : endsBy verdict n ≡ true → (r : Instances) → InstancesEnded file n P typeCount asked at count faults all r
+  pub instances-end : endsBy verdict n ≡ true → (r : Refusal) → verdictOf r ≡ verdictBy verdict n
       → (ts : List ModuleType) (bs : List Listed) → ShapesAndLists ts bs typeCount (held .nodes) (held .labels) (held .lists)
-      → InstancesRead file from P ts bs r
+      → InstancesRead file from P ts bs (record { refusal = r; at = at; count = count; faults = faults; all = all })
   unfolding endsBy verdictBy NextIs
-  instances-end ends r is-r ts bs told = subst (InstancesRead file from P ts bs) (sym (is-r .rest)) (go n refl)
+  instances-end ends r is-r ts bs told = go n refl
     where
-      go : (x : Next) → n ≡ x → InstancesRead file from P ts bs (record { refusal = r .refusal; at = at; count = count; faults = faults; all = all })
+      go : (x : Next) → n ≡ x → InstancesRead file from P ts bs (record { refusal = r; at = at; count = count; faults = faults; all = all })
       go Other e =
-          instances-read (inv .read ts bs told) (r .refusal)
-          (stops (inv .read ts bs told .so) (rw e at (turn .own)) ∙ ap (λ (v : Verdict). stageOf v (inv .read ts bs told .instances) (cutFrom file at)) (sym (rw e at (is-r .why))))
+          instances-read (inv .read ts bs told) r
+          (stops (inv .read ts bs told .so) (rw e at (turn .own)) ∙ ap (λ (v : Verdict). stageOf v (inv .read ts bs told .instances) (cutFrom file at)) (sym (rw e at is-r)))
       go (Found f) e =
-          let why : verdictOf (r .refusal) ≡ verdict f = rw e at (is-r .why) in
-          instances-refused (inv .read ts bs told) f (stands f e .0) (stands f e .1) (r .refusal) (why ∙ judged f e ts bs told) (ap isRefused why ∙ (rw e at ends))
+          let why : verdictOf r ≡ verdict f = rw e at is-r in
+          instances-refused (inv .read ts bs told) f (stands f e .0) (stands f e .1) r (why ∙ judged f e ts bs told) (ap isRefused why ∙ (rw e at ends))
 
   -- of an instance that does not end the stage
   module _ (inputs : P ≤ 64) (goes : endsBy verdict n ≡ false) where

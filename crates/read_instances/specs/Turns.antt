@@ -1,7 +1,5 @@
--- A turn of the stage that reads instances: what a field asks of its type and its list, the verdict on it, and what is given where the
--- stage ends.
+-- A turn of the stage that reads instances: what a field asks of its type and its list, the verdict on it, and what is kept of it.
 use Prim.Native.Nat.{ℕ, _+_, _≤_}
-use mathlib.Core.Path.{_≡_}
 use mathlib.Core.Bool.{false}
 use mathlib.Core.List.{List}
 use lib.ListN.{length, getD}
@@ -9,9 +7,8 @@ use Rattle.circuit.specs.Circuit.{numbered}
 use Rattle.circuit.specs.Known.{instanceIn}
 use Rattle.circuit.specs.Table.{Verdict, firstOf}
 use Rattle.circuit.specs.Records.{instanceRecord}
-use Rattle.circuit.specs.Refusals.{verdictOf}
 use Rattle.circuit.specs.declared.Instance.{Instance as InstanceRecord}
-use Rattle.read_fields.specs.Steps.{bodyOf, NextIn, verdictBy}
+use Rattle.read_fields.specs.Steps.{bodyOf, NextIn}
 use Rattle.read_fields.specs.declared.Field.{Field as FieldRecord}
 use Rattle.read_fields.specs.declared.Next.{Next}
 use Rattle.read_fields.specs.declared.Next.the-variants.{Found, Other}
@@ -19,7 +16,6 @@ use Rattle.read_instances.specs.Choices.{givenBy}
 use Rattle.read_instances.specs.ReadInstances.{gatheredTests, InstanceFits}
 use Rattle.read_instances.specs.declared.Asked.{Asked}
 use Rattle.read_instances.specs.declared.Held.{Held}
-use Rattle.read_instances.specs.declared.Instances.{Instances}
 
 -- what a field asks, from the columns and sums
 unfoldable pub askedOf : List ℕ → Held → FieldRecord → Asked
@@ -56,9 +52,3 @@ instanceKept file f = instanceRecord (instanceIn (bodyOf file f))
 unfoldable pub InstanceNext : List ℕ → Next → Type 0
 InstanceNext file (Found f) = (f .body + f .len ≤ length file) × InstanceFits (bodyOf file f)
 InstanceNext file Other = Unit {0}
-
--- what is given where the stage ends
-pub record InstancesEnded (file : List ℕ) (found : Next) (P typeCount : ℕ) (asked : Asked) (at count faults : ℕ) (all : List InstanceRecord)
-    (r : Instances) : Type 0 where
-  pub why : verdictOf (r .refusal) ≡ verdictBy (instanceVerdict file P typeCount asked count faults) found
-  pub rest : r ≡ record { refusal = r .refusal; at = at; count = count; faults = faults; all = all }

@@ -40,9 +40,9 @@ ghost use Rattle.circuit.specs.Known.{instanceIn};
 ghost use Rattle.circuit.specs.Table.{firstOf};
 ghost use Rattle.circuit.specs.Records.{unusedInstance, instanceRecord};
 ghost use Rattle.circuit.specs.Refusals.{verdictOf};
-ghost use Rattle.read_fields.specs.Steps.{bodyOf, NextIn, endsBy, keptBy};
+ghost use Rattle.read_fields.specs.Steps.{bodyOf, NextIn, endsBy, verdictBy, keptBy};
 ghost use Rattle.read_instances.specs.ReadInstances.{gatheredTests, InstanceFits, ShapesAndLists, HeldAt, InstancesRead};
-ghost use Rattle.read_instances.specs.Turns.{askedOf, noneAsked, instanceVerdict, FieldGiven, TurnGiven, instanceKept, InstanceNext, InstancesEnded};
+ghost use Rattle.read_instances.specs.Turns.{askedOf, noneAsked, instanceVerdict, FieldGiven, TurnGiven, instanceKept, InstanceNext};
 
 pub struct Instances {
     pub refusal: Refusal,
@@ -251,25 +251,35 @@ fn faults_with(asked: Asked, faults: usize) -> usize
     faults + given.faults
 }
 
-// What was read, with why the stage ended there.
-fn ended(
+// Why the stage ends here: the verdict on the instance that stands next, if one does.
+fn why_ended(
     file: &[u8],
     found: Next,
     inputs: usize,
     type_count: usize,
     asked: Asked,
+    count: usize,
+    faults: usize,
+) -> Refusal
+    requires { ⌜ TurnGiven (now file) found asked faults ⌝ }
+    ensures { λ r. ⌜ verdictOf r ≡ verdictBy (instanceVerdict (now (file .entry)) inputs «type_count» asked count faults) found ⌝ }
+{
+    match found {
+        Next::Found(f) => verdict_on(file, f, inputs, type_count, asked, count, faults),
+        Next::Other => Refusal::Nothing,
+    }
+}
+
+// What was read, with why the stage ended there. The array is copied once: it would be again in a function that looks at what was found.
+fn ended(
+    refusal: Refusal,
     at: usize,
     count: usize,
     faults: usize,
     all: [Instance; MOST_INSTANCES],
 ) -> Instances
-    requires { ⌜ TurnGiven (now file) found asked faults ⌝ }
-    ensures { λ r. ⌜ InstancesEnded (now (file .entry)) found inputs «type_count» asked at count faults all r ⌝ }
+    ensures { λ r. ⌜ r ≡ record { refusal = refusal; at = at; count = count; faults = faults; all = all } ⌝ }
 {
-    let refusal = match found {
-        Next::Found(f) => verdict_on(file, f, inputs, type_count, asked, count, faults),
-        Next::Other => Refusal::Nothing,
-    };
     Instances {
         refusal,
         at,
@@ -306,11 +316,7 @@ pub fn read_instances(
         let asked = asked_by(file, found, held);
         if ends(file, found, inputs, type_count, asked, count, faults) {
             return ended(
-                file,
-                found,
-                inputs,
-                type_count,
-                asked,
+                why_ended(file, found, inputs, type_count, asked, count, faults),
                 at,
                 count,
                 faults,

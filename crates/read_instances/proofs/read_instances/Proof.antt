@@ -21,7 +21,7 @@ use prog.Wp.{Heap, Out, Env, afterSeq, afterBlock, afterTurn, Calls, Loops, Wp, 
 use ghost.Atoms.{Atoms, sem}
 use contract.Monad.{Fun}
 use contract.Running.{givenOf, tables, tablesOf}
-use types.Kit.{Given, Item, ‵, raw, some, _⊛_, ⋆, runs, anyQ, atRet, Sq, _$_, _∵_, !, qed, by, move, keep, drop, use1, use2, use3, split, join, pick, rewrite, fsplit, fjoin, feqI, suffices, frame, done}
+use types.Kit.{Given, Item, ‵, raw, some, _⊛_, ⋆, runs, anyQ, atRet, Sq, _$_, _∵_, !, qed, by, move, keep, drop, use1, use2, split, join, pick, rewrite, fsplit, fjoin, feqI, suffices, frame, done}
 use types.Part.{whole, sub, look-in}
 use types.Share.{arr-parts}
 use types.Run.{look, store, store-raw, init, forget, stop, hop, fld, from, load, lit, of-opd, bin, addr, and-then, no-more, assigns, assigns-last, land, first, skips, blocks, branches, returns-within, enter, alloc1, alloc0, params1, pass1, pass0, free1, free0, exec, Below, again, loops}
@@ -52,7 +52,7 @@ use Rattle.circuit.specs.Records.{unusedInstance}
 use Rattle.circuit.proofs.Instance as T
 use Rattle.circuit.proofs.Instance.Laws as T′
 use Rattle.read_instances.specs.ReadInstances.{ShapesAndLists, HeldAt, InstancesRead}
-use Rattle.read_instances.specs.Turns.{askedOf, noneAsked, instanceVerdict, TurnGiven, instanceKept, InstanceNext, InstancesEnded}
+use Rattle.read_instances.specs.Turns.{askedOf, noneAsked, instanceVerdict, TurnGiven, instanceKept, InstanceNext}
 use Rattle.read_instances.specs.declared.Instances.{Instances}
 use Rattle.read_instances.specs.declared.Asked.{Asked}
 use Rattle.read_instances.specs.declared.Held.{Held}
@@ -65,9 +65,13 @@ use Rattle.read_instances.proofs.Held.Laws as Hd′
 use Rattle.read_instances.proofs.InstanceSteps.{AtLoop, no-instances, turn-given, instances-end, instance-next, instances-more}
 use Rattle.circuit.specs.Order.{instance-tag}
 use Rattle.circuit.specs.declared.order.Kind.the-variants.{Instance}
+use Rattle.circuit.specs.Refusals.{verdictOf}
+use Rattle.circuit.specs.declared.refusal.Refusal.{Refusal}
+use Rattle.circuit.proofs.refusal.Refusal as Rf
+use Rattle.circuit.proofs.refusal.Refusal.Laws as Rf′
 use Rattle.circuit.proofs.order.Kind as Kd
 use Rattle.circuit.proofs.order.Kind.Laws as Kd′
-use Rattle.read_fields.specs.Steps.{NextIn, endsBy, keptBy}
+use Rattle.read_fields.specs.Steps.{NextIn, endsBy, verdictBy, keptBy}
 use Rattle.read_fields.specs.declared.Next.{Next}
 use Rattle.read_fields.proofs.Step.Laws as S′
 use Rattle.read_fields.proofs.Next as N
@@ -94,6 +98,10 @@ use Rattle.read_instances.proofs.ends as ends
 use Rattle.read_instances.proofs.ends.Symbol as ends-def
 use Rattle.read_instances.proofs.ends.Symbol.{name as #ends}
 use Rattle.read_instances.proofs.ends.Met as ends-thm
+use Rattle.read_instances.proofs.why_ended as why
+use Rattle.read_instances.proofs.why_ended.Symbol as why-def
+use Rattle.read_instances.proofs.why_ended.Symbol.{name as #why}
+use Rattle.read_instances.proofs.why_ended.Met as why-thm
 use Rattle.read_instances.proofs.ended as ended
 use Rattle.read_instances.proofs.ended.Symbol as ended-def
 use Rattle.read_instances.proofs.ended.Symbol.{name as #ended}
@@ -133,15 +141,17 @@ array = tyArray T′.mir 128
 
 abbrev more : Body
 more = seq (call #sum (copy (place 12 []) ∷ copy (place 9 []) ∷ []) (place 9 []))
-    (seq (call #one (copy (place 1 []) ∷ copy (place 11 []) ∷ []) (place 20 []))
-    (seq (assign (place 21 []) (op2 (mul unsigned) (copy (place 8 [])) (int w64 26)))
-    (seq (assign (place 22 []) (addrOf (place 7 [])))
-    (seq (assign (place 23 []) (op2 offset (copy (place 22 [])) (copy (place 21 []))))
-    (seq (assign (place 23 (deref T′.mir ∷ [])) (rvOpd (copy (place 20 []))))
+    (seq (call #one (copy (place 1 []) ∷ copy (place 11 []) ∷ []) (place 21 []))
+    (seq (assign (place 22 []) (op2 (mul unsigned) (copy (place 8 [])) (int w64 26)))
+    (seq (assign (place 23 []) (addrOf (place 7 [])))
+    (seq (assign (place 24 []) (op2 offset (copy (place 23 [])) (copy (place 22 []))))
+    (seq (assign (place 24 (deref T′.mir ∷ [])) (rvOpd (copy (place 21 []))))
     (assign (place 8 []) (op2 (add unsigned) (copy (place 8 [])) (int w64 1))))))))
 
 abbrev left : Body
-left = seq (assign (place 19 []) (rvOpd (copy (place 7 [])))) (seq (call #ended (copy (place 1 []) ∷ copy (place 11 []) ∷ copy (place 3 []) ∷ copy (place 4 []) ∷ copy (place 12 []) ∷ copy (place 10 []) ∷ copy (place 8 []) ∷ copy (place 9 []) ∷ copy (place 19 []) ∷ []) (place 0 [])) return)
+left = seq (call #why (copy (place 1 []) ∷ copy (place 11 []) ∷ copy (place 3 []) ∷ copy (place 4 []) ∷ copy (place 12 []) ∷ copy (place 8 []) ∷ copy (place 9 []) ∷ []) (place 19 []))
+    (seq (assign (place 20 []) (rvOpd (copy (place 7 []))))
+    (seq (call #ended (copy (place 19 []) ∷ copy (place 10 []) ∷ copy (place 8 []) ∷ copy (place 9 []) ∷ copy (place 20 []) ∷ []) (place 0 [])) return))
 
 abbrev turn : Body
 turn = seq (assign (place 10 []) (rvOpd (copy (place 6 (field 1 ∷ [])))))
@@ -163,6 +173,9 @@ module _ {M : Type 1} (𝓤 : URA M) (H : Heap 𝓤) (A : Atoms 𝓤) (mem : Mem
 
   abbrev Ends : Contract 𝓤
   Ends = tripleOf 𝓤 H A ends.signature (ends.spec 𝓤 H A mem run)
+
+  abbrev Why : Contract 𝓤
+  Why = tripleOf 𝓤 H A why.signature (why.spec 𝓤 H A mem run)
 
   abbrev Ended : Contract 𝓤
   Ended = tripleOf 𝓤 H A ended.signature (ended.spec 𝓤 H A mem run)
@@ -214,6 +227,15 @@ module _ {M : Type 1} (𝓤 : URA M) (H : Heap 𝓤) (A : Atoms 𝓤) (W : Given
       qed W (Token ∷ ‵ Own ∷ []) ∵ move ! (1 ∷ []) $ use1 W (‵ Own ⊛ ‵ Own) (Lo.twice 𝓤 H A W mem run κ q s) $ split ! $ nothing ! $ owned ! usize (Is usize) (uint-makes 𝓤 H A W w64) g _ (refl, few) $ fjoin ! $ owned ! usize (Is usize) (uint-makes 𝓤 H A W w64) k _ (refl, fits) $ fjoin ! $ owned ! As.the-row (Is As.the-row) (LL.makes As.the-type As′.the-plain 𝓤 H A) a _ is-a $ fjoin ! $ owned ! usize (Is usize) (uint-makes 𝓤 H A W w64) tc _ (refl, okT) $ fjoin ! $ owned ! usize (Is usize) (uint-makes 𝓤 H A W w64) P _ (refl, okP) $ fjoin ! $ owned ! N.the-row (Is N.the-row) (EL.makes N.the-type N′.the-plain 𝓤 H A) t _ is $ fjoin ! $ move ! (1 ∷ 0 ∷ []) $ fjoin ! $
       move ! (2 ∷ 0 ∷ []) $ use2 W (raw (Ends 𝓤 H A mem run .pre (to-ends t u a w k g))) (qed W (Token ∷ ‵ (owns (ShrSlice (named 0) κ u8 ∷ N.the-row ∷ usize ∷ usize ∷ As.the-row ∷ usize ∷ usize ∷ []) (s, (t, (P, (tc, (a, (k, (g, tt))))))) (file ∷ [], (u ∷ [], (vint w64 P ∷ [], (vint w64 tc ∷ [], (w ∷ [], (vint w64 k ∷ [], (vint w64 g ∷ [], tt)))))))) ∷ []) ∵ says ! given $ done !) $ frame ! $ done !
 
+  -- the call of `why_ended`
+  abbrev to-why : Next → Val → Asked → Val → ℕ → ℕ → Why 𝓤 H A mem run .Ghost
+  to-why t u a w k g = (((κ, tt), (q, tt), tt, (s, (t, (P, (tc, (a, (k, (g, tt))))))), (file ∷ [], (u ∷ [], (vint w64 P ∷ [], (vint w64 tc ∷ [], (w ∷ [], (vint w64 k ∷ [], (vint w64 g ∷ [], tt)))))))), tt)
+
+  goes-why : (t : Next) (u : Val) (a : Asked) (w : Val) (k : ℕ) (g : ℕ) → Is N.the-row t (u ∷ []) → Is As.the-row a (w ∷ []) → k < 2 ^ 64 → g < 2 ^ 64 → TurnGiven (now s) t a g → ent 𝓤 (⋆ 𝓤 H A (Token ∷ ‵ Own ∷ [])) (sep 𝓤 (Why 𝓤 H A mem run .pre (to-why t u a w k g)) (sem 𝓤 H A Own))
+  goes-why t u a w k g is is-a fits few given =
+      qed W (Token ∷ ‵ Own ∷ []) ∵ move ! (1 ∷ []) $ use1 W (‵ Own ⊛ ‵ Own) (Lo.twice 𝓤 H A W mem run κ q s) $ split ! $ nothing ! $ owned ! usize (Is usize) (uint-makes 𝓤 H A W w64) g _ (refl, few) $ fjoin ! $ owned ! usize (Is usize) (uint-makes 𝓤 H A W w64) k _ (refl, fits) $ fjoin ! $ owned ! As.the-row (Is As.the-row) (LL.makes As.the-type As′.the-plain 𝓤 H A) a _ is-a $ fjoin ! $ owned ! usize (Is usize) (uint-makes 𝓤 H A W w64) tc _ (refl, okT) $ fjoin ! $ owned ! usize (Is usize) (uint-makes 𝓤 H A W w64) P _ (refl, okP) $ fjoin ! $ owned ! N.the-row (Is N.the-row) (EL.makes N.the-type N′.the-plain 𝓤 H A) t _ is $ fjoin ! $ move ! (1 ∷ 0 ∷ []) $ fjoin ! $
+      move ! (2 ∷ 0 ∷ []) $ use2 W (raw (Why 𝓤 H A mem run .pre (to-why t u a w k g))) (qed W (Token ∷ ‵ (owns (ShrSlice (named 0) κ u8 ∷ N.the-row ∷ usize ∷ usize ∷ As.the-row ∷ usize ∷ usize ∷ []) (s, (t, (P, (tc, (a, (k, (g, tt))))))) (file ∷ [], (u ∷ [], (vint w64 P ∷ [], (vint w64 tc ∷ [], (w ∷ [], (vint w64 k ∷ [], (vint w64 g ∷ [], tt)))))))) ∷ []) ∵ says ! given $ done !) $ frame ! $ done !
+
   -- the call of `instance_of`
   abbrev to-one : Next → Val → One 𝓤 H A mem run .Ghost
   to-one t u = (((κ, tt), (q, tt), tt, (s, (t, tt)), (file ∷ [], (u ∷ [], tt))), tt)
@@ -224,13 +246,12 @@ module _ {M : Type 1} (𝓤 : URA M) (H : Heap 𝓤) (A : Atoms 𝓤) (W : Given
       move ! (2 ∷ 0 ∷ []) $ use2 W (raw (One 𝓤 H A mem run .pre (to-one t u))) (qed W (Token ∷ ‵ (owns (ShrSlice (named 0) κ u8 ∷ N.the-row ∷ []) (s, (t, tt)) (file ∷ [], (u ∷ [], tt))) ∷ []) ∵ says ! inside $ done !) $ frame ! $ done !
 
   -- the call of `ended`
-  abbrev to-ended : Next → Val → Asked → Val → ℕ → ℕ → ℕ → List InstanceRecord → Val → Ended 𝓤 H A mem run .Ghost
-  to-ended t u a w m k g all va = (((κ, tt), (q, tt), tt, (s, (t, (P, (tc, (a, (m, (k, (g, (all, tt))))))))), (file ∷ [], (u ∷ [], (vint w64 P ∷ [], (vint w64 tc ∷ [], (w ∷ [], (vint w64 m ∷ [], (vint w64 k ∷ [], (vint w64 g ∷ [], (va ∷ [], tt)))))))))), tt)
+  abbrev to-ended : Refusal → Val → ℕ → ℕ → ℕ → List InstanceRecord → Val → Ended 𝓤 H A mem run .Ghost
+  to-ended b u m k g all va = ((tt, tt, tt, (b, (m, (k, (g, (all, tt))))), (u ∷ [], (vint w64 m ∷ [], (vint w64 k ∷ [], (vint w64 g ∷ [], (va ∷ [], tt)))))), tt)
 
-  goes-ended : (t : Next) (u : Val) (a : Asked) (w : Val) (m : ℕ) (k : ℕ) (g : ℕ) (all : List InstanceRecord) (va : Val) → Is N.the-row t (u ∷ []) → Is As.the-row a (w ∷ []) → m < 2 ^ 64 → k < 2 ^ 64 → g < 2 ^ 64 → TurnGiven (now s) t a g → ent 𝓤 (⋆ 𝓤 H A (Token ∷ ‵ Own ∷ ‵ (All .own all (va ∷ [])) ∷ [])) (sep 𝓤 (Ended 𝓤 H A mem run .pre (to-ended t u a w m k g all va)) (sem 𝓤 H A Own))
-  goes-ended t u a w m k g all va is is-a there fits few given =
-      qed W (Token ∷ ‵ Own ∷ ‵ (All .own all (va ∷ [])) ∷ []) ∵ move ! (1 ∷ []) $ use1 W (‵ Own ⊛ ‵ Own) (Lo.twice 𝓤 H A W mem run κ q s) $ split ! $ nothing ! $ move ! (4 ∷ 0 ∷ []) $ fjoin ! $ owned ! usize (Is usize) (uint-makes 𝓤 H A W w64) g _ (refl, few) $ fjoin ! $ owned ! usize (Is usize) (uint-makes 𝓤 H A W w64) k _ (refl, fits) $ fjoin ! $ owned ! usize (Is usize) (uint-makes 𝓤 H A W w64) m _ (refl, there) $ fjoin ! $ owned ! As.the-row (Is As.the-row) (LL.makes As.the-type As′.the-plain 𝓤 H A) a _ is-a $ fjoin ! $ owned ! usize (Is usize) (uint-makes 𝓤 H A W w64) tc _ (refl, okT) $ fjoin ! $ owned ! usize (Is usize) (uint-makes 𝓤 H A W w64) P _ (refl, okP) $ fjoin ! $ owned ! N.the-row (Is N.the-row) (EL.makes N.the-type N′.the-plain 𝓤 H A) t _ is $ fjoin ! $ move ! (1 ∷ 0 ∷ []) $ fjoin ! $
-      move ! (2 ∷ 0 ∷ []) $ use2 W (raw (Ended 𝓤 H A mem run .pre (to-ended t u a w m k g all va))) (qed W (Token ∷ ‵ (owns (ShrSlice (named 0) κ u8 ∷ N.the-row ∷ usize ∷ usize ∷ As.the-row ∷ usize ∷ usize ∷ usize ∷ All ∷ []) (s, (t, (P, (tc, (a, (m, (k, (g, (all, tt))))))))) (file ∷ [], (u ∷ [], (vint w64 P ∷ [], (vint w64 tc ∷ [], (w ∷ [], (vint w64 m ∷ [], (vint w64 k ∷ [], (vint w64 g ∷ [], (va ∷ [], tt)))))))))) ∷ []) ∵ says ! given $ done !) $ frame ! $ done !
+  goes-ended : (b : Refusal) (u : Val) (m : ℕ) (k : ℕ) (g : ℕ) (all : List InstanceRecord) (va : Val) → Is Rf.the-row b (u ∷ []) → m < 2 ^ 64 → k < 2 ^ 64 → g < 2 ^ 64 → ent 𝓤 (sem 𝓤 H A (All .own all (va ∷ []))) (Ended 𝓤 H A mem run .pre (to-ended b u m k g all va))
+  goes-ended b u m k g all va is there fits few =
+      qed W (‵ (All .own all (va ∷ [])) ∷ []) ∵ nothing ! $ move ! (1 ∷ 0 ∷ []) $ fjoin ! $ owned ! usize (Is usize) (uint-makes 𝓤 H A W w64) g _ (refl, few) $ fjoin ! $ owned ! usize (Is usize) (uint-makes 𝓤 H A W w64) k _ (refl, fits) $ fjoin ! $ owned ! usize (Is usize) (uint-makes 𝓤 H A W w64) m _ (refl, there) $ fjoin ! $ owned ! Rf.the-row (Is Rf.the-row) (EL.makes Rf.the-type Rf′.the-plain 𝓤 H A) b _ is $ fjoin ! $ nothing ! $ join ! $ frame ! $ done !
 
   -- the call of `faults_with`
   abbrev to-sum : Asked → Val → ℕ → Sum 𝓤 H A mem run .Ghost
@@ -276,8 +297,8 @@ module _ {M : Type 1} (𝓤 : URA M) (H : Heap 𝓤) (A : Atoms 𝓤) (W : Given
   few-of i = omega (arith, i .5 .few)
 
   module _ (𝓣 : Tables 𝓤 H) (fm : FmC 𝓤 H (W .laws) (𝓣 .C)) (known-made : Triple 𝓤 (𝓣 .C #reader-at) (ReaderAt 𝓤 H A mem run)) (known-next : Triple 𝓤 (𝓣 .C #next) (Stepping 𝓤 H A mem run)) (known-own : Triple 𝓤 (𝓣 .C #own-field) (OwnField 𝓤 H A mem run))
-      (known-asks : Triple 𝓤 (𝓣 .C #asks) (Asks 𝓤 H A mem run)) (known-sum : Triple 𝓤 (𝓣 .C #sum) (Sum 𝓤 H A mem run)) (known-ends : Triple 𝓤 (𝓣 .C #ends) (Ends 𝓤 H A mem run)) (known-ended : Triple 𝓤 (𝓣 .C #ended) (Ended 𝓤 H A mem run)) (known-one : Triple 𝓤 (𝓣 .C #one) (One 𝓤 H A mem run)) (known-blank : Triple 𝓤 (𝓣 .C #blank) (Blank 𝓤 H A mem run))
-      (l₀ l₁ l₂ l₃ l₄ l₅ l₆ l₇ l₈ l₉ m₀ m₁ m₂ m₃ m₄ m₅ m₆ m₇ m₈ m₉ n₀ n₁ n₂ n₃ : ℕ) where
+      (known-asks : Triple 𝓤 (𝓣 .C #asks) (Asks 𝓤 H A mem run)) (known-sum : Triple 𝓤 (𝓣 .C #sum) (Sum 𝓤 H A mem run)) (known-ends : Triple 𝓤 (𝓣 .C #ends) (Ends 𝓤 H A mem run)) (known-why : Triple 𝓤 (𝓣 .C #why) (Why 𝓤 H A mem run)) (known-ended : Triple 𝓤 (𝓣 .C #ended) (Ended 𝓤 H A mem run)) (known-one : Triple 𝓤 (𝓣 .C #one) (One 𝓤 H A mem run)) (known-blank : Triple 𝓤 (𝓣 .C #blank) (Blank 𝓤 H A mem run))
+      (l₀ l₁ l₂ l₃ l₄ l₅ l₆ l₇ l₈ l₉ m₀ m₁ m₂ m₃ m₄ m₅ m₆ m₇ m₈ m₉ n₀ n₁ n₂ n₃ n₄ : ℕ) where
     abbrev C : Calls 𝓤 H
     C = 𝓣 .C
 
@@ -285,11 +306,11 @@ module _ {M : Type 1} (𝓤 : URA M) (H : Heap 𝓤) (A : Atoms 𝓤) (W : Given
     Λ = 𝓣 .Λ
 
     abbrev En : Env 𝓤 H
-    En = (R′.mir, l₀) ∷ (slice, l₁) ∷ (word, l₂) ∷ (word, l₃) ∷ (word, l₄) ∷ (Hd′.mir, l₅) ∷ (readerTy, l₆) ∷ (array, l₇) ∷ (word, l₈) ∷ (word, l₉) ∷ (word, m₀) ∷ (N′.mir, m₁) ∷ (As′.mir, m₂) ∷ (readerTy, m₃) ∷ (array, m₄) ∷ (S′.mir, m₅) ∷ (loan, m₆) ∷ (Kd′.mir, m₇) ∷ (tyBool, m₈) ∷ (array, m₉) ∷ (T′.mir, n₀) ∷ (word, n₁) ∷ (tyPtr, n₂) ∷ (tyPtr, n₃) ∷ []
+    En = (R′.mir, l₀) ∷ (slice, l₁) ∷ (word, l₂) ∷ (word, l₃) ∷ (word, l₄) ∷ (Hd′.mir, l₅) ∷ (readerTy, l₆) ∷ (array, l₇) ∷ (word, l₈) ∷ (word, l₉) ∷ (word, m₀) ∷ (N′.mir, m₁) ∷ (As′.mir, m₂) ∷ (readerTy, m₃) ∷ (array, m₄) ∷ (S′.mir, m₅) ∷ (loan, m₆) ∷ (Kd′.mir, m₇) ∷ (tyBool, m₈) ∷ (Rf′.mir, m₉) ∷ (array, n₀) ∷ (T′.mir, n₁) ∷ (word, n₂) ∷ (tyPtr, n₃) ∷ (tyPtr, n₄) ∷ []
 
     -- the locals, the last first, by what those hold that change
     abbrev Locals : (test found stood asked : Fml) (m count faults : ℕ) (all : Fml) → List (Item 𝓤) → List (Item 𝓤)
-    Locals test found stood asked m count faults all Γ = ‵ (froom tyPtr n₃ 0) ∷ ‵ (fdies tyPtr n₃) ∷ ‵ (froom tyPtr n₂ 0) ∷ ‵ (fdies tyPtr n₂) ∷ ‵ (froom word n₁ 0) ∷ ‵ (fdies word n₁) ∷ ‵ (froom T′.mir n₀ 0) ∷ ‵ (fdies T′.mir n₀) ∷ ‵ (froom array m₉ 0) ∷ ‵ (fdies array m₉) ∷ ‵ test ∷ ‵ (fdies tyBool m₈) ∷ ‵ (froom Kd′.mir m₇ 0) ∷ ‵ (fdies Kd′.mir m₇) ∷ ‵ (froom loan m₆ 0) ∷ ‵ (fdies loan m₆) ∷ ‵ (froom S′.mir m₅ 0) ∷ ‵ (fdies S′.mir m₅) ∷ ‵ (froom array m₄ 0) ∷ ‵ (fdies array m₄) ∷ ‵ (froom readerTy m₃ 0) ∷ ‵ (fdies readerTy m₃) ∷ ‵ asked ∷ ‵ (fdies As′.mir m₂) ∷ ‵ found ∷ ‵ (fdies N′.mir m₁) ∷ ‵ stood ∷ ‵ (fdies word m₀) ∷ ‵ (fat fullShare word l₉ 0 (vint w64 faults)) ∷ ‵ (fdies word l₉) ∷ ‵ (fat fullShare word l₈ 0 (vint w64 count)) ∷ ‵ (fdies word l₈) ∷ ‵ all ∷ ‵ (fdies array l₇) ∷ ‵ (Lo.Cell 𝓤 H A W mem run κ q s l₆ m) ∷ ‵ (fdies readerTy l₆) ∷ ‵ (fat fullShare Hd′.mir l₅ 0 (LL.val Hd.the-type Hd′.the-laws h)) ∷ ‵ (fdies Hd′.mir l₅) ∷ ‵ (fat fullShare word l₄ 0 (vint w64 tc)) ∷ ‵ (fdies word l₄) ∷ ‵ (fat fullShare word l₃ 0 (vint w64 P)) ∷ ‵ (fdies word l₃) ∷ ‵ (fat fullShare word l₂ 0 (vint w64 n)) ∷ ‵ (fdies word l₂) ∷ ‵ (fat fullShare slice l₁ 0 file) ∷ ‵ (fdies slice l₁) ∷ ‵ (froom R′.mir l₀ 0) ∷ ‵ (fdies R′.mir l₀) ∷ Γ
+    Locals test found stood asked m count faults all Γ = ‵ (froom tyPtr n₄ 0) ∷ ‵ (fdies tyPtr n₄) ∷ ‵ (froom tyPtr n₃ 0) ∷ ‵ (fdies tyPtr n₃) ∷ ‵ (froom word n₂ 0) ∷ ‵ (fdies word n₂) ∷ ‵ (froom T′.mir n₁ 0) ∷ ‵ (fdies T′.mir n₁) ∷ ‵ (froom array n₀ 0) ∷ ‵ (fdies array n₀) ∷ ‵ (froom Rf′.mir m₉ 0) ∷ ‵ (fdies Rf′.mir m₉) ∷ ‵ test ∷ ‵ (fdies tyBool m₈) ∷ ‵ (froom Kd′.mir m₇ 0) ∷ ‵ (fdies Kd′.mir m₇) ∷ ‵ (froom loan m₆ 0) ∷ ‵ (fdies loan m₆) ∷ ‵ (froom S′.mir m₅ 0) ∷ ‵ (fdies S′.mir m₅) ∷ ‵ (froom array m₄ 0) ∷ ‵ (fdies array m₄) ∷ ‵ (froom readerTy m₃ 0) ∷ ‵ (fdies readerTy m₃) ∷ ‵ asked ∷ ‵ (fdies As′.mir m₂) ∷ ‵ found ∷ ‵ (fdies N′.mir m₁) ∷ ‵ stood ∷ ‵ (fdies word m₀) ∷ ‵ (fat fullShare word l₉ 0 (vint w64 faults)) ∷ ‵ (fdies word l₉) ∷ ‵ (fat fullShare word l₈ 0 (vint w64 count)) ∷ ‵ (fdies word l₈) ∷ ‵ all ∷ ‵ (fdies array l₇) ∷ ‵ (Lo.Cell 𝓤 H A W mem run κ q s l₆ m) ∷ ‵ (fdies readerTy l₆) ∷ ‵ (fat fullShare Hd′.mir l₅ 0 (LL.val Hd.the-type Hd′.the-laws h)) ∷ ‵ (fdies Hd′.mir l₅) ∷ ‵ (fat fullShare word l₄ 0 (vint w64 tc)) ∷ ‵ (fdies word l₄) ∷ ‵ (fat fullShare word l₃ 0 (vint w64 P)) ∷ ‵ (fdies word l₃) ∷ ‵ (fat fullShare word l₂ 0 (vint w64 n)) ∷ ‵ (fdies word l₂) ∷ ‵ (fat fullShare slice l₁ 0 file) ∷ ‵ (fdies slice l₁) ∷ ‵ (froom R′.mir l₀ 0) ∷ ‵ (fdies R′.mir l₀) ∷ Γ
 
     abbrev At : Upto → List (Item 𝓤)
     At i = Locals (froom tyBool m₈ 0) (froom N′.mir m₁ 0) (froom word m₀ 0) (froom As′.mir m₂ 0) (i .2) (i .1) (i .3) (row T.the-row fullShare (i .0) l₇ 0) (‵ Own ∷ Token ∷ ‵ Owns ∷ [])
@@ -306,14 +327,19 @@ module _ {M : Type 1} (𝓤 : URA M) (H : Heap 𝓤) (A : Atoms 𝓤) (W : Given
     leaves : (i : Upto) (t : Next) (u : Val) (m : ℕ) → Turned (now s) (i .2) instance-tag t m → Is N.the-row t (u ∷ []) → (a : Asked) (w : Val) → a ≡ keptBy (askedOf (now s) h) noneAsked t → Is As.the-row a (w ∷ []) → endsBy (instanceVerdict (now s) P tc a (i .1) (i .3)) t ≡ true → Sq W (Told i u w m true) (runs C Λ En left (anyQ (afterSeq 𝓤 H (Wp 𝓤 H C Λ En more (After i)) (After i))))
     unfolding afterTurn
     leaves i t u m turn is a w e-a is-a ends =
-        move ! (34 ∷ []) $ feqI ! ℕ (length (i .0)) 128 (i .4) $ fjoin ! $ use1 W (some (λ (va : Val). ‵ (fat fullShare array l₇ 0 va) ⊛ ‵ (All .own (i .0) (va ∷ [])))) (array-of 𝓤 H A W T.the-row 128 l₇ 0 (i .0)) $ pick ! (λ va. split ! $ move ! (1 ∷ []) $ peeks ! All (Is All) (shows 𝓤 H A All) (i .0) (va ∷ []) (λ arr.
+        use2 W (raw (Why 𝓤 H A mem run .pre (to-why t u a w (i .1) (i .3))) ⊛ ‵ Own) (goes-why t u a w (i .1) (i .3) is is-a (fits-of i) (few-of i) (turn-given (i .5) turn a e-a backed)) $ split ! $
+        called W why.ended (why.clauses 𝓤 H A mem run) (to-why t u a w (i .1) (i .3) .0) tt ! fm known-why (λ b ws. verdictOf b ≡ verdictBy (instanceVerdict (now s) P tc a (i .1) (i .3)) t) (λ b ws. id⊢ 𝓤 _) (and-then ! (load ! (from ! (stop !)) (look ! 48 refl)) (and-then ! (load ! (from ! (stop !)) (look ! 28 refl)) (and-then ! (load ! (from ! (stop !)) (look ! 44 refl)) (and-then ! (load ! (from ! (stop !)) (look ! 42 refl)) (and-then ! (load ! (from ! (stop !)) (look ! 26 refl)) (and-then ! (load ! (from ! (stop !)) (look ! 34 refl)) (and-then ! (load ! (from ! (stop !)) (look ! 32 refl)) (no-more !)))))))) (λ b ws₁ v told₁ is₁.
+        land ! (from ! (stop !)) (init ! 14 refl (EL.lawful Rf.the-type Rf′.the-laws 𝓤 H A W tt .typed b _ is₁ .0)) $
+        move ! (1 ∷ []) $ use1 W Token (id⊢ 𝓤 _) $
+        keep ! (0 ∷ 3 ∷ 4 ∷ 5 ∷ 6 ∷ 7 ∷ 8 ∷ 9 ∷ 10 ∷ 11 ∷ 12 ∷ 13 ∷ 14 ∷ 15 ∷ 16 ∷ 17 ∷ 18 ∷ 19 ∷ 20 ∷ 21 ∷ 22 ∷ 23 ∷ 24 ∷ 25 ∷ 26 ∷ 27 ∷ 28 ∷ 29 ∷ 30 ∷ 31 ∷ 32 ∷ 33 ∷ 34 ∷ 35 ∷ 36 ∷ 37 ∷ 38 ∷ 39 ∷ 40 ∷ 41 ∷ 42 ∷ 43 ∷ 44 ∷ 45 ∷ 46 ∷ 47 ∷ 48 ∷ 49 ∷ 50 ∷ 51 ∷ 52 ∷ 53 ∷ 54 ∷ []) $
+        move ! (36 ∷ []) $ feqI ! ℕ (length (i .0)) 128 (i .4) $ fjoin ! $ use1 W (some (λ (va : Val). ‵ (fat fullShare array l₇ 0 va) ⊛ ‵ (All .own (i .0) (va ∷ [])))) (array-of 𝓤 H A W T.the-row 128 l₇ 0 (i .0)) $ pick ! (λ va. split ! $ move ! (1 ∷ []) $ peeks ! All (Is All) (shows 𝓤 H A All) (i .0) (va ∷ []) (λ arr.
         assigns ! (of-opd ! (load ! (from ! (stop !)) (look ! 1 refl))) (from ! (stop !)) (init ! 12 refl (array-lawful 𝓤 H A W T.the-row (LL.lawful T.the-type T′.the-laws 𝓤 H A W) 128 .typed (i .0) _ arr .0)) $
-        move ! (2 ∷ 3 ∷ 0 ∷ []) $ use3 W (raw (Ended 𝓤 H A mem run .pre (to-ended t u a w (i .2) (i .1) (i .3) (i .0) va)) ⊛ ‵ Own) (goes-ended t u a w (i .2) (i .1) (i .3) (i .0) va is is-a (there-of i) (fits-of i) (few-of i) (turn-given (i .5) turn a e-a backed)) $ split ! $
-        called W ended.ended (ended.clauses 𝓤 H A mem run) (to-ended t u a w (i .2) (i .1) (i .3) (i .0) va .0) tt ! fm known-ended (λ r ws. InstancesEnded (now s) t P tc a (i .2) (i .1) (i .3) (i .0) r) (λ r ws. id⊢ 𝓤 _) (and-then ! (load ! (from ! (stop !)) (look ! 46 refl)) (and-then ! (load ! (from ! (stop !)) (look ! 27 refl)) (and-then ! (load ! (from ! (stop !)) (look ! 42 refl)) (and-then ! (load ! (from ! (stop !)) (look ! 40 refl)) (and-then ! (load ! (from ! (stop !)) (look ! 25 refl)) (and-then ! (load ! (from ! (stop !)) (look ! 29 refl)) (and-then ! (load ! (from ! (stop !)) (look ! 33 refl)) (and-then ! (load ! (from ! (stop !)) (look ! 31 refl)) (and-then ! (load ! (from ! (stop !)) (look ! 11 refl)) (no-more !)))))))))) (λ r ws z e told.
-        land ! (from ! (stop !)) (init ! 50 refl (LL.lawful R.the-type R′.the-laws 𝓤 H A W .typed r _ told .0)) $ returns-within ! Post refl (look ! 50 refl) $
-        forget ! 4 refl $ forget ! 13 refl $ forget ! 15 refl $ forget ! 29 refl $ forget ! 31 refl $ forget ! 27 refl $ forget ! 33 refl $ forget ! 35 refl $ forget ! 38 refl $ forget ! 46 refl $ forget ! 48 refl $ forget ! 50 refl $ forget ! 44 refl $ forget ! 42 refl $ forget ! 40 refl $
-        move ! (50 ∷ 51 ∷ []) $ free1 ! $ move ! (48 ∷ 49 ∷ []) $ free1 ! $ move ! (46 ∷ 47 ∷ []) $ free1 ! $ move ! (44 ∷ 45 ∷ []) $ free1 ! $ move ! (42 ∷ 43 ∷ []) $ free1 ! $ move ! (40 ∷ 41 ∷ []) $ free1 ! $ move ! (38 ∷ 39 ∷ []) $ free1 ! $ move ! (4 ∷ 37 ∷ []) $ free1 ! $ move ! (34 ∷ 35 ∷ []) $ free1 ! $ move ! (32 ∷ 33 ∷ []) $ free1 ! $ move ! (30 ∷ 31 ∷ []) $ free1 ! $ move ! (28 ∷ 29 ∷ []) $ free1 ! $ move ! (26 ∷ 27 ∷ []) $ free1 ! $ move ! (24 ∷ 25 ∷ []) $ free1 ! $ move ! (22 ∷ 23 ∷ []) $ free1 ! $ move ! (20 ∷ 21 ∷ []) $ free1 ! $ move ! (18 ∷ 19 ∷ []) $ free1 ! $ move ! (16 ∷ 17 ∷ []) $ free1 ! $ move ! (14 ∷ 15 ∷ []) $ free1 ! $ move ! (12 ∷ 13 ∷ []) $ free1 ! $ move ! (10 ∷ 11 ∷ []) $ free1 ! $ move ! (8 ∷ 9 ∷ []) $ free1 ! $ move ! (6 ∷ 7 ∷ []) $ free1 ! $ move ! (4 ∷ 5 ∷ []) $ free1 ! $ free0 ! $
-        keep ! (0 ∷ 1 ∷ 4 ∷ []) $ by ! (exits r z (instances-end (i .5) turn a e-a ends r e)))))
+        use1 W (raw (Ended 𝓤 H A mem run .pre (to-ended b v (i .2) (i .1) (i .3) (i .0) va))) (goes-ended b v (i .2) (i .1) (i .3) (i .0) va is₁ (there-of i) (fits-of i) (few-of i)) $
+        called W ended.ended (ended.clauses 𝓤 H A mem run) (to-ended b v (i .2) (i .1) (i .3) (i .0) va .0) tt ! fm known-ended (λ r ws. r ≡ record { refusal = b; at = i .2; count = i .1; faults = i .3; all = i .0 }) (λ r ws. id⊢ 𝓤 _) (and-then ! (load ! (from ! (stop !)) (look ! 14 refl)) (and-then ! (load ! (from ! (stop !)) (look ! 32 refl)) (and-then ! (load ! (from ! (stop !)) (look ! 36 refl)) (and-then ! (load ! (from ! (stop !)) (look ! 34 refl)) (and-then ! (load ! (from ! (stop !)) (look ! 12 refl)) (no-more !)))))) (λ r ws z e is₂.
+        land ! (from ! (stop !)) (init ! 53 refl (LL.lawful R.the-type R′.the-laws 𝓤 H A W .typed r _ is₂ .0)) $ returns-within ! Post refl (look ! 53 refl) $
+        forget ! 3 refl $ forget ! 14 refl $ forget ! 16 refl $ forget ! 18 refl $ forget ! 30 refl $ forget ! 32 refl $ forget ! 34 refl $ forget ! 36 refl $ forget ! 38 refl $ forget ! 41 refl $ forget ! 43 refl $ forget ! 45 refl $ forget ! 47 refl $ forget ! 49 refl $ forget ! 51 refl $ forget ! 53 refl $
+        move ! (53 ∷ 54 ∷ []) $ free1 ! $ move ! (51 ∷ 52 ∷ []) $ free1 ! $ move ! (49 ∷ 50 ∷ []) $ free1 ! $ move ! (47 ∷ 48 ∷ []) $ free1 ! $ move ! (45 ∷ 46 ∷ []) $ free1 ! $ move ! (43 ∷ 44 ∷ []) $ free1 ! $ move ! (41 ∷ 42 ∷ []) $ free1 ! $ move ! (3 ∷ 40 ∷ []) $ free1 ! $ move ! (37 ∷ 38 ∷ []) $ free1 ! $ move ! (35 ∷ 36 ∷ []) $ free1 ! $ move ! (33 ∷ 34 ∷ []) $ free1 ! $ move ! (31 ∷ 32 ∷ []) $ free1 ! $ move ! (29 ∷ 30 ∷ []) $ free1 ! $ move ! (27 ∷ 28 ∷ []) $ free1 ! $ move ! (25 ∷ 26 ∷ []) $ free1 ! $ move ! (23 ∷ 24 ∷ []) $ free1 ! $ move ! (21 ∷ 22 ∷ []) $ free1 ! $ move ! (19 ∷ 20 ∷ []) $ free1 ! $ move ! (17 ∷ 18 ∷ []) $ free1 ! $ move ! (15 ∷ 16 ∷ []) $ free1 ! $ move ! (13 ∷ 14 ∷ []) $ free1 ! $ move ! (11 ∷ 12 ∷ []) $ free1 ! $ move ! (9 ∷ 10 ∷ []) $ free1 ! $ move ! (7 ∷ 8 ∷ []) $ free1 ! $ move ! (5 ∷ 6 ∷ []) $ free1 ! $ free0 ! $
+        keep ! (0 ∷ 3 ∷ 5 ∷ []) $ by ! (exits r z (λ ts bs told₂. subst (InstancesRead (now s) n P ts bs) (sym e) (instances-end (i .5) turn a e-a ends b told₁ ts bs told₂)))))))
 
     -- the stage goes on, with one element more
     keeps : (i : Upto) (t : Next) (u : Val) (m : ℕ) → Turned (now s) (i .2) instance-tag t m → Is N.the-row t (u ∷ []) → (a : Asked) (w : Val) → a ≡ keptBy (askedOf (now s) h) noneAsked t → Is As.the-row a (w ∷ []) → endsBy (instanceVerdict (now s) P tc a (i .1) (i .3)) t ≡ false → Sq W (Told i u w m false) (runs C Λ En more (anyQ (After i)))
@@ -324,31 +350,31 @@ module _ {M : Type 1} (𝓤 : URA M) (H : Heap 𝓤) (A : Atoms 𝓤) (W : Given
         let fits : i .1 * 26 < 2 ^ 64 = omega (arith, read .1) in
         let fits1 : i .1 + 1 < 2 ^ 64 = omega (arith, read .1) in
         nothing ! $ use1 W (raw (Sum 𝓤 H A mem run .pre (to-sum a w (i .3)))) (goes-sum a w (i .3) is-a (few-of i) (read .3)) $
-        called W sum.ended (sum.clauses 𝓤 H A mem run) (to-sum a w (i .3) .0) tt ! fm known-sum (λ g ws. g ≡ i .3 + a .given .faults) (λ g ws. id⊢ 𝓤 _) (and-then ! (load ! (from ! (stop !)) (look ! 25 refl)) (and-then ! (load ! (from ! (stop !)) (look ! 31 refl)) (no-more !))) (λ g ws y e-g is-g.
-        land ! (from ! (stop !)) (store ! 33 refl (uint-lawful 𝓤 H A W w64 .typed g _ is-g .0)) $
-        rewrite ! 33 (λ (z : Val). ‵ (fat fullShare word l₉ 0 z)) (ap only (is-g .0)) refl $
-        keep ! (3 ∷ 4 ∷ 5 ∷ 6 ∷ 7 ∷ 8 ∷ 9 ∷ 10 ∷ 11 ∷ 12 ∷ 13 ∷ 14 ∷ 15 ∷ 16 ∷ 17 ∷ 18 ∷ 19 ∷ 20 ∷ 21 ∷ 22 ∷ 23 ∷ 24 ∷ 25 ∷ 26 ∷ 27 ∷ 28 ∷ 29 ∷ 30 ∷ 31 ∷ 32 ∷ 33 ∷ 34 ∷ 35 ∷ 36 ∷ 37 ∷ 38 ∷ 39 ∷ 40 ∷ 41 ∷ 42 ∷ 43 ∷ 44 ∷ 45 ∷ 46 ∷ 47 ∷ 48 ∷ 49 ∷ 50 ∷ 51 ∷ 52 ∷ 53 ∷ []) $
+        called W sum.ended (sum.clauses 𝓤 H A mem run) (to-sum a w (i .3) .0) tt ! fm known-sum (λ g ws. g ≡ i .3 + a .given .faults) (λ g ws. id⊢ 𝓤 _) (and-then ! (load ! (from ! (stop !)) (look ! 27 refl)) (and-then ! (load ! (from ! (stop !)) (look ! 33 refl)) (no-more !))) (λ g ws y e-g is-g.
+        land ! (from ! (stop !)) (store ! 35 refl (uint-lawful 𝓤 H A W w64 .typed g _ is-g .0)) $
+        rewrite ! 35 (λ (z : Val). ‵ (fat fullShare word l₉ 0 z)) (ap only (is-g .0)) refl $
+        keep ! (3 ∷ 4 ∷ 5 ∷ 6 ∷ 7 ∷ 8 ∷ 9 ∷ 10 ∷ 11 ∷ 12 ∷ 13 ∷ 14 ∷ 15 ∷ 16 ∷ 17 ∷ 18 ∷ 19 ∷ 20 ∷ 21 ∷ 22 ∷ 23 ∷ 24 ∷ 25 ∷ 26 ∷ 27 ∷ 28 ∷ 29 ∷ 30 ∷ 31 ∷ 32 ∷ 33 ∷ 34 ∷ 35 ∷ 36 ∷ 37 ∷ 38 ∷ 39 ∷ 40 ∷ 41 ∷ 42 ∷ 43 ∷ 44 ∷ 45 ∷ 46 ∷ 47 ∷ 48 ∷ 49 ∷ 50 ∷ 51 ∷ 52 ∷ 53 ∷ 54 ∷ 55 ∷ []) $
         use2 W (raw (One 𝓤 H A mem run .pre (to-one t u)) ⊛ ‵ Own) (goes-one t u is (instance-next (i .5) turn a e-a most goes)) $ split ! $
-        called W one.ended (one.clauses 𝓤 H A mem run) (to-one t u .0) tt ! fm known-one (λ b ws. b ≡ keptBy (instanceKept (now s)) unusedInstance t) (λ b ws. id⊢ 𝓤 _) (and-then ! (load ! (from ! (stop !)) (look ! 46 refl)) (and-then ! (load ! (from ! (stop !)) (look ! 26 refl)) (no-more !))) (λ b ws z e is′.
+        called W one.ended (one.clauses 𝓤 H A mem run) (to-one t u .0) tt ! fm known-one (λ b ws. b ≡ keptBy (instanceKept (now s)) unusedInstance t) (λ b ws. id⊢ 𝓤 _) (and-then ! (load ! (from ! (stop !)) (look ! 48 refl)) (and-then ! (load ! (from ! (stop !)) (look ! 28 refl)) (no-more !))) (λ b ws z e is′.
         land ! (from ! (stop !)) (init ! 10 refl (LL.lawful T.the-type T′.the-laws 𝓤 H A W .typed b _ is′ .0)) $
-        assigns ! (bin ! (load ! (from ! (stop !)) (look ! 34 refl)) (lit ! tt) (record { fits = fits })) (from ! (stop !)) (init ! 8 refl (tt, record { fits = fits })) $
+        assigns ! (bin ! (load ! (from ! (stop !)) (look ! 36 refl)) (lit ! tt) (record { fits = fits })) (from ! (stop !)) (init ! 8 refl (tt, record { fits = fits })) $
         assigns ! (addr ! (from ! (stop !))) (from ! (stop !)) (init ! 6 refl (tt, tt)) $
         assigns ! (bin ! (load ! (from ! (stop !)) (look ! 6 refl)) (load ! (from ! (stop !)) (look ! 8 refl)) tt) (from ! (stop !)) (init ! 4 refl (tt, tt)) $
-        rewrite ! 4 (λ (p : ℕ). ‵ (fat fullShare tyPtr n₃ 0 (vptr l₇ p))) (sym (place-is 26 0 (i .1))) refl $
-        move ! (36 ∷ []) $ elem-out ! T.the-row (Is T.the-row) (shows 𝓤 H A T.the-row) (LL.vals T.the-type T′.the-laws) (LL.tells T.the-type T′.the-laws) fullShare (i .0) (i .1) unusedInstance l₇ 0 inside (λ stood.
+        rewrite ! 4 (λ (p : ℕ). ‵ (fat fullShare tyPtr n₄ 0 (vptr l₇ p))) (sym (place-is 26 0 (i .1))) refl $
+        move ! (38 ∷ []) $ elem-out ! T.the-row (Is T.the-row) (shows 𝓤 H A T.the-row) (LL.vals T.the-type T′.the-laws) (LL.tells T.the-type T′.the-laws) fullShare (i .0) (i .1) unusedInstance l₇ 0 inside (λ stood.
         assigns ! (of-opd ! (load ! (from ! (stop !)) (look ! 13 refl))) (from ! (hop ! (look ! 7 refl) (stop !))) (store-raw ! 0 refl (LL.lawful T.the-type T′.the-laws 𝓤 H A W .typed b _ is′ .0)) $
         move ! (0 ∷ 3 ∷ 2 ∷ []) $ elem-put ! T.the-row fullShare (i .0) (i .1) b (z ∷ []) l₇ 0 inside $
-        assigns-last ! (bin ! (load ! (from ! (stop !)) (look ! 35 refl)) (lit ! tt) (record { fits = fits1 })) (from ! (stop !)) (store ! 35 refl (tt, record { fits = fits1 })) $
-        forget ! 5 refl $ forget ! 7 refl $ forget ! 9 refl $ forget ! 11 refl $ forget ! 15 refl $ forget ! 29 refl $ forget ! 31 refl $ forget ! 27 refl $
+        assigns-last ! (bin ! (load ! (from ! (stop !)) (look ! 37 refl)) (lit ! tt) (record { fits = fits1 })) (from ! (stop !)) (store ! 37 refl (tt, record { fits = fits1 })) $
+        forget ! 5 refl $ forget ! 7 refl $ forget ! 9 refl $ forget ! 11 refl $ forget ! 17 refl $ forget ! 31 refl $ forget ! 33 refl $ forget ! 29 refl $
         move ! (2 ∷ []) $ use1 W Token (id⊢ 𝓤 _) $
-        keep ! (5 ∷ 6 ∷ 7 ∷ 8 ∷ 9 ∷ 10 ∷ 11 ∷ 12 ∷ 13 ∷ 14 ∷ 15 ∷ 16 ∷ 17 ∷ 18 ∷ 19 ∷ 20 ∷ 21 ∷ 22 ∷ 23 ∷ 24 ∷ 25 ∷ 26 ∷ 27 ∷ 28 ∷ 29 ∷ 30 ∷ 31 ∷ 32 ∷ 33 ∷ 34 ∷ 35 ∷ 36 ∷ 1 ∷ 37 ∷ 38 ∷ 39 ∷ 40 ∷ 41 ∷ 42 ∷ 43 ∷ 44 ∷ 45 ∷ 46 ∷ 47 ∷ 48 ∷ 49 ∷ 50 ∷ 51 ∷ 4 ∷ 0 ∷ 52 ∷ []) $
+        keep ! (5 ∷ 6 ∷ 7 ∷ 8 ∷ 9 ∷ 10 ∷ 11 ∷ 12 ∷ 13 ∷ 14 ∷ 15 ∷ 16 ∷ 17 ∷ 18 ∷ 19 ∷ 20 ∷ 21 ∷ 22 ∷ 23 ∷ 24 ∷ 25 ∷ 26 ∷ 27 ∷ 28 ∷ 29 ∷ 30 ∷ 31 ∷ 32 ∷ 33 ∷ 34 ∷ 35 ∷ 36 ∷ 37 ∷ 38 ∷ 1 ∷ 39 ∷ 40 ∷ 41 ∷ 42 ∷ 43 ∷ 44 ∷ 45 ∷ 46 ∷ 47 ∷ 48 ∷ 49 ∷ 50 ∷ 51 ∷ 52 ∷ 53 ∷ 4 ∷ 0 ∷ 54 ∷ []) $
         again ! Nearer At i (set (i .0) (i .1) b, i .1 + 1, m, g, simp length-set (i .4), subst (λ (z : InstanceRecord). AtLoop (now s) n P tc (h .nodes) (h .labels) (h .lists) (set (i .0) (i .1) z) (i .1 + 1) g m) (sym e) (subst (λ (z : ℕ). AtLoop (now s) n P tc (h .nodes) (h .labels) (h .lists) (set (i .0) (i .1) (keptBy (instanceKept (now s)) unusedInstance t)) (i .1 + 1) z m) (sym e-g) (read .0))) (omega (arith, read .2, turn .within)))))
 
     -- what was told decides
     by-told : (i : Upto) (t : Next) (u : Val) (m : ℕ) → Turned (now s) (i .2) instance-tag t m → Is N.the-row t (u ∷ []) → (a : Asked) (w : Val) → a ≡ keptBy (askedOf (now s) h) noneAsked t → Is As.the-row a (w ∷ []) → (b : Bool) → endsBy (instanceVerdict (now s) P tc a (i .1) (i .3)) t ≡ b → Sq W (Told i u w m b) (runs C Λ En (seq (cond (copy (place 18 [])) left skipᴹ) more) (anyQ (After i)))
     unfolding afterTurn
-    by-told i t u m turn is a w e-a is-a true e = first ! $ branches ! (load ! (from ! (stop !)) (look ! 12 refl)) (λ yes. leaves i t u m turn is a w e-a is-a e) (λ no. absurd no)
-    by-told i t u m turn is a w e-a is-a false e = first ! $ branches ! (load ! (from ! (stop !)) (look ! 12 refl)) (λ yes. absurd yes) (λ no. skips ! $ exec ! C Λ En more (anyQ (After i)) $ keeps i t u m turn is a w e-a is-a e)
+    by-told i t u m turn is a w e-a is-a true e = first ! $ branches ! (load ! (from ! (stop !)) (look ! 14 refl)) (λ yes. leaves i t u m turn is a w e-a is-a e) (λ no. absurd no)
+    by-told i t u m turn is a w e-a is-a false e = first ! $ branches ! (load ! (from ! (stop !)) (look ! 14 refl)) (λ yes. absurd yes) (λ no. skips ! $ exec ! C Λ En more (anyQ (After i)) $ keeps i t u m turn is a w e-a is-a e)
 
     -- whether the stage ends is asked
     told : (i : Upto) (t : Next) (u : Val) (m : ℕ) → Turned (now s) (i .2) instance-tag t m → Is N.the-row t (u ∷ []) → (a : Asked) (w : Val) → a ≡ keptBy (askedOf (now s) h) noneAsked t → Is As.the-row a (w ∷ [])
@@ -356,59 +382,59 @@ module _ {M : Type 1} (𝓤 : URA M) (H : Heap 𝓤) (A : Atoms 𝓤) (W : Given
     unfolding afterTurn
     told i t u m turn is a w e-a is-a =
         use2 W (raw (Ends 𝓤 H A mem run .pre (to-ends t u a w (i .1) (i .3))) ⊛ ‵ Own) (goes-ends t u a w (i .1) (i .3) is is-a (fits-of i) (few-of i) (turn-given (i .5) turn a e-a backed)) $ split ! $
-        called W ends.ended (ends.clauses 𝓤 H A mem run) (to-ends t u a w (i .1) (i .3) .0) tt ! fm known-ends (λ b ws. b ≡ endsBy (instanceVerdict (now s) P tc a (i .1) (i .3)) t) (λ b ws. id⊢ 𝓤 _) (and-then ! (load ! (from ! (stop !)) (look ! 46 refl)) (and-then ! (load ! (from ! (stop !)) (look ! 26 refl)) (and-then ! (load ! (from ! (stop !)) (look ! 42 refl)) (and-then ! (load ! (from ! (stop !)) (look ! 40 refl)) (and-then ! (load ! (from ! (stop !)) (look ! 24 refl)) (and-then ! (load ! (from ! (stop !)) (look ! 32 refl)) (and-then ! (load ! (from ! (stop !)) (look ! 30 refl)) (no-more !)))))))) (λ b ws y e is′.
-        land ! (from ! (stop !)) (init ! 14 refl (bool-lawful 𝓤 H A W .typed b _ is′ .0)) $ rewrite ! 14 (λ (z : Val). ‵ (fat fullShare tyBool m₈ 0 z)) (ap only is′) refl $
+        called W ends.ended (ends.clauses 𝓤 H A mem run) (to-ends t u a w (i .1) (i .3) .0) tt ! fm known-ends (λ b ws. b ≡ endsBy (instanceVerdict (now s) P tc a (i .1) (i .3)) t) (λ b ws. id⊢ 𝓤 _) (and-then ! (load ! (from ! (stop !)) (look ! 48 refl)) (and-then ! (load ! (from ! (stop !)) (look ! 28 refl)) (and-then ! (load ! (from ! (stop !)) (look ! 44 refl)) (and-then ! (load ! (from ! (stop !)) (look ! 42 refl)) (and-then ! (load ! (from ! (stop !)) (look ! 26 refl)) (and-then ! (load ! (from ! (stop !)) (look ! 34 refl)) (and-then ! (load ! (from ! (stop !)) (look ! 32 refl)) (no-more !)))))))) (λ b ws y e is′.
+        land ! (from ! (stop !)) (init ! 16 refl (bool-lawful 𝓤 H A W .typed b _ is′ .0)) $ rewrite ! 16 (λ (z : Val). ‵ (fat fullShare tyBool m₈ 0 z)) (ap only is′) refl $
         move ! (1 ∷ []) $ use1 W Token (id⊢ 𝓤 _) $
-        keep ! (0 ∷ 3 ∷ 4 ∷ 5 ∷ 6 ∷ 7 ∷ 8 ∷ 9 ∷ 10 ∷ 11 ∷ 12 ∷ 13 ∷ 14 ∷ 15 ∷ 16 ∷ 17 ∷ 18 ∷ 19 ∷ 20 ∷ 21 ∷ 22 ∷ 23 ∷ 24 ∷ 25 ∷ 26 ∷ 27 ∷ 28 ∷ 29 ∷ 30 ∷ 31 ∷ 32 ∷ 33 ∷ 34 ∷ 35 ∷ 36 ∷ 37 ∷ 38 ∷ 39 ∷ 40 ∷ 41 ∷ 42 ∷ 43 ∷ 44 ∷ 45 ∷ 46 ∷ 47 ∷ 48 ∷ 49 ∷ 50 ∷ 51 ∷ 52 ∷ []) $
+        keep ! (0 ∷ 3 ∷ 4 ∷ 5 ∷ 6 ∷ 7 ∷ 8 ∷ 9 ∷ 10 ∷ 11 ∷ 12 ∷ 13 ∷ 14 ∷ 15 ∷ 16 ∷ 17 ∷ 18 ∷ 19 ∷ 20 ∷ 21 ∷ 22 ∷ 23 ∷ 24 ∷ 25 ∷ 26 ∷ 27 ∷ 28 ∷ 29 ∷ 30 ∷ 31 ∷ 32 ∷ 33 ∷ 34 ∷ 35 ∷ 36 ∷ 37 ∷ 38 ∷ 39 ∷ 40 ∷ 41 ∷ 42 ∷ 43 ∷ 44 ∷ 45 ∷ 46 ∷ 47 ∷ 48 ∷ 49 ∷ 50 ∷ 51 ∷ 52 ∷ 53 ∷ 54 ∷ []) $
         by-told i t u m turn is a w e-a is-a b (sym e))
 
     turns : (i : Upto) → Sq W (At i) (runs C Λ En turn (anyQ (After i)))
     unfolding afterTurn
     turns i =
-        assigns ! (of-opd ! (load ! (from ! (fld ! refl (stop !))) (look-in ! 34 (sub ! 1 refl (whole !))))) (from ! (stop !)) (init ! 26 refl (tt, record { fits = there-of i })) $
-        move ! (34 ∷ 14 ∷ 16 ∷ 12 ∷ 49 ∷ 48 ∷ []) $ Lo.finds 𝓤 H A W mem run κ q s fm ! known-next known-own (λ Δ. from ! (stop !)) (λ Δ. from ! (stop !)) (tt, tt) (λ Δ. from ! (stop !)) (λ Δ. from ! (stop !)) Instance tt (EL.owes Kd.the-type Kd′.the-laws Instance tt) (i .2) (there-of i) (place-of i) (λ t u m turn is.
-        land ! (from ! (stop !)) (init ! 28 refl (EL.lawful N.the-type N′.the-laws 𝓤 H A W tt .typed t _ is .0)) $ drop ! $
-        keep ! (4 ∷ 5 ∷ 6 ∷ 7 ∷ 8 ∷ 9 ∷ 10 ∷ 11 ∷ 12 ∷ 13 ∷ 14 ∷ 15 ∷ 16 ∷ 17 ∷ 3 ∷ 18 ∷ 1 ∷ 19 ∷ 2 ∷ 20 ∷ 21 ∷ 22 ∷ 23 ∷ 24 ∷ 25 ∷ 26 ∷ 27 ∷ 28 ∷ 29 ∷ 30 ∷ 31 ∷ 32 ∷ 33 ∷ 34 ∷ 35 ∷ 36 ∷ 0 ∷ 37 ∷ 38 ∷ 39 ∷ 40 ∷ 41 ∷ 42 ∷ 43 ∷ 44 ∷ 45 ∷ 46 ∷ 47 ∷ 48 ∷ 49 ∷ 50 ∷ []) $
+        assigns ! (of-opd ! (load ! (from ! (fld ! refl (stop !))) (look-in ! 36 (sub ! 1 refl (whole !))))) (from ! (stop !)) (init ! 28 refl (tt, record { fits = there-of i })) $
+        move ! (36 ∷ 16 ∷ 18 ∷ 14 ∷ 51 ∷ 50 ∷ []) $ Lo.finds 𝓤 H A W mem run κ q s fm ! known-next known-own (λ Δ. from ! (stop !)) (λ Δ. from ! (stop !)) (tt, tt) (λ Δ. from ! (stop !)) (λ Δ. from ! (stop !)) Instance tt (EL.owes Kd.the-type Kd′.the-laws Instance tt) (i .2) (there-of i) (place-of i) (λ t u m turn is.
+        land ! (from ! (stop !)) (init ! 30 refl (EL.lawful N.the-type N′.the-laws 𝓤 H A W tt .typed t _ is .0)) $ drop ! $
+        keep ! (4 ∷ 5 ∷ 6 ∷ 7 ∷ 8 ∷ 9 ∷ 10 ∷ 11 ∷ 12 ∷ 13 ∷ 14 ∷ 15 ∷ 16 ∷ 17 ∷ 18 ∷ 19 ∷ 3 ∷ 20 ∷ 1 ∷ 21 ∷ 2 ∷ 22 ∷ 23 ∷ 24 ∷ 25 ∷ 26 ∷ 27 ∷ 28 ∷ 29 ∷ 30 ∷ 31 ∷ 32 ∷ 33 ∷ 34 ∷ 35 ∷ 36 ∷ 37 ∷ 38 ∷ 0 ∷ 39 ∷ 40 ∷ 41 ∷ 42 ∷ 43 ∷ 44 ∷ 45 ∷ 46 ∷ 47 ∷ 48 ∷ 49 ∷ 50 ∷ 51 ∷ 52 ∷ []) $
         use2 W (raw (Asks 𝓤 H A mem run .pre (to-asks t u)) ⊛ ‵ Own) (goes-asks t u is (next-in (now s) (i .2) instance-tag t (turn .own))) $ split ! $
-        called W asks.ended (asks.clauses 𝓤 H A mem run) (to-asks t u .0) tt ! fm known-asks (λ a ws. a ≡ keptBy (askedOf (now s) h) noneAsked t) (λ a ws. id⊢ 𝓤 _) (and-then ! (load ! (from ! (stop !)) (look ! 46 refl)) (and-then ! (load ! (from ! (stop !)) (look ! 26 refl)) (and-then ! (load ! (from ! (stop !)) (look ! 38 refl)) (no-more !)))) (λ a ws w e-a is-a.
-        land ! (from ! (stop !)) (init ! 26 refl (LL.lawful As.the-type As′.the-laws 𝓤 H A W .typed a _ is-a .0)) $
+        called W asks.ended (asks.clauses 𝓤 H A mem run) (to-asks t u .0) tt ! fm known-asks (λ a ws. a ≡ keptBy (askedOf (now s) h) noneAsked t) (λ a ws. id⊢ 𝓤 _) (and-then ! (load ! (from ! (stop !)) (look ! 48 refl)) (and-then ! (load ! (from ! (stop !)) (look ! 28 refl)) (and-then ! (load ! (from ! (stop !)) (look ! 40 refl)) (no-more !)))) (λ a ws w e-a is-a.
+        land ! (from ! (stop !)) (init ! 28 refl (LL.lawful As.the-type As′.the-laws 𝓤 H A W .typed a _ is-a .0)) $
         move ! (1 ∷ []) $ use1 W Token (id⊢ 𝓤 _) $
-        keep ! (0 ∷ 3 ∷ 4 ∷ 5 ∷ 6 ∷ 7 ∷ 8 ∷ 9 ∷ 10 ∷ 11 ∷ 12 ∷ 13 ∷ 14 ∷ 15 ∷ 16 ∷ 17 ∷ 18 ∷ 19 ∷ 20 ∷ 21 ∷ 22 ∷ 23 ∷ 24 ∷ 25 ∷ 26 ∷ 27 ∷ 28 ∷ 29 ∷ 30 ∷ 31 ∷ 32 ∷ 33 ∷ 34 ∷ 35 ∷ 36 ∷ 37 ∷ 38 ∷ 39 ∷ 40 ∷ 41 ∷ 42 ∷ 43 ∷ 44 ∷ 45 ∷ 46 ∷ 47 ∷ 48 ∷ 49 ∷ 50 ∷ 51 ∷ 52 ∷ []) $ told i t u m turn is a w e-a is-a))
+        keep ! (0 ∷ 3 ∷ 4 ∷ 5 ∷ 6 ∷ 7 ∷ 8 ∷ 9 ∷ 10 ∷ 11 ∷ 12 ∷ 13 ∷ 14 ∷ 15 ∷ 16 ∷ 17 ∷ 18 ∷ 19 ∷ 20 ∷ 21 ∷ 22 ∷ 23 ∷ 24 ∷ 25 ∷ 26 ∷ 27 ∷ 28 ∷ 29 ∷ 30 ∷ 31 ∷ 32 ∷ 33 ∷ 34 ∷ 35 ∷ 36 ∷ 37 ∷ 38 ∷ 39 ∷ 40 ∷ 41 ∷ 42 ∷ 43 ∷ 44 ∷ 45 ∷ 46 ∷ 47 ∷ 48 ∷ 49 ∷ 50 ∷ 51 ∷ 52 ∷ 53 ∷ 54 ∷ []) $ told i t u m turn is a w e-a is-a))
 
-    begins : Sq W (Token ∷ ‵ Owns ∷ ‵ (froom tyPtr n₃ 0) ∷ ‵ (fdies tyPtr n₃) ∷ ‵ (froom tyPtr n₂ 0) ∷ ‵ (fdies tyPtr n₂) ∷ ‵ (froom word n₁ 0) ∷ ‵ (fdies word n₁) ∷ ‵ (froom T′.mir n₀ 0) ∷ ‵ (fdies T′.mir n₀) ∷ ‵ (froom array m₉ 0) ∷ ‵ (fdies array m₉) ∷ ‵ (froom tyBool m₈ 0) ∷ ‵ (fdies tyBool m₈) ∷ ‵ (froom Kd′.mir m₇ 0) ∷ ‵ (fdies Kd′.mir m₇) ∷ ‵ (froom loan m₆ 0) ∷ ‵ (fdies loan m₆) ∷ ‵ (froom S′.mir m₅ 0) ∷ ‵ (fdies S′.mir m₅) ∷ ‵ (froom array m₄ 0) ∷ ‵ (fdies array m₄) ∷ ‵ (froom readerTy m₃ 0) ∷ ‵ (fdies readerTy m₃) ∷ ‵ (froom As′.mir m₂ 0) ∷ ‵ (fdies As′.mir m₂) ∷ ‵ (froom N′.mir m₁ 0) ∷ ‵ (fdies N′.mir m₁) ∷ ‵ (froom word m₀ 0) ∷ ‵ (fdies word m₀) ∷ ‵ (froom word l₉ 0) ∷ ‵ (fdies word l₉) ∷ ‵ (froom word l₈ 0) ∷ ‵ (fdies word l₈) ∷ ‵ (froom array l₇ 0) ∷ ‵ (fdies array l₇) ∷ ‵ (froom readerTy l₆ 0) ∷ ‵ (fdies readerTy l₆) ∷ ‵ (fat fullShare Hd′.mir l₅ 0 (LL.val Hd.the-type Hd′.the-laws h)) ∷ ‵ (fdies Hd′.mir l₅) ∷ ‵ (fat fullShare word l₄ 0 (vint w64 tc)) ∷ ‵ (fdies word l₄) ∷ ‵ (fat fullShare word l₃ 0 (vint w64 P)) ∷ ‵ (fdies word l₃) ∷ ‵ (fat fullShare word l₂ 0 (vint w64 n)) ∷ ‵ (fdies word l₂) ∷ ‵ (fat fullShare slice l₁ 0 file) ∷ ‵ (fdies slice l₁) ∷ ‵ (froom R′.mir l₀ 0) ∷ ‵ (fdies R′.mir l₀) ∷ []) (runs C Λ En (code.function .body) (atRet En Post))
+    begins : Sq W (Token ∷ ‵ Owns ∷ ‵ (froom tyPtr n₄ 0) ∷ ‵ (fdies tyPtr n₄) ∷ ‵ (froom tyPtr n₃ 0) ∷ ‵ (fdies tyPtr n₃) ∷ ‵ (froom word n₂ 0) ∷ ‵ (fdies word n₂) ∷ ‵ (froom T′.mir n₁ 0) ∷ ‵ (fdies T′.mir n₁) ∷ ‵ (froom array n₀ 0) ∷ ‵ (fdies array n₀) ∷ ‵ (froom Rf′.mir m₉ 0) ∷ ‵ (fdies Rf′.mir m₉) ∷ ‵ (froom tyBool m₈ 0) ∷ ‵ (fdies tyBool m₈) ∷ ‵ (froom Kd′.mir m₇ 0) ∷ ‵ (fdies Kd′.mir m₇) ∷ ‵ (froom loan m₆ 0) ∷ ‵ (fdies loan m₆) ∷ ‵ (froom S′.mir m₅ 0) ∷ ‵ (fdies S′.mir m₅) ∷ ‵ (froom array m₄ 0) ∷ ‵ (fdies array m₄) ∷ ‵ (froom readerTy m₃ 0) ∷ ‵ (fdies readerTy m₃) ∷ ‵ (froom As′.mir m₂ 0) ∷ ‵ (fdies As′.mir m₂) ∷ ‵ (froom N′.mir m₁ 0) ∷ ‵ (fdies N′.mir m₁) ∷ ‵ (froom word m₀ 0) ∷ ‵ (fdies word m₀) ∷ ‵ (froom word l₉ 0) ∷ ‵ (fdies word l₉) ∷ ‵ (froom word l₈ 0) ∷ ‵ (fdies word l₈) ∷ ‵ (froom array l₇ 0) ∷ ‵ (fdies array l₇) ∷ ‵ (froom readerTy l₆ 0) ∷ ‵ (fdies readerTy l₆) ∷ ‵ (fat fullShare Hd′.mir l₅ 0 (LL.val Hd.the-type Hd′.the-laws h)) ∷ ‵ (fdies Hd′.mir l₅) ∷ ‵ (fat fullShare word l₄ 0 (vint w64 tc)) ∷ ‵ (fdies word l₄) ∷ ‵ (fat fullShare word l₃ 0 (vint w64 P)) ∷ ‵ (fdies word l₃) ∷ ‵ (fat fullShare word l₂ 0 (vint w64 n)) ∷ ‵ (fdies word l₂) ∷ ‵ (fat fullShare slice l₁ 0 file) ∷ ‵ (fdies slice l₁) ∷ ‵ (froom R′.mir l₀ 0) ∷ ‵ (fdies R′.mir l₀) ∷ []) (runs C Λ En (code.function .body) (atRet En Post))
     begins =
         move ! (1 ∷ []) $ fsplit ! $ use1 W (‵ Own ⊛ ‵ Own) (Lo.twice 𝓤 H A W mem run κ q s) $ split ! $ move ! (1 ∷ 2 ∷ []) $ fjoin ! $
-        move ! (47 ∷ 45 ∷ 23 ∷ 37 ∷ 2 ∷ 1 ∷ []) $ Lo.makes 𝓤 H A W mem run κ q s fm ! known-made (λ Δ. from ! (stop !)) (λ Δ. from ! (stop !)) (λ Δ. from ! (stop !)) (λ Δ. from ! (stop !)) n ok start (
+        move ! (49 ∷ 47 ∷ 25 ∷ 39 ∷ 2 ∷ 1 ∷ []) $ Lo.makes 𝓤 H A W mem run κ q s fm ! known-made (λ Δ. from ! (stop !)) (λ Δ. from ! (stop !)) (λ Δ. from ! (stop !)) (λ Δ. from ! (stop !)) n ok start (
         nothing ! $ use1 W (raw (Blank 𝓤 H A mem run .pre to-blank)) goes-blank $
         called W blank.ended (blank.clauses 𝓤 H A mem run) (to-blank .0) tt ! fm known-blank (λ all ws. all ≡ replicate 128 unusedInstance) (λ all ws. id⊢ 𝓤 _) (no-more !) (λ all ws w e is.
-        land ! (from ! (stop !)) (init ! 28 refl (array-lawful 𝓤 H A W T.the-row (LL.lawful T.the-type T′.the-laws 𝓤 H A W) 128 .typed all _ is .0)) $ assigns ! (of-opd ! (load ! (from ! (stop !)) (look ! 28 refl))) (from ! (stop !)) (init ! 41 refl (array-lawful 𝓤 H A W T.the-row (LL.lawful T.the-type T′.the-laws 𝓤 H A W) 128 .typed all _ is .0)) $
-        assigns ! (of-opd ! (lit ! tt)) (from ! (stop !)) (init ! 39 refl (tt, record { fits = lit< tt })) $ assigns ! (of-opd ! (lit ! tt)) (from ! (stop !)) (init ! 37 refl (tt, record { fits = lit< tt })) $ forget ! 28 refl $
-        move ! (41 ∷ 0 ∷ []) $ use2 W (‵ (arr-parts (shares T.the-row) 128 .part fullShare all l₇ 0)) (elements-of 𝓤 H A W T.the-row 128 l₇ 0 all tt w) $ fsplit ! $ drop ! $
-        keep ! (10 ∷ 11 ∷ 12 ∷ 13 ∷ 14 ∷ 15 ∷ 16 ∷ 17 ∷ 18 ∷ 19 ∷ 20 ∷ 21 ∷ 22 ∷ 23 ∷ 24 ∷ 25 ∷ 26 ∷ 27 ∷ 28 ∷ 29 ∷ 5 ∷ 30 ∷ 31 ∷ 32 ∷ 33 ∷ 34 ∷ 35 ∷ 36 ∷ 37 ∷ 38 ∷ 39 ∷ 40 ∷ 0 ∷ 41 ∷ 6 ∷ 42 ∷ 43 ∷ 44 ∷ 45 ∷ 46 ∷ 47 ∷ 48 ∷ 4 ∷ 49 ∷ 3 ∷ 50 ∷ 51 ∷ 52 ∷ 8 ∷ 7 ∷ 9 ∷ []) $
+        land ! (from ! (stop !)) (init ! 30 refl (array-lawful 𝓤 H A W T.the-row (LL.lawful T.the-type T′.the-laws 𝓤 H A W) 128 .typed all _ is .0)) $ assigns ! (of-opd ! (load ! (from ! (stop !)) (look ! 30 refl))) (from ! (stop !)) (init ! 43 refl (array-lawful 𝓤 H A W T.the-row (LL.lawful T.the-type T′.the-laws 𝓤 H A W) 128 .typed all _ is .0)) $
+        assigns ! (of-opd ! (lit ! tt)) (from ! (stop !)) (init ! 41 refl (tt, record { fits = lit< tt })) $ assigns ! (of-opd ! (lit ! tt)) (from ! (stop !)) (init ! 39 refl (tt, record { fits = lit< tt })) $ forget ! 30 refl $
+        move ! (43 ∷ 0 ∷ []) $ use2 W (‵ (arr-parts (shares T.the-row) 128 .part fullShare all l₇ 0)) (elements-of 𝓤 H A W T.the-row 128 l₇ 0 all tt w) $ fsplit ! $ drop ! $
+        keep ! (10 ∷ 11 ∷ 12 ∷ 13 ∷ 14 ∷ 15 ∷ 16 ∷ 17 ∷ 18 ∷ 19 ∷ 20 ∷ 21 ∷ 22 ∷ 23 ∷ 24 ∷ 25 ∷ 26 ∷ 27 ∷ 28 ∷ 29 ∷ 30 ∷ 31 ∷ 5 ∷ 32 ∷ 33 ∷ 34 ∷ 35 ∷ 36 ∷ 37 ∷ 38 ∷ 39 ∷ 40 ∷ 41 ∷ 42 ∷ 0 ∷ 43 ∷ 6 ∷ 44 ∷ 45 ∷ 46 ∷ 47 ∷ 48 ∷ 49 ∷ 50 ∷ 4 ∷ 51 ∷ 3 ∷ 52 ∷ 53 ∷ 54 ∷ 8 ∷ 7 ∷ 9 ∷ []) $
         first ! $ blocks ! $ loops ! 𝓣 Nearer Nearer-wf At turns (all, 0, n, 0, long-all all e, subst (λ (l : List InstanceRecord). AtLoop (now s) n P tc (h .nodes) (h .labels) (h .lists) l 0 0 n) (sym e) (record { place = start; few = omega arith; read = λ ts bs told. no-instances (now s) n P ts bs unusedInstance start refl }))))
       where
         long-all : (l : List InstanceRecord) → l ≡ replicate 128 unusedInstance → length l ≡ 128
         long-all l e = rw e (length-replicate 128 unusedInstance)
 
-  walk : (𝓣 : Tables 𝓤 H) → FmC 𝓤 H (W .laws) (𝓣 .C) → Triple 𝓤 (𝓣 .C #reader-at) (ReaderAt 𝓤 H A mem run) → Triple 𝓤 (𝓣 .C #next) (Stepping 𝓤 H A mem run) → Triple 𝓤 (𝓣 .C #own-field) (OwnField 𝓤 H A mem run) → Triple 𝓤 (𝓣 .C #asks) (Asks 𝓤 H A mem run) → Triple 𝓤 (𝓣 .C #sum) (Sum 𝓤 H A mem run) → Triple 𝓤 (𝓣 .C #ends) (Ends 𝓤 H A mem run) → Triple 𝓤 (𝓣 .C #ended) (Ended 𝓤 H A mem run) → Triple 𝓤 (𝓣 .C #one) (One 𝓤 H A mem run) → Triple 𝓤 (𝓣 .C #blank) (Blank 𝓤 H A mem run)
+  walk : (𝓣 : Tables 𝓤 H) → FmC 𝓤 H (W .laws) (𝓣 .C) → Triple 𝓤 (𝓣 .C #reader-at) (ReaderAt 𝓤 H A mem run) → Triple 𝓤 (𝓣 .C #next) (Stepping 𝓤 H A mem run) → Triple 𝓤 (𝓣 .C #own-field) (OwnField 𝓤 H A mem run) → Triple 𝓤 (𝓣 .C #asks) (Asks 𝓤 H A mem run) → Triple 𝓤 (𝓣 .C #sum) (Sum 𝓤 H A mem run) → Triple 𝓤 (𝓣 .C #ends) (Ends 𝓤 H A mem run) → Triple 𝓤 (𝓣 .C #why) (Why 𝓤 H A mem run) → Triple 𝓤 (𝓣 .C #ended) (Ended 𝓤 H A mem run) → Triple 𝓤 (𝓣 .C #one) (One 𝓤 H A mem run) → Triple 𝓤 (𝓣 .C #blank) (Blank 𝓤 H A mem run)
       → Is (ShrSlice (named 0) κ u8) s (file ∷ []) → ent 𝓤 (onEntry 𝓤 H A f.signature (κ, tt) (q, tt) x at) (WpFn 𝓤 H (𝓣 .C) (𝓣 .Λ) code.function (file ∷ vint w64 n ∷ vint w64 P ∷ vint w64 tc ∷ LL.val Hd.the-type Hd′.the-laws h ∷ []) Post)
-  walk 𝓣 fm known-made known-next known-own known-asks known-sum known-ends known-ended known-one known-blank p =
+  walk 𝓣 fm known-made known-next known-own known-asks known-sum known-ends known-why known-ended known-one known-blank p =
       qed W (raw (onEntry 𝓤 H A f.signature (κ, tt) (q, tt) x at) ∷ []) ∵ enter ! (𝓣 .C) (𝓣 .Λ) code.function (file ∷ vint w64 n ∷ vint w64 P ∷ vint w64 tc ∷ LL.val Hd.the-type Hd′.the-laws h ∷ []) _ $
-      alloc1 ! (λ l₀. alloc1 ! (λ l₁. alloc1 ! (λ l₂. alloc1 ! (λ l₃. alloc1 ! (λ l₄. alloc1 ! (λ l₅. alloc1 ! (λ l₆. alloc1 ! (λ l₇. alloc1 ! (λ l₈. alloc1 ! (λ l₉. alloc1 ! (λ m₀. alloc1 ! (λ m₁. alloc1 ! (λ m₂. alloc1 ! (λ m₃. alloc1 ! (λ m₄. alloc1 ! (λ m₅. alloc1 ! (λ m₆. alloc1 ! (λ m₇. alloc1 ! (λ m₈. alloc1 ! (λ m₉. alloc1 ! (λ n₀. alloc1 ! (λ n₁. alloc1 ! (λ n₂. alloc1 ! (λ n₃. alloc0 ! $ params1 ! $
-      pass1 ! (init ! 44 refl (shr-slice-lawful 𝓤 H A W (named 0) κ u8 .typed s (file ∷ []) p .0)) $ pass1 ! (init ! 42 refl (tt, record { fits = ok })) $ pass1 ! (init ! 40 refl (tt, record { fits = okP })) $ pass1 ! (init ! 38 refl (tt, record { fits = okT })) $ pass1 ! (init ! 36 refl (LL.lawful Hd.the-type Hd′.the-laws 𝓤 H A W .typed h _ is-h .0)) $ pass0 ! $
-      move ! (48 ∷ []) $ use1 W (Token ⊛ ‵ Owns) (id⊢ 𝓤 _) $ split ! $ begins 𝓣 fm known-made known-next known-own known-asks known-sum known-ends known-ended known-one known-blank l₀ l₁ l₂ l₃ l₄ l₅ l₆ l₇ l₈ l₉ m₀ m₁ m₂ m₃ m₄ m₅ m₆ m₇ m₈ m₉ n₀ n₁ n₂ n₃))))))))))))))))))))))))
+      alloc1 ! (λ l₀. alloc1 ! (λ l₁. alloc1 ! (λ l₂. alloc1 ! (λ l₃. alloc1 ! (λ l₄. alloc1 ! (λ l₅. alloc1 ! (λ l₆. alloc1 ! (λ l₇. alloc1 ! (λ l₈. alloc1 ! (λ l₉. alloc1 ! (λ m₀. alloc1 ! (λ m₁. alloc1 ! (λ m₂. alloc1 ! (λ m₃. alloc1 ! (λ m₄. alloc1 ! (λ m₅. alloc1 ! (λ m₆. alloc1 ! (λ m₇. alloc1 ! (λ m₈. alloc1 ! (λ m₉. alloc1 ! (λ n₀. alloc1 ! (λ n₁. alloc1 ! (λ n₂. alloc1 ! (λ n₃. alloc1 ! (λ n₄. alloc0 ! $ params1 ! $
+      pass1 ! (init ! 46 refl (shr-slice-lawful 𝓤 H A W (named 0) κ u8 .typed s (file ∷ []) p .0)) $ pass1 ! (init ! 44 refl (tt, record { fits = ok })) $ pass1 ! (init ! 42 refl (tt, record { fits = okP })) $ pass1 ! (init ! 40 refl (tt, record { fits = okT })) $ pass1 ! (init ! 38 refl (LL.lawful Hd.the-type Hd′.the-laws 𝓤 H A W .typed h _ is-h .0)) $ pass0 ! $
+      move ! (50 ∷ []) $ use1 W (Token ⊛ ‵ Owns) (id⊢ 𝓤 _) $ split ! $ begins 𝓣 fm known-made known-next known-own known-asks known-sum known-ends known-why known-ended known-one known-blank l₀ l₁ l₂ l₃ l₄ l₅ l₆ l₇ l₈ l₉ m₀ m₁ m₂ m₃ m₄ m₅ m₆ m₇ m₈ m₉ n₀ n₁ n₂ n₃ n₄)))))))))))))))))))))))))
 
 module _ {M : Type 1} (𝓤 : URA M) (H : Heap 𝓤) (A : Atoms 𝓤) (W : Given 𝓤 H A) (mem : Memory → SProp 𝓤) (run : Routine → Fun 𝓤) where
-  walks : (𝓣 : Tables 𝓤 H) → Triple 𝓤 (𝓣 .C #reader-at) (ReaderAt 𝓤 H A mem run) → Triple 𝓤 (𝓣 .C #next) (Stepping 𝓤 H A mem run) → Triple 𝓤 (𝓣 .C #own-field) (OwnField 𝓤 H A mem run) → Triple 𝓤 (𝓣 .C #asks) (Asks 𝓤 H A mem run) → Triple 𝓤 (𝓣 .C #sum) (Sum 𝓤 H A mem run) → Triple 𝓤 (𝓣 .C #ends) (Ends 𝓤 H A mem run) → Triple 𝓤 (𝓣 .C #ended) (Ended 𝓤 H A mem run) → Triple 𝓤 (𝓣 .C #one) (One 𝓤 H A mem run) → Triple 𝓤 (𝓣 .C #blank) (Blank 𝓤 H A mem run) → Walks 𝓤 H A f.ended stayed (WpFn 𝓤 H (𝓣 .C) (𝓣 .Λ) code.function) (f.clauses 𝓤 H A mem run)
-  walks 𝓣 known-made known-next known-own known-asks known-sum known-ends known-ended known-one known-blank = walked 𝓤 H A f.ended stayed (f.clauses 𝓤 H A mem run) (WpFn 𝓤 H (𝓣 .C) (𝓣 .Λ) code.function)
+  walks : (𝓣 : Tables 𝓤 H) → Triple 𝓤 (𝓣 .C #reader-at) (ReaderAt 𝓤 H A mem run) → Triple 𝓤 (𝓣 .C #next) (Stepping 𝓤 H A mem run) → Triple 𝓤 (𝓣 .C #own-field) (OwnField 𝓤 H A mem run) → Triple 𝓤 (𝓣 .C #asks) (Asks 𝓤 H A mem run) → Triple 𝓤 (𝓣 .C #sum) (Sum 𝓤 H A mem run) → Triple 𝓤 (𝓣 .C #ends) (Ends 𝓤 H A mem run) → Triple 𝓤 (𝓣 .C #why) (Why 𝓤 H A mem run) → Triple 𝓤 (𝓣 .C #ended) (Ended 𝓤 H A mem run) → Triple 𝓤 (𝓣 .C #one) (One 𝓤 H A mem run) → Triple 𝓤 (𝓣 .C #blank) (Blank 𝓤 H A mem run) → Walks 𝓤 H A f.ended stayed (WpFn 𝓤 H (𝓣 .C) (𝓣 .Λ) code.function) (f.clauses 𝓤 H A mem run)
+  walks 𝓣 known-made known-next known-own known-asks known-sum known-ends known-why known-ended known-one known-blank = walked 𝓤 H A f.ended stayed (f.clauses 𝓤 H A mem run) (WpFn 𝓤 H (𝓣 .C) (𝓣 .Λ) code.function)
       (λ κs. (slice-vals, (uint-vals w64, (uint-vals w64, (uint-vals w64, (LL.vals Hd.the-type Hd′.the-laws, tt)))))) (λ κs. (shr-slice-tells (named 0) (κs .0) u8, (uint-tells w64, (uint-tells w64, (uint-tells w64, (LL.tells Hd.the-type Hd′.the-laws, tt))))))
-      (λ κs qs bounds a g are. needs 𝓤 _ _ (λ given. walk 𝓤 H A W mem run (κs .0) (qs .0) (a .0) (a .1 .0) (a .1 .1 .0) (a .1 .1 .1 .0) (a .1 .1 .1 .1 .0) (are .0 .0 .1 .0) (are .1 .0 .1) (given .0) (are .1 .1 .0 .1) (are .1 .1 .1 .0 .1) (are .1 .1 .1 .1 .0) (given .1 .0) (given .1 .1) 𝓣 (fmOf 𝓤 H (W .laws) 𝓣) known-made known-next known-own known-asks known-sum known-ends known-ended known-one known-blank (are .0)))
+      (λ κs qs bounds a g are. needs 𝓤 _ _ (λ given. walk 𝓤 H A W mem run (κs .0) (qs .0) (a .0) (a .1 .0) (a .1 .1 .0) (a .1 .1 .1 .0) (a .1 .1 .1 .1 .0) (are .0 .0 .1 .0) (are .1 .0 .1) (given .0) (are .1 .1 .0 .1) (are .1 .1 .1 .0 .1) (are .1 .1 .1 .1 .0) (given .1 .0) (given .1 .1) 𝓣 (fmOf 𝓤 H (W .laws) 𝓣) known-made known-next known-own known-asks known-sum known-ends known-why known-ended known-one known-blank (are .0)))
 
-meets : {M : Type 1} (𝓤 : URA M) (H : Heap 𝓤) (A : Atoms 𝓤) (W : Given 𝓤 H A) (mem : Memory → SProp 𝓤) (run : Routine → Fun 𝓤) (𝓣 : Tables 𝓤 H) → Triple 𝓤 (𝓣 .C #reader-at) (ReaderAt 𝓤 H A mem run) → Triple 𝓤 (𝓣 .C #next) (Stepping 𝓤 H A mem run) → Triple 𝓤 (𝓣 .C #own-field) (OwnField 𝓤 H A mem run) → Triple 𝓤 (𝓣 .C #asks) (Asks 𝓤 H A mem run) → Triple 𝓤 (𝓣 .C #sum) (Sum 𝓤 H A mem run) → Triple 𝓤 (𝓣 .C #ends) (Ends 𝓤 H A mem run) → Triple 𝓤 (𝓣 .C #ended) (Ended 𝓤 H A mem run) → Triple 𝓤 (𝓣 .C #one) (One 𝓤 H A mem run) → Triple 𝓤 (𝓣 .C #blank) (Blank 𝓤 H A mem run)
+meets : {M : Type 1} (𝓤 : URA M) (H : Heap 𝓤) (A : Atoms 𝓤) (W : Given 𝓤 H A) (mem : Memory → SProp 𝓤) (run : Routine → Fun 𝓤) (𝓣 : Tables 𝓤 H) → Triple 𝓤 (𝓣 .C #reader-at) (ReaderAt 𝓤 H A mem run) → Triple 𝓤 (𝓣 .C #next) (Stepping 𝓤 H A mem run) → Triple 𝓤 (𝓣 .C #own-field) (OwnField 𝓤 H A mem run) → Triple 𝓤 (𝓣 .C #asks) (Asks 𝓤 H A mem run) → Triple 𝓤 (𝓣 .C #sum) (Sum 𝓤 H A mem run) → Triple 𝓤 (𝓣 .C #ends) (Ends 𝓤 H A mem run) → Triple 𝓤 (𝓣 .C #why) (Why 𝓤 H A mem run) → Triple 𝓤 (𝓣 .C #ended) (Ended 𝓤 H A mem run) → Triple 𝓤 (𝓣 .C #one) (One 𝓤 H A mem run) → Triple 𝓤 (𝓣 .C #blank) (Blank 𝓤 H A mem run)
     → Meets 𝓤 H A f.signature (WpFn 𝓤 H (𝓣 .C) (𝓣 .Λ) code.function) (f.spec 𝓤 H A mem run)
-meets 𝓤 H A W mem run 𝓣 known-made known-next known-own known-asks known-sum known-ends known-ended known-one known-blank = walk-meets 𝓤 H A f.ended stayed W
+meets 𝓤 H A W mem run 𝓣 known-made known-next known-own known-asks known-sum known-ends known-why known-ended known-one known-blank = walk-meets 𝓤 H A f.ended stayed W
     (goes-none-slice 𝓤 H A W 1 (0 ∷ []) tt (plain (λ _. u8)) yes, (goes-none 𝓤 H A W 1 (λ _. usize) yes (λ κs x f. refl), (goes-none 𝓤 H A W 1 (λ _. usize) yes (λ κs x f. refl), (goes-none 𝓤 H A W 1 (λ _. usize) yes (λ κs x f. refl), (goes-none 𝓤 H A W 1 (λ _. Hd.the-row) yes (λ κs x f. refl), tt)))))
-    (f.clauses 𝓤 H A mem run) (WpFn 𝓤 H (𝓣 .C) (𝓣 .Λ) code.function) (WpFn-mono 𝓤 H (W .laws) 𝓣 code.function) (walks 𝓤 H A W mem run 𝓣 known-made known-next known-own known-asks known-sum known-ends known-ended known-one known-blank)
+    (f.clauses 𝓤 H A mem run) (WpFn 𝓤 H (𝓣 .C) (𝓣 .Λ) code.function) (WpFn-mono 𝓤 H (W .laws) 𝓣 code.function) (walks 𝓤 H A W mem run 𝓣 known-made known-next known-own known-asks known-sum known-ends known-why known-ended known-one known-blank)
 
 pub read-instances-spec : {M : Type 1} → stated.statement M
 unfolding code.routine tablesOf
@@ -422,6 +448,7 @@ read-instances-spec 𝓤 H 𝓜 𝓖 𝓡 =
     (cited 𝓤 H (Asks 𝓤 H (𝓖 .A) (𝓜 .mem) (𝓡 .run)) 𝓜 𝓡 code.env #asks asks-def.routine code.calls-read-instances·asked-by (asks-thm.met 𝓤 H 𝓜 𝓖 𝓡))
     (cited 𝓤 H (Sum 𝓤 H (𝓖 .A) (𝓜 .mem) (𝓡 .run)) 𝓜 𝓡 code.env #sum sum-def.routine code.calls-read-instances·faults-with (sum-thm.met 𝓤 H 𝓜 𝓖 𝓡))
     (cited 𝓤 H (Ends 𝓤 H (𝓖 .A) (𝓜 .mem) (𝓡 .run)) 𝓜 𝓡 code.env #ends ends-def.routine code.calls-read-instances·ends (ends-thm.met 𝓤 H 𝓜 𝓖 𝓡))
+    (cited 𝓤 H (Why 𝓤 H (𝓖 .A) (𝓜 .mem) (𝓡 .run)) 𝓜 𝓡 code.env #why why-def.routine code.calls-read-instances·why-ended (why-thm.met 𝓤 H 𝓜 𝓖 𝓡))
     (cited 𝓤 H (Ended 𝓤 H (𝓖 .A) (𝓜 .mem) (𝓡 .run)) 𝓜 𝓡 code.env #ended ended-def.routine code.calls-read-instances·ended (ended-thm.met 𝓤 H 𝓜 𝓖 𝓡))
     (cited 𝓤 H (One 𝓤 H (𝓖 .A) (𝓜 .mem) (𝓡 .run)) 𝓜 𝓡 code.env #one one-def.routine code.calls-read-instances·instance-of (one-thm.met 𝓤 H 𝓜 𝓖 𝓡))
     (cited 𝓤 H (Blank 𝓤 H (𝓖 .A) (𝓜 .mem) (𝓡 .run)) 𝓜 𝓡 code.env #blank blank-def.routine code.calls-read-instances·no-instances (blank-thm.met 𝓤 H 𝓜 𝓖 𝓡)))

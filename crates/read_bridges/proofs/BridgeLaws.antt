@@ -18,7 +18,7 @@ use Rattle.circuit.specs.Refusals.{verdictOf}
 use Rattle.circuit.specs.Verdicts.{isRefused, orIf}
 use Rattle.circuit.specs.Stages.{bridgeStage, stageOf}
 use Rattle.read_fields.specs.Steps.{bodyOf, FieldAt, NextIs, endsBy, verdictBy, keptBy}
-use Rattle.read_bridges.specs.ReadBridges.{bridgeVerdict, bridgeKept, BridgeNext, BridgesEnded, BridgesRead}
+use Rattle.read_bridges.specs.ReadBridges.{bridgeVerdict, bridgeKept, BridgeNext, BridgesRead}
 use Rattle.circuit.specs.declared.Bridge.{Bridge as BridgeRecord}
 use Rattle.read_fields.specs.declared.Field.{Field as FieldRecord}
 use Rattle.read_fields.specs.declared.Next.{Next}
@@ -30,7 +30,6 @@ use Rattle.circuit.proofs.Tested.{bridge-pass}
 use Rattle.circuit.proofs.TypeLaws.{all-snoc}
 use Rattle.read_fields.proofs.Gathering.{SoFar, none-yet, stops, fails, one-more}
 use Rattle.read_fields.proofs.Turns.{Turned, nothing-passes}
-use Rattle.read_bridges.specs.declared.Bridges.{Bridges}
 
 -- ---- a bridge field that passes its tests
 
@@ -120,16 +119,17 @@ module _ {file : List ℕ} {from : ℕ} {all : List BridgeRecord} {count at : �
 
   -- a turn, which found n and has m behind it
   module _ {n : Next} {m : ℕ} (turn : Turned file at bridge-tag n m) where
-    pub bridges-end : endsBy (bridgeVerdict file count) n ≡ true → (r : Bridges) → BridgesEnded file n at count all r → BridgesRead file from r
+    pub bridges-end : endsBy (bridgeVerdict file count) n ≡ true → (r : Refusal) → verdictOf r ≡ verdictBy (bridgeVerdict file count) n
+        → BridgesRead file from (record { refusal = r; at = at; count = count; all = all })
     unfolding endsBy verdictBy bridgeVerdict NextIs
-    bridges-end ends r is = subst (BridgesRead file from) (sym (is .rest)) (go n refl)
+    bridges-end ends r is = go n refl
       where
-        go : (x : Next) → n ≡ x → BridgesRead file from (record { refusal = r .refusal; at = at; count = count; all = all })
-        go Other e = bridges-read (r .refusal) (stops (sofar .so) (rw e at (turn .own)) ∙ ap (λ (v : Verdict). stageOf v (sofar .bridges) (cutFrom file at)) (sym (rw e at (is .why))))
+        go : (x : Next) → n ≡ x → BridgesRead file from (record { refusal = r; at = at; count = count; all = all })
+        go Other e = bridges-read r (stops (sofar .so) (rw e at (turn .own)) ∙ ap (λ (v : Verdict). stageOf v (sofar .bridges) (cutFrom file at)) (sym (rw e at is)))
         go (Found f) e =
             let here : NextIs file at bridge-tag (Found f) = rw e at (turn .own) in
-            let why : verdictOf (r .refusal) ≡ firstOf (bridgeTests count (f .at) (bodyOf file f)) = rw e at (is .why) in
-            bridges-refused f (here .0) (here .1) (r .refusal) why (ap isRefused why ∙ (rw e at ends))
+            let why : verdictOf r ≡ firstOf (bridgeTests count (f .at) (bodyOf file f)) = rw e at is in
+            bridges-refused f (here .0) (here .1) r why (ap isRefused why ∙ (rw e at ends))
 
     -- of a bridge that does not end the stage
     module _ (goes : endsBy (bridgeVerdict file count) n ≡ false) where

@@ -15,7 +15,7 @@ use Rattle.circuit.specs.Stages.{stageOf, bridgeStage}
 use Rattle.circuit.specs.Known.{listedIn}
 use Rattle.circuit.specs.Table.{Verdict, firstOf, bridgeTests}
 use Rattle.circuit.specs.declared.Bridge.{Bridge as BridgeRecord}
-use Rattle.read_fields.specs.Steps.{bodyOf, verdictBy}
+use Rattle.read_fields.specs.Steps.{bodyOf}
 use Rattle.read_fields.specs.declared.Field.{Field as FieldRecord}
 use Rattle.read_fields.specs.declared.Next.{Next}
 use Rattle.read_fields.specs.declared.Next.the-variants.{Found, Other}
@@ -33,11 +33,6 @@ bridgeKept file f = bridgeRecord (listedIn (bodyOf file f))
 unfoldable pub BridgeNext : List ℕ → Next → Type 0
 BridgeNext file (Found f) = (f .body + f .len ≤ length file) × (getD (bodyOf file f) 1 0 ≤ 1)
 BridgeNext file Other = Unit {0}
-
--- what is given where the stage ends
-pub record BridgesEnded (file : List ℕ) (found : Next) (at count : ℕ) (all : List BridgeRecord) (r : Bridges) : Type 0 where
-  pub why : verdictOf (r .refusal) ≡ verdictBy (bridgeVerdict file count) found
-  pub rest : r ≡ record { refusal = r .refusal; at = at; count = count; all = all }
 
 -- the bridges from an offset on
 pub record BridgesRead (file : List ℕ) (from : ℕ) (r : Bridges) : Type 0 where

@@ -20,8 +20,8 @@ ghost use Rattle.circuit.specs.Known.{listedIn};
 ghost use Rattle.circuit.specs.Table.{firstOf, bridgeInRange, bridgeTests};
 ghost use Rattle.circuit.specs.Records.{unusedBridge, bridgeRecord};
 ghost use Rattle.circuit.specs.Refusals.{verdictOf};
-ghost use Rattle.read_fields.specs.Steps.{bodyOf, NextIn, endsBy, keptBy};
-ghost use Rattle.read_bridges.specs.ReadBridges.{bridgeVerdict, bridgeKept, BridgeNext, BridgesEnded, BridgesRead};
+ghost use Rattle.read_fields.specs.Steps.{bodyOf, NextIn, endsBy, verdictBy, keptBy};
+ghost use Rattle.read_bridges.specs.ReadBridges.{bridgeVerdict, bridgeKept, BridgeNext, BridgesRead};
 
 pub struct Bridges {
     pub refusal: Refusal,
@@ -108,15 +108,21 @@ fn bridge_of(file: &[u8], found: Next) -> Bridge
     }
 }
 
-// What was read, with why the stage ended there.
-fn ended(file: &[u8], found: Next, at: usize, count: usize, all: [Bridge; MOST_BRIDGES]) -> Bridges
+// Why the stage ends here: the verdict on the bridge that stands next, if one does.
+fn why_ended(file: &[u8], found: Next, count: usize) -> Refusal
     requires { ⌜ NextIn (now file) found ⌝ }
-    ensures { λ r. ⌜ BridgesEnded (now (file .entry)) found at count all r ⌝ }
+    ensures { λ r. ⌜ verdictOf r ≡ verdictBy (bridgeVerdict (now (file .entry)) count) found ⌝ }
 {
-    let refusal = match found {
+    match found {
         Next::Found(f) => bridge_verdict(file, f, count),
         Next::Other => Refusal::Nothing,
-    };
+    }
+}
+
+// What was read, with why the stage ended there. The array is copied once: it would be again in a function that looks at what was found.
+fn ended(refusal: Refusal, at: usize, count: usize, all: [Bridge; MOST_BRIDGES]) -> Bridges
+    ensures { λ r. ⌜ r ≡ record { refusal = refusal; at = at; count = count; all = all } ⌝ }
+{
     Bridges {
         refusal,
         at,
@@ -143,7 +149,7 @@ pub fn read_bridges(file: &[u8], from: usize) -> Bridges
         let at = reader.at;
         let found = own_field(next(&mut reader), Kind::Bridge);
         if ends(file, found, count) {
-            return ended(file, found, at, count, all);
+            return ended(why_ended(file, found, count), at, count, all);
         }
         all[count] = bridge_of(file, found);
         count += 1;

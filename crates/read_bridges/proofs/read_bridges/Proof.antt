@@ -21,7 +21,7 @@ use prog.Wp.{Heap, Out, Env, afterSeq, afterBlock, afterTurn, Calls, Loops, Wp, 
 use ghost.Atoms.{Atoms, sem}
 use contract.Monad.{Fun}
 use contract.Running.{givenOf, tables, tablesOf}
-use types.Kit.{Given, Item, ‵, raw, some, _⊛_, ⋆, runs, anyQ, atRet, Sq, _$_, _∵_, !, qed, by, move, keep, drop, use1, use2, use3, split, join, pick, rewrite, fsplit, fjoin, feqI, suffices, frame, done}
+use types.Kit.{Given, Item, ‵, raw, some, _⊛_, ⋆, runs, anyQ, atRet, Sq, _$_, _∵_, !, qed, by, move, keep, drop, use1, use2, split, join, pick, rewrite, fsplit, fjoin, feqI, suffices, frame, done}
 use types.Part.{whole, sub, look-in}
 use types.Share.{arr-parts}
 use types.Run.{look, store, store-raw, init, forget, stop, hop, fld, from, load, lit, of-opd, bin, addr, and-then, no-more, assigns, assigns-last, land, first, skips, blocks, branches, returns-within, enter, alloc1, alloc0, params1, pass1, pass0, free1, free0, exec, Below, again, loops}
@@ -49,16 +49,20 @@ use Rattle.circuit.specs.declared.Bridge.{Bridge as BridgeRecord}
 use Rattle.circuit.specs.Records.{unusedBridge}
 use Rattle.circuit.proofs.Bridge as T
 use Rattle.circuit.proofs.Bridge.Laws as T′
-use Rattle.read_bridges.specs.ReadBridges.{bridgeVerdict, bridgeKept, BridgeNext, BridgesEnded, BridgesRead}
+use Rattle.read_bridges.specs.ReadBridges.{bridgeVerdict, bridgeKept, BridgeNext, BridgesRead}
 use Rattle.read_bridges.specs.declared.Bridges.{Bridges}
 use Rattle.read_bridges.proofs.Bridges as R
 use Rattle.read_bridges.proofs.Bridges.Laws as R′
 use Rattle.read_bridges.proofs.BridgeLaws.{BridgesSoFar, no-bridges, bridges-end, bridge-next, bridges-more}
 use Rattle.circuit.specs.Order.{bridge-tag}
 use Rattle.circuit.specs.declared.order.Kind.the-variants.{Bridge}
+use Rattle.circuit.specs.Refusals.{verdictOf}
+use Rattle.circuit.specs.declared.refusal.Refusal.{Refusal}
+use Rattle.circuit.proofs.refusal.Refusal as Rf
+use Rattle.circuit.proofs.refusal.Refusal.Laws as Rf′
 use Rattle.circuit.proofs.order.Kind as Kd
 use Rattle.circuit.proofs.order.Kind.Laws as Kd′
-use Rattle.read_fields.specs.Steps.{NextIn, endsBy, keptBy}
+use Rattle.read_fields.specs.Steps.{NextIn, endsBy, verdictBy, keptBy}
 use Rattle.read_fields.specs.declared.Next.{Next}
 use Rattle.read_fields.proofs.Step.Laws as S′
 use Rattle.read_fields.proofs.Next as N
@@ -81,6 +85,10 @@ use Rattle.read_bridges.proofs.ends as ends
 use Rattle.read_bridges.proofs.ends.Symbol as ends-def
 use Rattle.read_bridges.proofs.ends.Symbol.{name as #ends}
 use Rattle.read_bridges.proofs.ends.Met as ends-thm
+use Rattle.read_bridges.proofs.why_ended as why
+use Rattle.read_bridges.proofs.why_ended.Symbol as why-def
+use Rattle.read_bridges.proofs.why_ended.Symbol.{name as #why}
+use Rattle.read_bridges.proofs.why_ended.Met as why-thm
 use Rattle.read_bridges.proofs.ended as ended
 use Rattle.read_bridges.proofs.ended.Symbol as ended-def
 use Rattle.read_bridges.proofs.ended.Symbol.{name as #ended}
@@ -115,15 +123,17 @@ abbrev array : Ty
 array = tyArray T′.mir 256
 
 abbrev more : Body
-more = seq (call #one (copy (place 1 []) ∷ copy (place 7 []) ∷ []) (place 15 []))
-    (seq (assign (place 16 []) (op2 (mul unsigned) (copy (place 5 [])) (int w64 4)))
-    (seq (assign (place 17 []) (addrOf (place 4 [])))
-    (seq (assign (place 18 []) (op2 offset (copy (place 17 [])) (copy (place 16 []))))
-    (seq (assign (place 18 (deref T′.mir ∷ [])) (rvOpd (copy (place 15 []))))
+more = seq (call #one (copy (place 1 []) ∷ copy (place 7 []) ∷ []) (place 16 []))
+    (seq (assign (place 17 []) (op2 (mul unsigned) (copy (place 5 [])) (int w64 4)))
+    (seq (assign (place 18 []) (addrOf (place 4 [])))
+    (seq (assign (place 19 []) (op2 offset (copy (place 18 [])) (copy (place 17 []))))
+    (seq (assign (place 19 (deref T′.mir ∷ [])) (rvOpd (copy (place 16 []))))
     (assign (place 5 []) (op2 (add unsigned) (copy (place 5 [])) (int w64 1)))))))
 
 abbrev left : Body
-left = seq (assign (place 14 []) (rvOpd (copy (place 4 [])))) (seq (call #ended (copy (place 1 []) ∷ copy (place 7 []) ∷ copy (place 6 []) ∷ copy (place 5 []) ∷ copy (place 14 []) ∷ []) (place 0 [])) return)
+left = seq (call #why (copy (place 1 []) ∷ copy (place 7 []) ∷ copy (place 5 []) ∷ []) (place 14 []))
+    (seq (assign (place 15 []) (rvOpd (copy (place 4 []))))
+    (seq (call #ended (copy (place 14 []) ∷ copy (place 6 []) ∷ copy (place 5 []) ∷ copy (place 15 []) ∷ []) (place 0 [])) return))
 
 abbrev turn : Body
 turn = seq (assign (place 6 []) (rvOpd (copy (place 3 (field 1 ∷ [])))))
@@ -138,6 +148,9 @@ module _ {M : Type 1} (𝓤 : URA M) (H : Heap 𝓤) (A : Atoms 𝓤) (mem : Mem
   -- the contracts that the proof cites
   abbrev Ends : Contract 𝓤
   Ends = tripleOf 𝓤 H A ends.signature (ends.spec 𝓤 H A mem run)
+
+  abbrev Why : Contract 𝓤
+  Why = tripleOf 𝓤 H A why.signature (why.spec 𝓤 H A mem run)
 
   abbrev Ended : Contract 𝓤
   Ended = tripleOf 𝓤 H A ended.signature (ended.spec 𝓤 H A mem run)
@@ -180,6 +193,15 @@ module _ {M : Type 1} (𝓤 : URA M) (H : Heap 𝓤) (A : Atoms 𝓤) (W : Given
       qed W (Token ∷ ‵ Own ∷ []) ∵ move ! (1 ∷ []) $ use1 W (‵ Own ⊛ ‵ Own) (Lo.twice 𝓤 H A W mem run κ q s) $ split ! $ nothing ! $ owned ! usize (Is usize) (uint-makes 𝓤 H A W w64) k _ (refl, fits) $ fjoin ! $ owned ! N.the-row (Is N.the-row) (EL.makes N.the-type N′.the-plain 𝓤 H A) t _ is $ fjoin ! $ move ! (1 ∷ 0 ∷ []) $ fjoin ! $
       move ! (2 ∷ 0 ∷ []) $ use2 W (raw (Ends 𝓤 H A mem run .pre (to-ends t u k))) (qed W (Token ∷ ‵ (owns (ShrSlice (named 0) κ u8 ∷ N.the-row ∷ usize ∷ []) (s, (t, (k, tt))) (file ∷ [], (u ∷ [], (vint w64 k ∷ [], tt)))) ∷ []) ∵ says ! inside $ done !) $ frame ! $ done !
 
+  -- the call of `why_ended`
+  abbrev to-why : Next → Val → ℕ → Why 𝓤 H A mem run .Ghost
+  to-why t u k = (((κ, tt), (q, tt), tt, (s, (t, (k, tt))), (file ∷ [], (u ∷ [], (vint w64 k ∷ [], tt)))), tt)
+
+  goes-why : (t : Next) (u : Val) (k : ℕ) → Is N.the-row t (u ∷ []) → k < 2 ^ 64 → NextIn (now s) t → ent 𝓤 (⋆ 𝓤 H A (Token ∷ ‵ Own ∷ [])) (sep 𝓤 (Why 𝓤 H A mem run .pre (to-why t u k)) (sem 𝓤 H A Own))
+  goes-why t u k is fits inside =
+      qed W (Token ∷ ‵ Own ∷ []) ∵ move ! (1 ∷ []) $ use1 W (‵ Own ⊛ ‵ Own) (Lo.twice 𝓤 H A W mem run κ q s) $ split ! $ nothing ! $ owned ! usize (Is usize) (uint-makes 𝓤 H A W w64) k _ (refl, fits) $ fjoin ! $ owned ! N.the-row (Is N.the-row) (EL.makes N.the-type N′.the-plain 𝓤 H A) t _ is $ fjoin ! $ move ! (1 ∷ 0 ∷ []) $ fjoin ! $
+      move ! (2 ∷ 0 ∷ []) $ use2 W (raw (Why 𝓤 H A mem run .pre (to-why t u k))) (qed W (Token ∷ ‵ (owns (ShrSlice (named 0) κ u8 ∷ N.the-row ∷ usize ∷ []) (s, (t, (k, tt))) (file ∷ [], (u ∷ [], (vint w64 k ∷ [], tt)))) ∷ []) ∵ says ! inside $ done !) $ frame ! $ done !
+
   -- the call of `bridge_of`
   abbrev to-one : Next → Val → One 𝓤 H A mem run .Ghost
   to-one t u = (((κ, tt), (q, tt), tt, (s, (t, tt)), (file ∷ [], (u ∷ [], tt))), tt)
@@ -190,13 +212,12 @@ module _ {M : Type 1} (𝓤 : URA M) (H : Heap 𝓤) (A : Atoms 𝓤) (W : Given
       move ! (2 ∷ 0 ∷ []) $ use2 W (raw (One 𝓤 H A mem run .pre (to-one t u))) (qed W (Token ∷ ‵ (owns (ShrSlice (named 0) κ u8 ∷ N.the-row ∷ []) (s, (t, tt)) (file ∷ [], (u ∷ [], tt))) ∷ []) ∵ says ! inside $ done !) $ frame ! $ done !
 
   -- the call of `ended`
-  abbrev to-ended : Next → Val → ℕ → ℕ → List BridgeRecord → Val → Ended 𝓤 H A mem run .Ghost
-  to-ended t u m k all va = (((κ, tt), (q, tt), tt, (s, (t, (m, (k, (all, tt))))), (file ∷ [], (u ∷ [], (vint w64 m ∷ [], (vint w64 k ∷ [], (va ∷ [], tt)))))), tt)
+  abbrev to-ended : Refusal → Val → ℕ → ℕ → List BridgeRecord → Val → Ended 𝓤 H A mem run .Ghost
+  to-ended b u m k all va = ((tt, tt, tt, (b, (m, (k, (all, tt)))), (u ∷ [], (vint w64 m ∷ [], (vint w64 k ∷ [], (va ∷ [], tt))))), tt)
 
-  goes-ended : (t : Next) (u : Val) (m : ℕ) (k : ℕ) (all : List BridgeRecord) (va : Val) → Is N.the-row t (u ∷ []) → m < 2 ^ 64 → k < 2 ^ 64 → NextIn (now s) t → ent 𝓤 (⋆ 𝓤 H A (Token ∷ ‵ Own ∷ ‵ (All .own all (va ∷ [])) ∷ [])) (sep 𝓤 (Ended 𝓤 H A mem run .pre (to-ended t u m k all va)) (sem 𝓤 H A Own))
-  goes-ended t u m k all va is there fits inside =
-      qed W (Token ∷ ‵ Own ∷ ‵ (All .own all (va ∷ [])) ∷ []) ∵ move ! (1 ∷ []) $ use1 W (‵ Own ⊛ ‵ Own) (Lo.twice 𝓤 H A W mem run κ q s) $ split ! $ nothing ! $ move ! (4 ∷ 0 ∷ []) $ fjoin ! $ owned ! usize (Is usize) (uint-makes 𝓤 H A W w64) k _ (refl, fits) $ fjoin ! $ owned ! usize (Is usize) (uint-makes 𝓤 H A W w64) m _ (refl, there) $ fjoin ! $ owned ! N.the-row (Is N.the-row) (EL.makes N.the-type N′.the-plain 𝓤 H A) t _ is $ fjoin ! $ move ! (1 ∷ 0 ∷ []) $ fjoin ! $
-      move ! (2 ∷ 0 ∷ []) $ use2 W (raw (Ended 𝓤 H A mem run .pre (to-ended t u m k all va))) (qed W (Token ∷ ‵ (owns (ShrSlice (named 0) κ u8 ∷ N.the-row ∷ usize ∷ usize ∷ All ∷ []) (s, (t, (m, (k, (all, tt))))) (file ∷ [], (u ∷ [], (vint w64 m ∷ [], (vint w64 k ∷ [], (va ∷ [], tt)))))) ∷ []) ∵ says ! inside $ done !) $ frame ! $ done !
+  goes-ended : (b : Refusal) (u : Val) (m : ℕ) (k : ℕ) (all : List BridgeRecord) (va : Val) → Is Rf.the-row b (u ∷ []) → m < 2 ^ 64 → k < 2 ^ 64 → ent 𝓤 (sem 𝓤 H A (All .own all (va ∷ []))) (Ended 𝓤 H A mem run .pre (to-ended b u m k all va))
+  goes-ended b u m k all va is there fits =
+      qed W (‵ (All .own all (va ∷ [])) ∷ []) ∵ nothing ! $ move ! (1 ∷ 0 ∷ []) $ fjoin ! $ owned ! usize (Is usize) (uint-makes 𝓤 H A W w64) k _ (refl, fits) $ fjoin ! $ owned ! usize (Is usize) (uint-makes 𝓤 H A W w64) m _ (refl, there) $ fjoin ! $ owned ! Rf.the-row (Is Rf.the-row) (EL.makes Rf.the-type Rf′.the-plain 𝓤 H A) b _ is $ fjoin ! $ nothing ! $ join ! $ frame ! $ done !
 
   -- the call of `no_bridges`
   abbrev to-blank : Blank 𝓤 H A mem run .Ghost
@@ -231,8 +252,8 @@ module _ {M : Type 1} (𝓤 : URA M) (H : Heap 𝓤) (A : Atoms 𝓤) (W : Given
   fits-of i = omega (arith, i .4 .so .counted, i .4 .so .within)
 
   module _ (𝓣 : Tables 𝓤 H) (fm : FmC 𝓤 H (W .laws) (𝓣 .C)) (known-made : Triple 𝓤 (𝓣 .C #reader-at) (ReaderAt 𝓤 H A mem run)) (known-next : Triple 𝓤 (𝓣 .C #next) (Stepping 𝓤 H A mem run)) (known-own : Triple 𝓤 (𝓣 .C #own-field) (OwnField 𝓤 H A mem run))
-      (known-ends : Triple 𝓤 (𝓣 .C #ends) (Ends 𝓤 H A mem run)) (known-ended : Triple 𝓤 (𝓣 .C #ended) (Ended 𝓤 H A mem run)) (known-one : Triple 𝓤 (𝓣 .C #one) (One 𝓤 H A mem run)) (known-blank : Triple 𝓤 (𝓣 .C #blank) (Blank 𝓤 H A mem run))
-      (l₀ l₁ l₂ l₃ l₄ l₅ l₆ l₇ l₈ l₉ m₀ m₁ m₂ m₃ m₄ m₅ m₆ m₇ m₈ : ℕ) where
+      (known-ends : Triple 𝓤 (𝓣 .C #ends) (Ends 𝓤 H A mem run)) (known-why : Triple 𝓤 (𝓣 .C #why) (Why 𝓤 H A mem run)) (known-ended : Triple 𝓤 (𝓣 .C #ended) (Ended 𝓤 H A mem run)) (known-one : Triple 𝓤 (𝓣 .C #one) (One 𝓤 H A mem run)) (known-blank : Triple 𝓤 (𝓣 .C #blank) (Blank 𝓤 H A mem run))
+      (l₀ l₁ l₂ l₃ l₄ l₅ l₆ l₇ l₈ l₉ m₀ m₁ m₂ m₃ m₄ m₅ m₆ m₇ m₈ m₉ : ℕ) where
     abbrev C : Calls 𝓤 H
     C = 𝓣 .C
 
@@ -240,11 +261,11 @@ module _ {M : Type 1} (𝓤 : URA M) (H : Heap 𝓤) (A : Atoms 𝓤) (W : Given
     Λ = 𝓣 .Λ
 
     abbrev En : Env 𝓤 H
-    En = (R′.mir, l₀) ∷ (slice, l₁) ∷ (word, l₂) ∷ (readerTy, l₃) ∷ (array, l₄) ∷ (word, l₅) ∷ (word, l₆) ∷ (N′.mir, l₇) ∷ (readerTy, l₈) ∷ (array, l₉) ∷ (S′.mir, m₀) ∷ (loan, m₁) ∷ (Kd′.mir, m₂) ∷ (tyBool, m₃) ∷ (array, m₄) ∷ (T′.mir, m₅) ∷ (word, m₆) ∷ (tyPtr, m₇) ∷ (tyPtr, m₈) ∷ []
+    En = (R′.mir, l₀) ∷ (slice, l₁) ∷ (word, l₂) ∷ (readerTy, l₃) ∷ (array, l₄) ∷ (word, l₅) ∷ (word, l₆) ∷ (N′.mir, l₇) ∷ (readerTy, l₈) ∷ (array, l₉) ∷ (S′.mir, m₀) ∷ (loan, m₁) ∷ (Kd′.mir, m₂) ∷ (tyBool, m₃) ∷ (Rf′.mir, m₄) ∷ (array, m₅) ∷ (T′.mir, m₆) ∷ (word, m₇) ∷ (tyPtr, m₈) ∷ (tyPtr, m₉) ∷ []
 
     -- the locals, the last first, by what those hold that change
     abbrev Locals : (test found stood : Fml) (m count : ℕ) (all : Fml) → List (Item 𝓤) → List (Item 𝓤)
-    Locals test found stood m count all Γ = ‵ (froom tyPtr m₈ 0) ∷ ‵ (fdies tyPtr m₈) ∷ ‵ (froom tyPtr m₇ 0) ∷ ‵ (fdies tyPtr m₇) ∷ ‵ (froom word m₆ 0) ∷ ‵ (fdies word m₆) ∷ ‵ (froom T′.mir m₅ 0) ∷ ‵ (fdies T′.mir m₅) ∷ ‵ (froom array m₄ 0) ∷ ‵ (fdies array m₄) ∷ ‵ test ∷ ‵ (fdies tyBool m₃) ∷ ‵ (froom Kd′.mir m₂ 0) ∷ ‵ (fdies Kd′.mir m₂) ∷ ‵ (froom loan m₁ 0) ∷ ‵ (fdies loan m₁) ∷ ‵ (froom S′.mir m₀ 0) ∷ ‵ (fdies S′.mir m₀) ∷ ‵ (froom array l₉ 0) ∷ ‵ (fdies array l₉) ∷ ‵ (froom readerTy l₈ 0) ∷ ‵ (fdies readerTy l₈) ∷ ‵ found ∷ ‵ (fdies N′.mir l₇) ∷ ‵ stood ∷ ‵ (fdies word l₆) ∷ ‵ (fat fullShare word l₅ 0 (vint w64 count)) ∷ ‵ (fdies word l₅) ∷ ‵ all ∷ ‵ (fdies array l₄) ∷ ‵ (Lo.Cell 𝓤 H A W mem run κ q s l₃ m) ∷ ‵ (fdies readerTy l₃) ∷ ‵ (fat fullShare word l₂ 0 (vint w64 n)) ∷ ‵ (fdies word l₂) ∷ ‵ (fat fullShare slice l₁ 0 file) ∷ ‵ (fdies slice l₁) ∷ ‵ (froom R′.mir l₀ 0) ∷ ‵ (fdies R′.mir l₀) ∷ Γ
+    Locals test found stood m count all Γ = ‵ (froom tyPtr m₉ 0) ∷ ‵ (fdies tyPtr m₉) ∷ ‵ (froom tyPtr m₈ 0) ∷ ‵ (fdies tyPtr m₈) ∷ ‵ (froom word m₇ 0) ∷ ‵ (fdies word m₇) ∷ ‵ (froom T′.mir m₆ 0) ∷ ‵ (fdies T′.mir m₆) ∷ ‵ (froom array m₅ 0) ∷ ‵ (fdies array m₅) ∷ ‵ (froom Rf′.mir m₄ 0) ∷ ‵ (fdies Rf′.mir m₄) ∷ ‵ test ∷ ‵ (fdies tyBool m₃) ∷ ‵ (froom Kd′.mir m₂ 0) ∷ ‵ (fdies Kd′.mir m₂) ∷ ‵ (froom loan m₁ 0) ∷ ‵ (fdies loan m₁) ∷ ‵ (froom S′.mir m₀ 0) ∷ ‵ (fdies S′.mir m₀) ∷ ‵ (froom array l₉ 0) ∷ ‵ (fdies array l₉) ∷ ‵ (froom readerTy l₈ 0) ∷ ‵ (fdies readerTy l₈) ∷ ‵ found ∷ ‵ (fdies N′.mir l₇) ∷ ‵ stood ∷ ‵ (fdies word l₆) ∷ ‵ (fat fullShare word l₅ 0 (vint w64 count)) ∷ ‵ (fdies word l₅) ∷ ‵ all ∷ ‵ (fdies array l₄) ∷ ‵ (Lo.Cell 𝓤 H A W mem run κ q s l₃ m) ∷ ‵ (fdies readerTy l₃) ∷ ‵ (fat fullShare word l₂ 0 (vint w64 n)) ∷ ‵ (fdies word l₂) ∷ ‵ (fat fullShare slice l₁ 0 file) ∷ ‵ (fdies slice l₁) ∷ ‵ (froom R′.mir l₀ 0) ∷ ‵ (fdies R′.mir l₀) ∷ Γ
 
     abbrev At : Upto → List (Item 𝓤)
     At i = Locals (froom tyBool m₃ 0) (froom N′.mir l₇ 0) (froom word l₆ 0) (i .2) (i .1) (row T.the-row fullShare (i .0) l₄ 0) (‵ Own ∷ Token ∷ ‵ Owns ∷ [])
@@ -261,14 +282,19 @@ module _ {M : Type 1} (𝓤 : URA M) (H : Heap 𝓤) (A : Atoms 𝓤) (W : Given
     leaves : (i : Upto) (t : Next) (u : Val) (m : ℕ) → Turned (now s) (i .2) bridge-tag t m → Is N.the-row t (u ∷ []) → endsBy (bridgeVerdict (now s) (i .1)) t ≡ true → Sq W (Told i u m true) (runs C Λ En left (anyQ (afterSeq 𝓤 H (Wp 𝓤 H C Λ En more (After i)) (After i))))
     unfolding afterTurn
     leaves i t u m turn is ends =
-        move ! (30 ∷ []) $ feqI ! ℕ (length (i .0)) 256 (i .3) $ fjoin ! $ use1 W (some (λ (va : Val). ‵ (fat fullShare array l₄ 0 va) ⊛ ‵ (All .own (i .0) (va ∷ [])))) (array-of 𝓤 H A W T.the-row 256 l₄ 0 (i .0)) $ pick ! (λ va. split ! $ move ! (1 ∷ []) $ peeks ! All (Is All) (shows 𝓤 H A All) (i .0) (va ∷ []) (λ arr.
+        use2 W (raw (Why 𝓤 H A mem run .pre (to-why t u (i .1))) ⊛ ‵ Own) (goes-why t u (i .1) is (fits-of i) (next-in (now s) (i .2) bridge-tag t (turn .own))) $ split ! $
+        called W why.ended (why.clauses 𝓤 H A mem run) (to-why t u (i .1) .0) tt ! fm known-why (λ b ws. verdictOf b ≡ verdictBy (bridgeVerdict (now s) (i .1)) t) (λ b ws. id⊢ 𝓤 _) (and-then ! (load ! (from ! (stop !)) (look ! 38 refl)) (and-then ! (load ! (from ! (stop !)) (look ! 26 refl)) (and-then ! (load ! (from ! (stop !)) (look ! 30 refl)) (no-more !)))) (λ b ws₁ v told is₁.
+        land ! (from ! (stop !)) (init ! 14 refl (EL.lawful Rf.the-type Rf′.the-laws 𝓤 H A W tt .typed b _ is₁ .0)) $
+        move ! (1 ∷ []) $ use1 W Token (id⊢ 𝓤 _) $
+        keep ! (0 ∷ 3 ∷ 4 ∷ 5 ∷ 6 ∷ 7 ∷ 8 ∷ 9 ∷ 10 ∷ 11 ∷ 12 ∷ 13 ∷ 14 ∷ 15 ∷ 16 ∷ 17 ∷ 18 ∷ 19 ∷ 20 ∷ 21 ∷ 22 ∷ 23 ∷ 24 ∷ 25 ∷ 26 ∷ 27 ∷ 28 ∷ 29 ∷ 30 ∷ 31 ∷ 32 ∷ 33 ∷ 34 ∷ 35 ∷ 36 ∷ 37 ∷ 38 ∷ 39 ∷ 40 ∷ 41 ∷ 42 ∷ 43 ∷ 44 ∷ []) $
+        move ! (32 ∷ []) $ feqI ! ℕ (length (i .0)) 256 (i .3) $ fjoin ! $ use1 W (some (λ (va : Val). ‵ (fat fullShare array l₄ 0 va) ⊛ ‵ (All .own (i .0) (va ∷ [])))) (array-of 𝓤 H A W T.the-row 256 l₄ 0 (i .0)) $ pick ! (λ va. split ! $ move ! (1 ∷ []) $ peeks ! All (Is All) (shows 𝓤 H A All) (i .0) (va ∷ []) (λ arr.
         assigns ! (of-opd ! (load ! (from ! (stop !)) (look ! 1 refl))) (from ! (stop !)) (init ! 12 refl (array-lawful 𝓤 H A W T.the-row (LL.lawful T.the-type T′.the-laws 𝓤 H A W) 256 .typed (i .0) _ arr .0)) $
-        move ! (2 ∷ 3 ∷ 0 ∷ []) $ use3 W (raw (Ended 𝓤 H A mem run .pre (to-ended t u (i .2) (i .1) (i .0) va)) ⊛ ‵ Own) (goes-ended t u (i .2) (i .1) (i .0) va is (there-of i) (fits-of i) (next-in (now s) (i .2) bridge-tag t (turn .own))) $ split ! $
-        called W ended.ended (ended.clauses 𝓤 H A mem run) (to-ended t u (i .2) (i .1) (i .0) va .0) tt ! fm known-ended (λ r ws. BridgesEnded (now s) t (i .2) (i .1) (i .0) r) (λ r ws. id⊢ 𝓤 _) (and-then ! (load ! (from ! (stop !)) (look ! 36 refl)) (and-then ! (load ! (from ! (stop !)) (look ! 25 refl)) (and-then ! (load ! (from ! (stop !)) (look ! 27 refl)) (and-then ! (load ! (from ! (stop !)) (look ! 29 refl)) (and-then ! (load ! (from ! (stop !)) (look ! 11 refl)) (no-more !)))))) (λ r ws w e told.
-        land ! (from ! (stop !)) (init ! 40 refl (LL.lawful R.the-type R′.the-laws 𝓤 H A W .typed r _ told .0)) $ returns-within ! Post refl (look ! 40 refl) $
-        forget ! 4 refl $ forget ! 13 refl $ forget ! 15 refl $ forget ! 27 refl $ forget ! 29 refl $ forget ! 31 refl $ forget ! 34 refl $ forget ! 36 refl $ forget ! 38 refl $ forget ! 40 refl $
-        move ! (40 ∷ 41 ∷ []) $ free1 ! $ move ! (38 ∷ 39 ∷ []) $ free1 ! $ move ! (36 ∷ 37 ∷ []) $ free1 ! $ move ! (34 ∷ 35 ∷ []) $ free1 ! $ move ! (4 ∷ 33 ∷ []) $ free1 ! $ move ! (30 ∷ 31 ∷ []) $ free1 ! $ move ! (28 ∷ 29 ∷ []) $ free1 ! $ move ! (26 ∷ 27 ∷ []) $ free1 ! $ move ! (24 ∷ 25 ∷ []) $ free1 ! $ move ! (22 ∷ 23 ∷ []) $ free1 ! $ move ! (20 ∷ 21 ∷ []) $ free1 ! $ move ! (18 ∷ 19 ∷ []) $ free1 ! $ move ! (16 ∷ 17 ∷ []) $ free1 ! $ move ! (14 ∷ 15 ∷ []) $ free1 ! $ move ! (12 ∷ 13 ∷ []) $ free1 ! $ move ! (10 ∷ 11 ∷ []) $ free1 ! $ move ! (8 ∷ 9 ∷ []) $ free1 ! $ move ! (6 ∷ 7 ∷ []) $ free1 ! $ move ! (4 ∷ 5 ∷ []) $ free1 ! $ free0 ! $
-        keep ! (0 ∷ 1 ∷ 4 ∷ []) $ by ! (exits r w (bridges-end (i .4) turn ends r e)))))
+        use1 W (raw (Ended 𝓤 H A mem run .pre (to-ended b v (i .2) (i .1) (i .0) va))) (goes-ended b v (i .2) (i .1) (i .0) va is₁ (there-of i) (fits-of i)) $
+        called W ended.ended (ended.clauses 𝓤 H A mem run) (to-ended b v (i .2) (i .1) (i .0) va .0) tt ! fm known-ended (λ r ws. r ≡ record { refusal = b; at = i .2; count = i .1; all = i .0 }) (λ r ws. id⊢ 𝓤 _) (and-then ! (load ! (from ! (stop !)) (look ! 14 refl)) (and-then ! (load ! (from ! (stop !)) (look ! 30 refl)) (and-then ! (load ! (from ! (stop !)) (look ! 32 refl)) (and-then ! (load ! (from ! (stop !)) (look ! 12 refl)) (no-more !))))) (λ r ws w e is₂.
+        land ! (from ! (stop !)) (init ! 43 refl (LL.lawful R.the-type R′.the-laws 𝓤 H A W .typed r _ is₂ .0)) $ returns-within ! Post refl (look ! 43 refl) $
+        forget ! 3 refl $ forget ! 14 refl $ forget ! 16 refl $ forget ! 18 refl $ forget ! 30 refl $ forget ! 32 refl $ forget ! 34 refl $ forget ! 37 refl $ forget ! 39 refl $ forget ! 41 refl $ forget ! 43 refl $
+        move ! (43 ∷ 44 ∷ []) $ free1 ! $ move ! (41 ∷ 42 ∷ []) $ free1 ! $ move ! (39 ∷ 40 ∷ []) $ free1 ! $ move ! (37 ∷ 38 ∷ []) $ free1 ! $ move ! (3 ∷ 36 ∷ []) $ free1 ! $ move ! (33 ∷ 34 ∷ []) $ free1 ! $ move ! (31 ∷ 32 ∷ []) $ free1 ! $ move ! (29 ∷ 30 ∷ []) $ free1 ! $ move ! (27 ∷ 28 ∷ []) $ free1 ! $ move ! (25 ∷ 26 ∷ []) $ free1 ! $ move ! (23 ∷ 24 ∷ []) $ free1 ! $ move ! (21 ∷ 22 ∷ []) $ free1 ! $ move ! (19 ∷ 20 ∷ []) $ free1 ! $ move ! (17 ∷ 18 ∷ []) $ free1 ! $ move ! (15 ∷ 16 ∷ []) $ free1 ! $ move ! (13 ∷ 14 ∷ []) $ free1 ! $ move ! (11 ∷ 12 ∷ []) $ free1 ! $ move ! (9 ∷ 10 ∷ []) $ free1 ! $ move ! (7 ∷ 8 ∷ []) $ free1 ! $ move ! (5 ∷ 6 ∷ []) $ free1 ! $ free0 ! $
+        keep ! (0 ∷ 3 ∷ 5 ∷ []) $ by ! (exits r w (subst (BridgesRead (now s) n) (sym e) (bridges-end (i .4) turn ends b told)))))))
 
     -- the stage goes on, with one element more
     keeps : (i : Upto) (t : Next) (u : Val) (m : ℕ) → Turned (now s) (i .2) bridge-tag t m → Is N.the-row t (u ∷ []) → endsBy (bridgeVerdict (now s) (i .1)) t ≡ false → Sq W (Told i u m false) (runs C Λ En more (anyQ (After i)))
@@ -279,75 +305,75 @@ module _ {M : Type 1} (𝓤 : URA M) (H : Heap 𝓤) (A : Atoms 𝓤) (W : Given
         let fits : i .1 * 4 < 2 ^ 64 = omega (arith, read .1) in
         let fits1 : i .1 + 1 < 2 ^ 64 = omega (arith, read .1) in
         use2 W (raw (One 𝓤 H A mem run .pre (to-one t u)) ⊛ ‵ Own) (goes-one t u is (bridge-next (i .4) turn goes)) $ split ! $
-        called W one.ended (one.clauses 𝓤 H A mem run) (to-one t u .0) tt ! fm known-one (λ b ws. b ≡ keptBy (bridgeKept (now s)) unusedBridge t) (λ b ws. id⊢ 𝓤 _) (and-then ! (load ! (from ! (stop !)) (look ! 36 refl)) (and-then ! (load ! (from ! (stop !)) (look ! 24 refl)) (no-more !))) (λ b ws w e is′.
+        called W one.ended (one.clauses 𝓤 H A mem run) (to-one t u .0) tt ! fm known-one (λ b ws. b ≡ keptBy (bridgeKept (now s)) unusedBridge t) (λ b ws. id⊢ 𝓤 _) (and-then ! (load ! (from ! (stop !)) (look ! 38 refl)) (and-then ! (load ! (from ! (stop !)) (look ! 26 refl)) (no-more !))) (λ b ws w e is′.
         land ! (from ! (stop !)) (init ! 10 refl (LL.lawful T.the-type T′.the-laws 𝓤 H A W .typed b _ is′ .0)) $
-        assigns ! (bin ! (load ! (from ! (stop !)) (look ! 30 refl)) (lit ! tt) (record { fits = fits })) (from ! (stop !)) (init ! 8 refl (tt, record { fits = fits })) $
+        assigns ! (bin ! (load ! (from ! (stop !)) (look ! 32 refl)) (lit ! tt) (record { fits = fits })) (from ! (stop !)) (init ! 8 refl (tt, record { fits = fits })) $
         assigns ! (addr ! (from ! (stop !))) (from ! (stop !)) (init ! 6 refl (tt, tt)) $
         assigns ! (bin ! (load ! (from ! (stop !)) (look ! 6 refl)) (load ! (from ! (stop !)) (look ! 8 refl)) tt) (from ! (stop !)) (init ! 4 refl (tt, tt)) $
-        rewrite ! 4 (λ (p : ℕ). ‵ (fat fullShare tyPtr m₈ 0 (vptr l₄ p))) (sym (place-is 4 0 (i .1))) refl $
-        move ! (32 ∷ []) $ elem-out ! T.the-row (Is T.the-row) (shows 𝓤 H A T.the-row) (LL.vals T.the-type T′.the-laws) (LL.tells T.the-type T′.the-laws) fullShare (i .0) (i .1) unusedBridge l₄ 0 inside (λ g.
+        rewrite ! 4 (λ (p : ℕ). ‵ (fat fullShare tyPtr m₉ 0 (vptr l₄ p))) (sym (place-is 4 0 (i .1))) refl $
+        move ! (34 ∷ []) $ elem-out ! T.the-row (Is T.the-row) (shows 𝓤 H A T.the-row) (LL.vals T.the-type T′.the-laws) (LL.tells T.the-type T′.the-laws) fullShare (i .0) (i .1) unusedBridge l₄ 0 inside (λ g.
         assigns ! (of-opd ! (load ! (from ! (stop !)) (look ! 13 refl))) (from ! (hop ! (look ! 7 refl) (stop !))) (store-raw ! 0 refl (LL.lawful T.the-type T′.the-laws 𝓤 H A W .typed b _ is′ .0)) $
         move ! (0 ∷ 3 ∷ 2 ∷ []) $ elem-put ! T.the-row fullShare (i .0) (i .1) b (w ∷ []) l₄ 0 inside $
-        assigns-last ! (bin ! (load ! (from ! (stop !)) (look ! 31 refl)) (lit ! tt) (record { fits = fits1 })) (from ! (stop !)) (store ! 31 refl (tt, record { fits = fits1 })) $
-        forget ! 5 refl $ forget ! 7 refl $ forget ! 9 refl $ forget ! 11 refl $ forget ! 15 refl $ forget ! 27 refl $ forget ! 29 refl $
+        assigns-last ! (bin ! (load ! (from ! (stop !)) (look ! 33 refl)) (lit ! tt) (record { fits = fits1 })) (from ! (stop !)) (store ! 33 refl (tt, record { fits = fits1 })) $
+        forget ! 5 refl $ forget ! 7 refl $ forget ! 9 refl $ forget ! 11 refl $ forget ! 17 refl $ forget ! 29 refl $ forget ! 31 refl $
         move ! (2 ∷ []) $ use1 W Token (id⊢ 𝓤 _) $
-        keep ! (5 ∷ 6 ∷ 7 ∷ 8 ∷ 9 ∷ 10 ∷ 11 ∷ 12 ∷ 13 ∷ 14 ∷ 15 ∷ 16 ∷ 17 ∷ 18 ∷ 19 ∷ 20 ∷ 21 ∷ 22 ∷ 23 ∷ 24 ∷ 25 ∷ 26 ∷ 27 ∷ 28 ∷ 29 ∷ 30 ∷ 31 ∷ 32 ∷ 1 ∷ 33 ∷ 34 ∷ 35 ∷ 36 ∷ 37 ∷ 38 ∷ 39 ∷ 40 ∷ 41 ∷ 4 ∷ 0 ∷ 42 ∷ []) $
+        keep ! (5 ∷ 6 ∷ 7 ∷ 8 ∷ 9 ∷ 10 ∷ 11 ∷ 12 ∷ 13 ∷ 14 ∷ 15 ∷ 16 ∷ 17 ∷ 18 ∷ 19 ∷ 20 ∷ 21 ∷ 22 ∷ 23 ∷ 24 ∷ 25 ∷ 26 ∷ 27 ∷ 28 ∷ 29 ∷ 30 ∷ 31 ∷ 32 ∷ 33 ∷ 34 ∷ 1 ∷ 35 ∷ 36 ∷ 37 ∷ 38 ∷ 39 ∷ 40 ∷ 41 ∷ 42 ∷ 43 ∷ 4 ∷ 0 ∷ 44 ∷ []) $
         again ! Nearer At i (set (i .0) (i .1) b, i .1 + 1, m, simp length-set (i .3), subst (λ (z : BridgeRecord). BridgesSoFar (now s) n (set (i .0) (i .1) z) (i .1 + 1) m) (sym e) (read .0)) (omega (arith, read .2, turn .within))))
 
     -- what was told decides
     by-told : (i : Upto) (t : Next) (u : Val) (m : ℕ) → Turned (now s) (i .2) bridge-tag t m → Is N.the-row t (u ∷ []) → (b : Bool) → endsBy (bridgeVerdict (now s) (i .1)) t ≡ b → Sq W (Told i u m b) (runs C Λ En (seq (cond (copy (place 13 [])) left skipᴹ) more) (anyQ (After i)))
     unfolding afterTurn
-    by-told i t u m turn is true e = first ! $ branches ! (load ! (from ! (stop !)) (look ! 12 refl)) (λ yes. leaves i t u m turn is e) (λ no. absurd no)
-    by-told i t u m turn is false e = first ! $ branches ! (load ! (from ! (stop !)) (look ! 12 refl)) (λ yes. absurd yes) (λ no. skips ! $ exec ! C Λ En more (anyQ (After i)) $ keeps i t u m turn is e)
+    by-told i t u m turn is true e = first ! $ branches ! (load ! (from ! (stop !)) (look ! 14 refl)) (λ yes. leaves i t u m turn is e) (λ no. absurd no)
+    by-told i t u m turn is false e = first ! $ branches ! (load ! (from ! (stop !)) (look ! 14 refl)) (λ yes. absurd yes) (λ no. skips ! $ exec ! C Λ En more (anyQ (After i)) $ keeps i t u m turn is e)
 
     turns : (i : Upto) → Sq W (At i) (runs C Λ En turn (anyQ (After i)))
     unfolding afterTurn
     turns i =
-        assigns ! (of-opd ! (load ! (from ! (fld ! refl (stop !))) (look-in ! 30 (sub ! 1 refl (whole !))))) (from ! (stop !)) (init ! 24 refl (tt, record { fits = there-of i })) $
-        move ! (30 ∷ 14 ∷ 16 ∷ 12 ∷ 39 ∷ 38 ∷ []) $ Lo.finds 𝓤 H A W mem run κ q s fm ! known-next known-own (λ Δ. from ! (stop !)) (λ Δ. from ! (stop !)) (tt, tt) (λ Δ. from ! (stop !)) (λ Δ. from ! (stop !)) Bridge tt (EL.owes Kd.the-type Kd′.the-laws Bridge tt) (i .2) (there-of i) (place-of i) (λ t u m turn is.
-        land ! (from ! (stop !)) (init ! 26 refl (EL.lawful N.the-type N′.the-laws 𝓤 H A W tt .typed t _ is .0)) $ drop ! $
-        keep ! (4 ∷ 5 ∷ 6 ∷ 7 ∷ 8 ∷ 9 ∷ 10 ∷ 11 ∷ 12 ∷ 13 ∷ 14 ∷ 15 ∷ 16 ∷ 17 ∷ 3 ∷ 18 ∷ 1 ∷ 19 ∷ 2 ∷ 20 ∷ 21 ∷ 22 ∷ 23 ∷ 24 ∷ 25 ∷ 26 ∷ 27 ∷ 28 ∷ 29 ∷ 30 ∷ 31 ∷ 32 ∷ 0 ∷ 33 ∷ 34 ∷ 35 ∷ 36 ∷ 37 ∷ 38 ∷ 39 ∷ 40 ∷ []) $
+        assigns ! (of-opd ! (load ! (from ! (fld ! refl (stop !))) (look-in ! 32 (sub ! 1 refl (whole !))))) (from ! (stop !)) (init ! 26 refl (tt, record { fits = there-of i })) $
+        move ! (32 ∷ 16 ∷ 18 ∷ 14 ∷ 41 ∷ 40 ∷ []) $ Lo.finds 𝓤 H A W mem run κ q s fm ! known-next known-own (λ Δ. from ! (stop !)) (λ Δ. from ! (stop !)) (tt, tt) (λ Δ. from ! (stop !)) (λ Δ. from ! (stop !)) Bridge tt (EL.owes Kd.the-type Kd′.the-laws Bridge tt) (i .2) (there-of i) (place-of i) (λ t u m turn is.
+        land ! (from ! (stop !)) (init ! 28 refl (EL.lawful N.the-type N′.the-laws 𝓤 H A W tt .typed t _ is .0)) $ drop ! $
+        keep ! (4 ∷ 5 ∷ 6 ∷ 7 ∷ 8 ∷ 9 ∷ 10 ∷ 11 ∷ 12 ∷ 13 ∷ 14 ∷ 15 ∷ 16 ∷ 17 ∷ 18 ∷ 19 ∷ 3 ∷ 20 ∷ 1 ∷ 21 ∷ 2 ∷ 22 ∷ 23 ∷ 24 ∷ 25 ∷ 26 ∷ 27 ∷ 28 ∷ 29 ∷ 30 ∷ 31 ∷ 32 ∷ 33 ∷ 34 ∷ 0 ∷ 35 ∷ 36 ∷ 37 ∷ 38 ∷ 39 ∷ 40 ∷ 41 ∷ 42 ∷ []) $
         use2 W (raw (Ends 𝓤 H A mem run .pre (to-ends t u (i .1))) ⊛ ‵ Own) (goes-ends t u (i .1) is (fits-of i) (next-in (now s) (i .2) bridge-tag t (turn .own))) $ split ! $
-        called W ends.ended (ends.clauses 𝓤 H A mem run) (to-ends t u (i .1) .0) tt ! fm known-ends (λ b ws. b ≡ endsBy (bridgeVerdict (now s) (i .1)) t) (λ b ws. id⊢ 𝓤 _) (and-then ! (load ! (from ! (stop !)) (look ! 36 refl)) (and-then ! (load ! (from ! (stop !)) (look ! 24 refl)) (and-then ! (load ! (from ! (stop !)) (look ! 28 refl)) (no-more !)))) (λ b ws w e is′.
-        land ! (from ! (stop !)) (init ! 14 refl (bool-lawful 𝓤 H A W .typed b _ is′ .0)) $ rewrite ! 14 (λ (z : Val). ‵ (fat fullShare tyBool m₃ 0 z)) (ap only is′) refl $
+        called W ends.ended (ends.clauses 𝓤 H A mem run) (to-ends t u (i .1) .0) tt ! fm known-ends (λ b ws. b ≡ endsBy (bridgeVerdict (now s) (i .1)) t) (λ b ws. id⊢ 𝓤 _) (and-then ! (load ! (from ! (stop !)) (look ! 38 refl)) (and-then ! (load ! (from ! (stop !)) (look ! 26 refl)) (and-then ! (load ! (from ! (stop !)) (look ! 30 refl)) (no-more !)))) (λ b ws w e is′.
+        land ! (from ! (stop !)) (init ! 16 refl (bool-lawful 𝓤 H A W .typed b _ is′ .0)) $ rewrite ! 16 (λ (z : Val). ‵ (fat fullShare tyBool m₃ 0 z)) (ap only is′) refl $
         move ! (1 ∷ []) $ use1 W Token (id⊢ 𝓤 _) $
-        keep ! (0 ∷ 3 ∷ 4 ∷ 5 ∷ 6 ∷ 7 ∷ 8 ∷ 9 ∷ 10 ∷ 11 ∷ 12 ∷ 13 ∷ 14 ∷ 15 ∷ 16 ∷ 17 ∷ 18 ∷ 19 ∷ 20 ∷ 21 ∷ 22 ∷ 23 ∷ 24 ∷ 25 ∷ 26 ∷ 27 ∷ 28 ∷ 29 ∷ 30 ∷ 31 ∷ 32 ∷ 33 ∷ 34 ∷ 35 ∷ 36 ∷ 37 ∷ 38 ∷ 39 ∷ 40 ∷ 41 ∷ 42 ∷ []) $
+        keep ! (0 ∷ 3 ∷ 4 ∷ 5 ∷ 6 ∷ 7 ∷ 8 ∷ 9 ∷ 10 ∷ 11 ∷ 12 ∷ 13 ∷ 14 ∷ 15 ∷ 16 ∷ 17 ∷ 18 ∷ 19 ∷ 20 ∷ 21 ∷ 22 ∷ 23 ∷ 24 ∷ 25 ∷ 26 ∷ 27 ∷ 28 ∷ 29 ∷ 30 ∷ 31 ∷ 32 ∷ 33 ∷ 34 ∷ 35 ∷ 36 ∷ 37 ∷ 38 ∷ 39 ∷ 40 ∷ 41 ∷ 42 ∷ 43 ∷ 44 ∷ []) $
         by-told i t u m turn is b (sym e)))
 
-    begins : Sq W (Token ∷ ‵ Owns ∷ ‵ (froom tyPtr m₈ 0) ∷ ‵ (fdies tyPtr m₈) ∷ ‵ (froom tyPtr m₇ 0) ∷ ‵ (fdies tyPtr m₇) ∷ ‵ (froom word m₆ 0) ∷ ‵ (fdies word m₆) ∷ ‵ (froom T′.mir m₅ 0) ∷ ‵ (fdies T′.mir m₅) ∷ ‵ (froom array m₄ 0) ∷ ‵ (fdies array m₄) ∷ ‵ (froom tyBool m₃ 0) ∷ ‵ (fdies tyBool m₃) ∷ ‵ (froom Kd′.mir m₂ 0) ∷ ‵ (fdies Kd′.mir m₂) ∷ ‵ (froom loan m₁ 0) ∷ ‵ (fdies loan m₁) ∷ ‵ (froom S′.mir m₀ 0) ∷ ‵ (fdies S′.mir m₀) ∷ ‵ (froom array l₉ 0) ∷ ‵ (fdies array l₉) ∷ ‵ (froom readerTy l₈ 0) ∷ ‵ (fdies readerTy l₈) ∷ ‵ (froom N′.mir l₇ 0) ∷ ‵ (fdies N′.mir l₇) ∷ ‵ (froom word l₆ 0) ∷ ‵ (fdies word l₆) ∷ ‵ (froom word l₅ 0) ∷ ‵ (fdies word l₅) ∷ ‵ (froom array l₄ 0) ∷ ‵ (fdies array l₄) ∷ ‵ (froom readerTy l₃ 0) ∷ ‵ (fdies readerTy l₃) ∷ ‵ (fat fullShare word l₂ 0 (vint w64 n)) ∷ ‵ (fdies word l₂) ∷ ‵ (fat fullShare slice l₁ 0 file) ∷ ‵ (fdies slice l₁) ∷ ‵ (froom R′.mir l₀ 0) ∷ ‵ (fdies R′.mir l₀) ∷ []) (runs C Λ En (code.function .body) (atRet En Post))
+    begins : Sq W (Token ∷ ‵ Owns ∷ ‵ (froom tyPtr m₉ 0) ∷ ‵ (fdies tyPtr m₉) ∷ ‵ (froom tyPtr m₈ 0) ∷ ‵ (fdies tyPtr m₈) ∷ ‵ (froom word m₇ 0) ∷ ‵ (fdies word m₇) ∷ ‵ (froom T′.mir m₆ 0) ∷ ‵ (fdies T′.mir m₆) ∷ ‵ (froom array m₅ 0) ∷ ‵ (fdies array m₅) ∷ ‵ (froom Rf′.mir m₄ 0) ∷ ‵ (fdies Rf′.mir m₄) ∷ ‵ (froom tyBool m₃ 0) ∷ ‵ (fdies tyBool m₃) ∷ ‵ (froom Kd′.mir m₂ 0) ∷ ‵ (fdies Kd′.mir m₂) ∷ ‵ (froom loan m₁ 0) ∷ ‵ (fdies loan m₁) ∷ ‵ (froom S′.mir m₀ 0) ∷ ‵ (fdies S′.mir m₀) ∷ ‵ (froom array l₉ 0) ∷ ‵ (fdies array l₉) ∷ ‵ (froom readerTy l₈ 0) ∷ ‵ (fdies readerTy l₈) ∷ ‵ (froom N′.mir l₇ 0) ∷ ‵ (fdies N′.mir l₇) ∷ ‵ (froom word l₆ 0) ∷ ‵ (fdies word l₆) ∷ ‵ (froom word l₅ 0) ∷ ‵ (fdies word l₅) ∷ ‵ (froom array l₄ 0) ∷ ‵ (fdies array l₄) ∷ ‵ (froom readerTy l₃ 0) ∷ ‵ (fdies readerTy l₃) ∷ ‵ (fat fullShare word l₂ 0 (vint w64 n)) ∷ ‵ (fdies word l₂) ∷ ‵ (fat fullShare slice l₁ 0 file) ∷ ‵ (fdies slice l₁) ∷ ‵ (froom R′.mir l₀ 0) ∷ ‵ (fdies R′.mir l₀) ∷ []) (runs C Λ En (code.function .body) (atRet En Post))
     begins =
         move ! (1 ∷ []) $ fsplit ! $ use1 W (‵ Own ⊛ ‵ Own) (Lo.twice 𝓤 H A W mem run κ q s) $ split ! $ move ! (1 ∷ 2 ∷ []) $ fjoin ! $
-        move ! (37 ∷ 35 ∷ 23 ∷ 33 ∷ 2 ∷ 1 ∷ []) $ Lo.makes 𝓤 H A W mem run κ q s fm ! known-made (λ Δ. from ! (stop !)) (λ Δ. from ! (stop !)) (λ Δ. from ! (stop !)) (λ Δ. from ! (stop !)) n ok start (
+        move ! (39 ∷ 37 ∷ 25 ∷ 35 ∷ 2 ∷ 1 ∷ []) $ Lo.makes 𝓤 H A W mem run κ q s fm ! known-made (λ Δ. from ! (stop !)) (λ Δ. from ! (stop !)) (λ Δ. from ! (stop !)) (λ Δ. from ! (stop !)) n ok start (
         nothing ! $ use1 W (raw (Blank 𝓤 H A mem run .pre to-blank)) goes-blank $
         called W blank.ended (blank.clauses 𝓤 H A mem run) (to-blank .0) tt ! fm known-blank (λ all ws. all ≡ replicate 256 unusedBridge) (λ all ws. id⊢ 𝓤 _) (no-more !) (λ all ws w e is.
-        land ! (from ! (stop !)) (init ! 28 refl (array-lawful 𝓤 H A W T.the-row (LL.lawful T.the-type T′.the-laws 𝓤 H A W) 256 .typed all _ is .0)) $ assigns ! (of-opd ! (load ! (from ! (stop !)) (look ! 28 refl))) (from ! (stop !)) (init ! 37 refl (array-lawful 𝓤 H A W T.the-row (LL.lawful T.the-type T′.the-laws 𝓤 H A W) 256 .typed all _ is .0)) $
-        assigns ! (of-opd ! (lit ! tt)) (from ! (stop !)) (init ! 35 refl (tt, record { fits = lit< tt })) $ forget ! 28 refl $
-        move ! (37 ∷ 0 ∷ []) $ use2 W (‵ (arr-parts (shares T.the-row) 256 .part fullShare all l₄ 0)) (elements-of 𝓤 H A W T.the-row 256 l₄ 0 all tt w) $ fsplit ! $ drop ! $
-        keep ! (10 ∷ 11 ∷ 12 ∷ 13 ∷ 14 ∷ 15 ∷ 16 ∷ 17 ∷ 18 ∷ 19 ∷ 20 ∷ 21 ∷ 22 ∷ 23 ∷ 24 ∷ 25 ∷ 26 ∷ 27 ∷ 28 ∷ 29 ∷ 5 ∷ 30 ∷ 31 ∷ 32 ∷ 33 ∷ 34 ∷ 35 ∷ 36 ∷ 0 ∷ 37 ∷ 6 ∷ 38 ∷ 4 ∷ 39 ∷ 3 ∷ 40 ∷ 41 ∷ 42 ∷ 8 ∷ 7 ∷ 9 ∷ []) $
+        land ! (from ! (stop !)) (init ! 30 refl (array-lawful 𝓤 H A W T.the-row (LL.lawful T.the-type T′.the-laws 𝓤 H A W) 256 .typed all _ is .0)) $ assigns ! (of-opd ! (load ! (from ! (stop !)) (look ! 30 refl))) (from ! (stop !)) (init ! 39 refl (array-lawful 𝓤 H A W T.the-row (LL.lawful T.the-type T′.the-laws 𝓤 H A W) 256 .typed all _ is .0)) $
+        assigns ! (of-opd ! (lit ! tt)) (from ! (stop !)) (init ! 37 refl (tt, record { fits = lit< tt })) $ forget ! 30 refl $
+        move ! (39 ∷ 0 ∷ []) $ use2 W (‵ (arr-parts (shares T.the-row) 256 .part fullShare all l₄ 0)) (elements-of 𝓤 H A W T.the-row 256 l₄ 0 all tt w) $ fsplit ! $ drop ! $
+        keep ! (10 ∷ 11 ∷ 12 ∷ 13 ∷ 14 ∷ 15 ∷ 16 ∷ 17 ∷ 18 ∷ 19 ∷ 20 ∷ 21 ∷ 22 ∷ 23 ∷ 24 ∷ 25 ∷ 26 ∷ 27 ∷ 28 ∷ 29 ∷ 30 ∷ 31 ∷ 5 ∷ 32 ∷ 33 ∷ 34 ∷ 35 ∷ 36 ∷ 37 ∷ 38 ∷ 0 ∷ 39 ∷ 6 ∷ 40 ∷ 4 ∷ 41 ∷ 3 ∷ 42 ∷ 43 ∷ 44 ∷ 8 ∷ 7 ∷ 9 ∷ []) $
         first ! $ blocks ! $ loops ! 𝓣 Nearer Nearer-wf At turns (all, 0, n, long-all all e, subst (λ (l : List BridgeRecord). BridgesSoFar (now s) n l 0 n) (sym e) (no-bridges (now s) n unusedBridge start refl))))
       where
         long-all : (l : List BridgeRecord) → l ≡ replicate 256 unusedBridge → length l ≡ 256
         long-all l e = rw e (length-replicate 256 unusedBridge)
 
-  walk : (𝓣 : Tables 𝓤 H) → FmC 𝓤 H (W .laws) (𝓣 .C) → Triple 𝓤 (𝓣 .C #reader-at) (ReaderAt 𝓤 H A mem run) → Triple 𝓤 (𝓣 .C #next) (Stepping 𝓤 H A mem run) → Triple 𝓤 (𝓣 .C #own-field) (OwnField 𝓤 H A mem run) → Triple 𝓤 (𝓣 .C #ends) (Ends 𝓤 H A mem run) → Triple 𝓤 (𝓣 .C #ended) (Ended 𝓤 H A mem run) → Triple 𝓤 (𝓣 .C #one) (One 𝓤 H A mem run) → Triple 𝓤 (𝓣 .C #blank) (Blank 𝓤 H A mem run)
+  walk : (𝓣 : Tables 𝓤 H) → FmC 𝓤 H (W .laws) (𝓣 .C) → Triple 𝓤 (𝓣 .C #reader-at) (ReaderAt 𝓤 H A mem run) → Triple 𝓤 (𝓣 .C #next) (Stepping 𝓤 H A mem run) → Triple 𝓤 (𝓣 .C #own-field) (OwnField 𝓤 H A mem run) → Triple 𝓤 (𝓣 .C #ends) (Ends 𝓤 H A mem run) → Triple 𝓤 (𝓣 .C #why) (Why 𝓤 H A mem run) → Triple 𝓤 (𝓣 .C #ended) (Ended 𝓤 H A mem run) → Triple 𝓤 (𝓣 .C #one) (One 𝓤 H A mem run) → Triple 𝓤 (𝓣 .C #blank) (Blank 𝓤 H A mem run)
       → Is (ShrSlice (named 0) κ u8) s (file ∷ []) → ent 𝓤 (onEntry 𝓤 H A f.signature (κ, tt) (q, tt) x at) (WpFn 𝓤 H (𝓣 .C) (𝓣 .Λ) code.function (file ∷ vint w64 n ∷ []) Post)
-  walk 𝓣 fm known-made known-next known-own known-ends known-ended known-one known-blank p =
+  walk 𝓣 fm known-made known-next known-own known-ends known-why known-ended known-one known-blank p =
       qed W (raw (onEntry 𝓤 H A f.signature (κ, tt) (q, tt) x at) ∷ []) ∵ enter ! (𝓣 .C) (𝓣 .Λ) code.function (file ∷ vint w64 n ∷ []) _ $
-      alloc1 ! (λ l₀. alloc1 ! (λ l₁. alloc1 ! (λ l₂. alloc1 ! (λ l₃. alloc1 ! (λ l₄. alloc1 ! (λ l₅. alloc1 ! (λ l₆. alloc1 ! (λ l₇. alloc1 ! (λ l₈. alloc1 ! (λ l₉. alloc1 ! (λ m₀. alloc1 ! (λ m₁. alloc1 ! (λ m₂. alloc1 ! (λ m₃. alloc1 ! (λ m₄. alloc1 ! (λ m₅. alloc1 ! (λ m₆. alloc1 ! (λ m₇. alloc1 ! (λ m₈. alloc0 ! $ params1 ! $
-      pass1 ! (init ! 34 refl (shr-slice-lawful 𝓤 H A W (named 0) κ u8 .typed s (file ∷ []) p .0)) $ pass1 ! (init ! 32 refl (tt, record { fits = ok })) $ pass0 ! $
-      move ! (38 ∷ []) $ use1 W (Token ⊛ ‵ Owns) (id⊢ 𝓤 _) $ split ! $ begins 𝓣 fm known-made known-next known-own known-ends known-ended known-one known-blank l₀ l₁ l₂ l₃ l₄ l₅ l₆ l₇ l₈ l₉ m₀ m₁ m₂ m₃ m₄ m₅ m₆ m₇ m₈)))))))))))))))))))
+      alloc1 ! (λ l₀. alloc1 ! (λ l₁. alloc1 ! (λ l₂. alloc1 ! (λ l₃. alloc1 ! (λ l₄. alloc1 ! (λ l₅. alloc1 ! (λ l₆. alloc1 ! (λ l₇. alloc1 ! (λ l₈. alloc1 ! (λ l₉. alloc1 ! (λ m₀. alloc1 ! (λ m₁. alloc1 ! (λ m₂. alloc1 ! (λ m₃. alloc1 ! (λ m₄. alloc1 ! (λ m₅. alloc1 ! (λ m₆. alloc1 ! (λ m₇. alloc1 ! (λ m₈. alloc1 ! (λ m₉. alloc0 ! $ params1 ! $
+      pass1 ! (init ! 36 refl (shr-slice-lawful 𝓤 H A W (named 0) κ u8 .typed s (file ∷ []) p .0)) $ pass1 ! (init ! 34 refl (tt, record { fits = ok })) $ pass0 ! $
+      move ! (40 ∷ []) $ use1 W (Token ⊛ ‵ Owns) (id⊢ 𝓤 _) $ split ! $ begins 𝓣 fm known-made known-next known-own known-ends known-why known-ended known-one known-blank l₀ l₁ l₂ l₃ l₄ l₅ l₆ l₇ l₈ l₉ m₀ m₁ m₂ m₃ m₄ m₅ m₆ m₇ m₈ m₉))))))))))))))))))))
 
 module _ {M : Type 1} (𝓤 : URA M) (H : Heap 𝓤) (A : Atoms 𝓤) (W : Given 𝓤 H A) (mem : Memory → SProp 𝓤) (run : Routine → Fun 𝓤) where
-  walks : (𝓣 : Tables 𝓤 H) → Triple 𝓤 (𝓣 .C #reader-at) (ReaderAt 𝓤 H A mem run) → Triple 𝓤 (𝓣 .C #next) (Stepping 𝓤 H A mem run) → Triple 𝓤 (𝓣 .C #own-field) (OwnField 𝓤 H A mem run) → Triple 𝓤 (𝓣 .C #ends) (Ends 𝓤 H A mem run) → Triple 𝓤 (𝓣 .C #ended) (Ended 𝓤 H A mem run) → Triple 𝓤 (𝓣 .C #one) (One 𝓤 H A mem run) → Triple 𝓤 (𝓣 .C #blank) (Blank 𝓤 H A mem run) → Walks 𝓤 H A f.ended stayed (WpFn 𝓤 H (𝓣 .C) (𝓣 .Λ) code.function) (f.clauses 𝓤 H A mem run)
-  walks 𝓣 known-made known-next known-own known-ends known-ended known-one known-blank = walked 𝓤 H A f.ended stayed (f.clauses 𝓤 H A mem run) (WpFn 𝓤 H (𝓣 .C) (𝓣 .Λ) code.function)
+  walks : (𝓣 : Tables 𝓤 H) → Triple 𝓤 (𝓣 .C #reader-at) (ReaderAt 𝓤 H A mem run) → Triple 𝓤 (𝓣 .C #next) (Stepping 𝓤 H A mem run) → Triple 𝓤 (𝓣 .C #own-field) (OwnField 𝓤 H A mem run) → Triple 𝓤 (𝓣 .C #ends) (Ends 𝓤 H A mem run) → Triple 𝓤 (𝓣 .C #why) (Why 𝓤 H A mem run) → Triple 𝓤 (𝓣 .C #ended) (Ended 𝓤 H A mem run) → Triple 𝓤 (𝓣 .C #one) (One 𝓤 H A mem run) → Triple 𝓤 (𝓣 .C #blank) (Blank 𝓤 H A mem run) → Walks 𝓤 H A f.ended stayed (WpFn 𝓤 H (𝓣 .C) (𝓣 .Λ) code.function) (f.clauses 𝓤 H A mem run)
+  walks 𝓣 known-made known-next known-own known-ends known-why known-ended known-one known-blank = walked 𝓤 H A f.ended stayed (f.clauses 𝓤 H A mem run) (WpFn 𝓤 H (𝓣 .C) (𝓣 .Λ) code.function)
       (λ κs. (slice-vals, (uint-vals w64, tt))) (λ κs. (shr-slice-tells (named 0) (κs .0) u8, (uint-tells w64, tt)))
-      (λ κs qs bounds a g are. needs 𝓤 _ _ (λ start. walk 𝓤 H A W mem run (κs .0) (qs .0) (a .0) (a .1 .0) (are .0 .0 .1 .0) (are .1 .0 .1) start 𝓣 (fmOf 𝓤 H (W .laws) 𝓣) known-made known-next known-own known-ends known-ended known-one known-blank (are .0)))
+      (λ κs qs bounds a g are. needs 𝓤 _ _ (λ start. walk 𝓤 H A W mem run (κs .0) (qs .0) (a .0) (a .1 .0) (are .0 .0 .1 .0) (are .1 .0 .1) start 𝓣 (fmOf 𝓤 H (W .laws) 𝓣) known-made known-next known-own known-ends known-why known-ended known-one known-blank (are .0)))
 
-meets : {M : Type 1} (𝓤 : URA M) (H : Heap 𝓤) (A : Atoms 𝓤) (W : Given 𝓤 H A) (mem : Memory → SProp 𝓤) (run : Routine → Fun 𝓤) (𝓣 : Tables 𝓤 H) → Triple 𝓤 (𝓣 .C #reader-at) (ReaderAt 𝓤 H A mem run) → Triple 𝓤 (𝓣 .C #next) (Stepping 𝓤 H A mem run) → Triple 𝓤 (𝓣 .C #own-field) (OwnField 𝓤 H A mem run) → Triple 𝓤 (𝓣 .C #ends) (Ends 𝓤 H A mem run) → Triple 𝓤 (𝓣 .C #ended) (Ended 𝓤 H A mem run) → Triple 𝓤 (𝓣 .C #one) (One 𝓤 H A mem run) → Triple 𝓤 (𝓣 .C #blank) (Blank 𝓤 H A mem run)
+meets : {M : Type 1} (𝓤 : URA M) (H : Heap 𝓤) (A : Atoms 𝓤) (W : Given 𝓤 H A) (mem : Memory → SProp 𝓤) (run : Routine → Fun 𝓤) (𝓣 : Tables 𝓤 H) → Triple 𝓤 (𝓣 .C #reader-at) (ReaderAt 𝓤 H A mem run) → Triple 𝓤 (𝓣 .C #next) (Stepping 𝓤 H A mem run) → Triple 𝓤 (𝓣 .C #own-field) (OwnField 𝓤 H A mem run) → Triple 𝓤 (𝓣 .C #ends) (Ends 𝓤 H A mem run) → Triple 𝓤 (𝓣 .C #why) (Why 𝓤 H A mem run) → Triple 𝓤 (𝓣 .C #ended) (Ended 𝓤 H A mem run) → Triple 𝓤 (𝓣 .C #one) (One 𝓤 H A mem run) → Triple 𝓤 (𝓣 .C #blank) (Blank 𝓤 H A mem run)
     → Meets 𝓤 H A f.signature (WpFn 𝓤 H (𝓣 .C) (𝓣 .Λ) code.function) (f.spec 𝓤 H A mem run)
-meets 𝓤 H A W mem run 𝓣 known-made known-next known-own known-ends known-ended known-one known-blank = walk-meets 𝓤 H A f.ended stayed W
+meets 𝓤 H A W mem run 𝓣 known-made known-next known-own known-ends known-why known-ended known-one known-blank = walk-meets 𝓤 H A f.ended stayed W
     (goes-none-slice 𝓤 H A W 1 (0 ∷ []) tt (plain (λ _. u8)) yes, (goes-none 𝓤 H A W 1 (λ _. usize) yes (λ κs x f. refl), tt))
-    (f.clauses 𝓤 H A mem run) (WpFn 𝓤 H (𝓣 .C) (𝓣 .Λ) code.function) (WpFn-mono 𝓤 H (W .laws) 𝓣 code.function) (walks 𝓤 H A W mem run 𝓣 known-made known-next known-own known-ends known-ended known-one known-blank)
+    (f.clauses 𝓤 H A mem run) (WpFn 𝓤 H (𝓣 .C) (𝓣 .Λ) code.function) (WpFn-mono 𝓤 H (W .laws) 𝓣 code.function) (walks 𝓤 H A W mem run 𝓣 known-made known-next known-own known-ends known-why known-ended known-one known-blank)
 
 pub read-bridges-spec : {M : Type 1} → stated.statement M
 unfolding code.routine tablesOf
@@ -359,6 +385,7 @@ read-bridges-spec 𝓤 H 𝓜 𝓖 𝓡 =
     (cited 𝓤 H (Stepping 𝓤 H (𝓖 .A) (𝓜 .mem) (𝓡 .run)) 𝓜 𝓡 code.env #next next-def.routine code.calls-read-fields·cursor·next (next-thm.met 𝓤 H 𝓜 𝓖 𝓡))
     (cited 𝓤 H (OwnField 𝓤 H (𝓖 .A) (𝓜 .mem) (𝓡 .run)) 𝓜 𝓡 code.env #own-field own-def.routine code.calls-read-fields·own-field (own-thm.met 𝓤 H 𝓜 𝓖 𝓡))
     (cited 𝓤 H (Ends 𝓤 H (𝓖 .A) (𝓜 .mem) (𝓡 .run)) 𝓜 𝓡 code.env #ends ends-def.routine code.calls-read-bridges·ends (ends-thm.met 𝓤 H 𝓜 𝓖 𝓡))
+    (cited 𝓤 H (Why 𝓤 H (𝓖 .A) (𝓜 .mem) (𝓡 .run)) 𝓜 𝓡 code.env #why why-def.routine code.calls-read-bridges·why-ended (why-thm.met 𝓤 H 𝓜 𝓖 𝓡))
     (cited 𝓤 H (Ended 𝓤 H (𝓖 .A) (𝓜 .mem) (𝓡 .run)) 𝓜 𝓡 code.env #ended ended-def.routine code.calls-read-bridges·ended (ended-thm.met 𝓤 H 𝓜 𝓖 𝓡))
     (cited 𝓤 H (One 𝓤 H (𝓖 .A) (𝓜 .mem) (𝓡 .run)) 𝓜 𝓡 code.env #one one-def.routine code.calls-read-bridges·bridge-of (one-thm.met 𝓤 H 𝓜 𝓖 𝓡))
     (cited 𝓤 H (Blank 𝓤 H (𝓖 .A) (𝓜 .mem) (𝓡 .run)) 𝓜 𝓡 code.env #blank blank-def.routine code.calls-read-bridges·no-bridges (blank-thm.met 𝓤 H 𝓜 𝓖 𝓡)))

@@ -1,10 +1,10 @@
--- `read_bridges::ended` meets its contract: the verdict on the field that was found, if one was, beside what was read. Assumes nothing.
-use mathlib.Core.Path.{refl, _∙_}
+-- `read_bridges::why_ended` meets its contract: the verdict on the field that was found, if one was. Assumes nothing.
+use mathlib.Core.Path.{_∙_}
 use borrow.Author.Needs.{needs}
 use Rattle.read_fields.proofs.Turns.{nothing-passes, inside, verdict-found, verdict-other}
 use Rattle.read_bridges.specs.ReadBridges.{bridgeVerdict}
-use Rattle.read_bridges.proofs.ended.Statement.{statement}
-use Rattle.read_bridges.proofs.ended.Tie as tie
+use Rattle.read_bridges.proofs.why_ended.Statement.{statement}
+use Rattle.read_bridges.proofs.why_ended.Tie as tie
 
 enum-known-found : tie.Need-enum-known-found
 enum-known-found c = search needs
@@ -23,12 +23,12 @@ unfolding bridgeVerdict
 returns c =
     let f = c .before .before .found .given in
     let a = c .before .before .before .before .before .args in
-    record { why = c .bridge-verdict .ensures ∙ verdict-found (a .found) (bridgeVerdict (a .file .now) (a .count)) (f .0 .0) (f .1); rest = refl }
+    c .bridge-verdict .ensures ∙ verdict-found (a .found) (bridgeVerdict (a .file .now) (a .count)) (f .0 .0) (f .1)
 
 returns-2 : tie.Need-returns-2
 returns-2 c =
     let a = c .before .before .before .args in
-    record { why = nothing-passes ∙ verdict-other (a .found) (bridgeVerdict (a .file .now) (a .count)) (c .enum-told .given .1); rest = refl }
+    nothing-passes ∙ verdict-other (a .found) (bridgeVerdict (a .file .now) (a .count)) (c .enum-told .given .1)
 
-pub ended-spec : {M : Type 1} → statement M
-ended-spec = tie.close (tie.spec enum-known-found bridge-verdict-requires enum-told returns returns-2)
+pub why-ended-spec : {M : Type 1} → statement M
+why-ended-spec = tie.close (tie.spec enum-known-found bridge-verdict-requires enum-told returns returns-2)

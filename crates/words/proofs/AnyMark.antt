@@ -6,14 +6,14 @@ use Prim.Native.Nat.{ℕ, _+_, _*_, _^_, _≤_, _<_}
 use native.Mathlib.Omega.{arith}
 use borrow.Author.Tests.{eq-eqb, ne-eqb, ltb-true, ltb-false}
 use lib.Arith.{bin-ind}
-use lib.Bits.{bitOr, or-add-and, and-le-l, and-le-r}
+use lib.Bits.{bitOr}
 use lib.Count.{ones, ones-step}
 use lib.Dec.{eqb, ltb}
 use lib.ListN.{getD}
 use Rattle.words.specs.Bits.{sumTo}
 use Rattle.words.specs.Tables.{upTo}
 use Rattle.words.specs.Rows.{markAt, rowOf, marksOf}
-use Rattle.words.proofs.Laws.{word-lt}
+use Rattle.words.proofs.Laws.{or-none, none-or, word-lt}
 use Rattle.words.proofs.Rows.{upTo-le-one, row-word, row-marks, marks-more}
 
 ones-none : (w : ℕ) → ones w ≡ 0 → w ≡ 0
@@ -44,13 +44,6 @@ four-words row fits =
 word-fits : (vectors : ℕ) (f : ℕ → ℕ) → ((v : ℕ) → f v ≤ 1) → (w : ℕ) → w < 4 → getD (rowOf vectors f) w 0 < 2 ^ 64
 word-fits vectors f d w h =
     rw (row-word vectors f w h) (word-lt (λ (v : ℕ). upTo vectors f (64 * w + v)) (λ v. upTo-le-one vectors f d (64 * w + v)))
-
--- an or is 0 where both are, and only there
-or-none : (a b : ℕ) → a ≡ 0 → b ≡ 0 → bitOr a b ≡ 0
-or-none a b p q = omega (arith, or-add-and a b)
-
-none-or : (a b : ℕ) → bitOr a b ≡ 0 → (a ≡ 0) × (b ≡ 0)
-none-or a b e = omega (arith, or-add-and a b, and-le-l a b, and-le-r a b)
 
 module _ (a b c d : ℕ) where
   abbrev all : ℕ

@@ -37,11 +37,6 @@ unfolding sumTo
 sum-snoc zero f = omega arith
 sum-snoc (suc n) f = omega (arith, sum-snoc n (λ (v : ℕ). f (suc v)))
 
-pub sum-few : (n : ℕ) (f : ℕ → ℕ) → ((v : ℕ) → f v ≤ 1) → sumTo n f ≤ n
-unfolding sumTo
-sum-few zero f h = omega arith
-sum-few (suc n) f h = omega (arith, h 0, sum-few n (λ (v : ℕ). f (suc v)) (λ v. h (suc v)))
-
 -- the number of set bits is the sum of the bits
 pub ones-sum : (n w : ℕ) → w < 2 ^ n → ones w ≡ sumTo n (bit w)
 unfolding sumTo ones

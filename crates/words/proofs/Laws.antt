@@ -1,12 +1,12 @@
 -- The laws of bits and packing, each over the bit's position: what a bit is of an `or`, an `and`, a complement, a packed word and a number in blocks,
 -- and that a number below 2 ^ n is packed from its n bits, so that two such numbers with the same bits are equal. Assumes nothing.
 use mathlib.Core.Path.{_≡_, refl, sym, ap, _∙_}
-use mathlib.Core.Bool.{Bool, true, false}
+use mathlib.Core.Bool.{Bool, true, false, _&&_, _||_}
 use Prim.Native.Nat.{ℕ, zero, suc, _+_, _-_, _*_, _/_, _%_, _^_, _≤_, _<_, min, max}
-use native.Mathlib.Nat.{div-one, zero-div, div-div-eq-div-mul, div-eq-of-lt, lt-of-lt-of-le, pow-suc, pow-succ', mul-comm, mul-assoc, sub-zero, not-suc-le-zero}
+use native.Mathlib.Nat.{div-one, zero-div, div-div-eq-div-mul, div-eq-of-lt, lt-of-lt-of-le, pow-suc, pow-succ', mul-comm, sub-zero, not-suc-le-zero}
 use native.Mathlib.Omega.{arith}
 use lib.Arith.{lt-one}
-use lib.Bits.{bitAnd, bitOr, and-shr, or-shr, and-step, or-step}
+use lib.Bits.{bitAnd, bitOr, and-shr, or-shr, and-step, or-step, or-add-and, and-le-l, and-le-r}
 use lib.Dec.{T}
 use lib.Pow.{pow-pos, pow-mono, shr-shr, high}
 use Rattle.words.specs.Bits.{bit, ofBool, pack, word}
@@ -40,6 +40,15 @@ pub ofBool-le-one : (b : Bool) → ofBool b ≤ 1
 ofBool-le-one true = omega arith
 ofBool-le-one false = omega arith
 
+-- the number of an and is the smaller, that of an or the larger
+pub min-and : (a b : Bool) → min (ofBool a) (ofBool b) ≡ ofBool (a && b)
+min-and true b = omega (arith, ofBool-le-one b)
+min-and false b = omega arith
+
+pub max-or : (a b : Bool) → max (ofBool a) (ofBool b) ≡ ofBool (a || b)
+max-or true b = omega (arith, ofBool-le-one b)
+max-or false b = omega arith
+
 -- a test that holds wherever another does has no smaller number
 pub ofBool-le : (a b : Bool) → (T a → T b) → ofBool a ≤ ofBool b
 ofBool-le true true f = omega arith
@@ -56,6 +65,13 @@ bit-set true t = refl
 bit-set false t = absurd t
 
 -- ---- the operations on words
+
+-- an or is 0 where both are, and only there
+pub or-none : (a b : ℕ) → a ≡ 0 → b ≡ 0 → bitOr a b ≡ 0
+or-none a b p q = omega (arith, or-add-and a b)
+
+pub none-or : (a b : ℕ) → bitOr a b ≡ 0 → (a ≡ 0) × (b ≡ 0)
+none-or a b e = omega (arith, or-add-and a b, and-le-l a b, and-le-r a b)
 
 pub bit-or : (a b v : ℕ) → bit (bitOr a b) v ≡ max (bit a v) (bit b v)
 unfolding bit
@@ -118,14 +134,6 @@ unfolding pack
 pack-cong zero f g e = refl
 pack-cong (suc n) f g e =
     omega (arith, e 0 (omega arith), pack-cong n (λ (u : ℕ). f (suc u)) (λ (u : ℕ). g (suc u)) (λ u k. e (suc u) (omega arith)))
-
--- one bit more
-pub pack-more : (n : ℕ) (f : ℕ → ℕ) → pack (suc n) f ≡ f n * 2 ^ n + pack n f
-unfolding pack
-pack-more zero f = omega arith
-pack-more (suc n) f =
-    let twice : f (suc n) * 2 ^ suc n ≡ f (suc n) * 2 ^ n * 2 = rw (pow-suc, mul-assoc) in
-    omega (arith, pack-more n (λ (v : ℕ). f (suc v)))
 
 -- a number of n bits is packed from its bits
 pub pack-bits : PackBits

@@ -1,13 +1,12 @@
 -- Laws of a list written into a buffer: the buffer's length stays, what stands at each place, what is written behind something written is one list, one stored element is a list of one.
--- And the part of a list from one place to another: what is written is the part where it stands.
 use mathlib.Core.Path.{_≡_, ap, _∙_}
 use mathlib.Core.List.{List, [], _∷_, _++_, append-nil, append-assoc}
 use Prim.Native.Nat.{ℕ, suc, _+_, _-_, _≤_, _<_}
-use native.Mathlib.Nat.{add-zero, add-suc, add-assoc, suc-add, add-sub-of-le}
+use native.Mathlib.Nat.{add-zero, add-suc, add-assoc, suc-add}
 use native.Mathlib.Numerals.{add-one}
 use native.Mathlib.Omega.{arith}
-use lib.ListN.{length, getD, set, take, drop, length-append, length-take, length-drop, take-append-drop, List·getD-append}
-use lib.Seq.{length-take-le, take-at, drop-at, drop-drop, drop-cons, take-suc, getD-take, getD-drop, getD-append-add, set-split, set-append-left, take-set-lt, take-suc-set, append-snoc}
+use lib.ListN.{length, getD, set, take, drop, length-append, length-drop, take-append-drop, List·getD-append}
+use lib.Seq.{length-take-le, take-at, drop-at, drop-drop, getD-take, getD-drop, getD-append-add, set-split, set-append-left, take-set-lt, take-suc-set, append-snoc}
 use Rattle.words.specs.Tables.{table}
 use Rattle.words.specs.Written.{written}
 use Rattle.words.proofs.Tables.{length-table, table-more}
@@ -111,44 +110,3 @@ module _ (buffer : List ℕ) (at : ℕ) where
   set-table-behind n f i b e room h =
       set-behind (table n f) i b (omega (arith, length-table n f)) room
       ∙ rw (h, table-more n f)
-
--- ---- a part
-
--- the elements from one place to another
-abbrev pub part : List ℕ → ℕ → ℕ → List ℕ
-part l from to = take (to - from) (drop from l)
-
-module _ (l : List ℕ) where
-  pub length-part : (from to : ℕ) → to ≤ length l → length (part l from to) ≡ to - from
-  length-part from to h = simp (length-take, length-drop) (omega arith)
-
-  pub part-none : (from : ℕ) → part l from from ≡ []
-  part-none from = let e : from - from ≡ 0 = omega arith in rw e
-
-  pub part-cons : (from to : ℕ) → from < to → to ≤ length l → part l from to ≡ getD l from 0 ∷ part l (suc from) to
-  part-cons from to h k =
-      let e : to - from ≡ suc (to - suc from) = omega arith in
-      let inside : from < length l = omega arith in rw (e, drop-cons l from 0)
-
-  pub part-more : (from to : ℕ) → from ≤ to → to < length l → part l from (suc to) ≡ part l from to ++ (getD l to 0 ∷ [])
-  part-more from to h k =
-      ap (λ (n : ℕ). take n (drop from l)) (next to h)
-      ∙ take-suc (drop from l) (to - from) 0 (simp length-drop (omega arith))
-      ∙ rw (getD-drop from l (to - from) 0, add-sub-of-le {n = to} {m = from} h)
-    where
-      next : (to : ℕ) → from ≤ to → suc to - from ≡ suc (to - from)
-      next to h = omega arith
-
-  pub getD-part : (from to i : ℕ) → from + i < to → getD (part l from to) i 0 ≡ getD l (from + i) 0
-  getD-part from to i h = let inside : i < to - from = omega arith in rw (getD-take, getD-drop)
-
--- what is written is the part where it stands
-pub part-written : (buffer : List ℕ) (at : ℕ) (text : List ℕ) (to : ℕ) → to ≡ at + length text → to ≤ length buffer
-    → part (written buffer at text) at to ≡ text
-unfolding written
-part-written buffer at text to e h =
-    rw (
-      append-assoc (take at buffer),
-      drop-at (take at buffer) _ at (length-take-le at buffer (omega arith)),
-      take-at text _ (to - at) (omega arith),
-    )

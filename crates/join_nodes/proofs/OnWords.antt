@@ -1,6 +1,6 @@
 -- The words of conduction: a transistor's word from its label's planes, the or over an edge's labels, the words and nodes of the first edges, and that of a
 -- type that a file can give no edge has a node past the highest. Each law is over the bit's position, the place in a list, or the length. Assumes nothing.
-use Prim.Native.Nat.{ℕ, zero, suc, _+_, _-_, _*_, _^_, _≤_, _<_, max, zero-le}
+use Prim.Native.Nat.{ℕ, zero, suc, _+_, _-_, _*_, _^_, _≤_, _<_, zero-le}
 use mathlib.Core.Path.{_≡_, refl, sym, _∙_}
 use mathlib.Core.Bool.{Bool, true, false, cond, _||_, or-assoc, or-false}
 use mathlib.Core.List.{List, [], _∷_, _++_}
@@ -13,7 +13,7 @@ use Rattle.words.specs.Bits.{bit, ofBool}
 use Rattle.words.specs.Each.{wordOfEach}
 use Rattle.words.specs.Tables.{upTo}
 use Rattle.words.specs.Written.{written}
-use Rattle.words.proofs.Laws.{bit-le-one, bit-zero, bit-or, ofBool-le-one, word-of-bits, bit-word, word-lt}
+use Rattle.words.proofs.Laws.{bit-le-one, bit-zero, bit-or, max-or, ofBool-le-one, word-of-bits, bit-word, word-lt}
 use Rattle.words.proofs.Tables.{length-table, getD-table, table-cong, up-past, fill-more, getD-fill}
 use Rattle.words.proofs.EachLaws.{each-before, each-in, each-written}
 use Rattle.words.proofs.WrittenLaws.{length-written}
@@ -63,12 +63,6 @@ orTo-lt p ones zeros labels (suc j) =
     let l : ℕ = getD labels j 0 in
     or-lt 64 (orTo p ones zeros labels j) (transistorWord p (getD ones l 0) (getD zeros l 0)) (orTo-lt p ones zeros labels j)
     (transistor-lt p (getD ones l 0) (getD zeros l 0))
-
-max-or : (a b : Bool) → max (ofBool a) (ofBool b) ≡ ofBool (a || b)
-max-or true true = refl
-max-or true false = refl
-max-or false true = refl
-max-or false false = refl
 
 any-last : {A : Type 0} (test : A → Bool) (xs : List A) (a : A) → anyOf test (xs ++ (a ∷ [])) ≡ (anyOf test xs || test a)
 unfolding anyOf

@@ -1,4 +1,4 @@
--- What the walks by hand share: a whole call in one step; an array in a local as its elements, and back; the front of a local array, lent as a slice and back.
+-- What the walks by hand share: a whole call in one step; an array of records in a field; the front of a local array, lent as a slice and back.
 -- Assumes nothing but `Given`.
 use mathlib.Core.Path.{_≡_, refl, sym, _∙_}
 use Prim.Native.Nat.{ℕ, zero, _+_}
@@ -11,7 +11,7 @@ use mir.Syntax.{Name, Place, Opd as Operand, Body, Sym, Tys, erased, seq, call, 
 use mir.Val.{Val, Vals, vunit, vbool, vint, vfloat, vptr, vstruct, vnil}
 use mir.Fields.{getV, setV}
 use prog.Memory.{fieldAt}
-use base.Logic.{SProp, ent, sep, ex, all, wand, via, allE, apply∗}
+use base.Logic.{SProp, ent, sep, ex, all, wand, allE, apply∗}
 use base.Fml.{Lft, GName, Fml, fat, froom, fdead, flent}
 use prog.Wp.{Heap, Env, Calls, Loops}
 use ghost.Atoms.{Atoms, sem}
@@ -25,17 +25,17 @@ use types.Tokens.{lent-back}
 use denote.RattleType.{RattleType}
 use denote.Laws.{Is, shows}
 use denote.Shadow.{shadow}
-use denote.Memory.{mem, partAt, lone, shares}
+use denote.Memory.{mem, lone, shares}
 use denote.Array.{Array, each, inArray}
-use denote.ArrayMemory.{Single, array-apart, array-whole}
+use denote.ArrayMemory.{Single}
 use denote.Index.{row, whole-in, whole-out}
 use denote.Lend.{lends-shr-slice}
 use denote.Slice.{sliceVal, ShrSlice, Room}
 use denote.Steps.{heard, peeks}
-use borrow.Table.OneValue.{part-in, part-out}
 use borrow.Table.Elements.{at, cut-app, join-app}
 use denote.Triple.Call.{calls-at}
 use denote.Triple.Statement.{Contract, Triple}
+use Rattle.words.proofs.LocalArrays.{elements-of, array-of}
 
 -- a call, from what the callee asks to the result with what is said of it: `token` is what the callee hands back, `said` its `ensures`, `φ` the fact in it
 module _ {M : Type 1} {𝓤 : URA M} {H : Heap 𝓤} {A : Atoms 𝓤} {K : Type 0} {W : Given 𝓤 H A} {Γ : List (Item 𝓤)} {E : Env 𝓤 H} {C : Calls 𝓤 H} {Λ : Loops 𝓤 H}
@@ -69,20 +69,6 @@ module _ (R : RattleType) (X : Type 0) (tuple : X → R .Denot) where
 
   pub records-of : (n : ℕ) (xs : List X) (vs : List Val) → shadow (inArray (R .Denot) (R .own) n (map tuple xs) vs) → shadow (inArray X (λ d ws. R .own (tuple d) ws) n xs vs)
   records-of n xs vs p = (p .0, ((p .1 .0 .0, sym (length-map xs tuple) ∙ p .1 .0 .1), each-back xs (p .0) (p .1 .1)))
-
--- an array in a local is its elements in memory, and they are the array
-module _ {M : Type 1} (𝓤 : URA M) (H : Heap 𝓤) (A : Atoms 𝓤) (W : Given 𝓤 H A) (R : RattleType) (n : ℕ) (l o : ℕ) (xs : List (R .Denot)) where
-  abbrev Elements : SProp 𝓤
-  Elements = sem 𝓤 H A (arr-parts (shares R) n .part fullShare xs l o)
-
-  abbrev Whole : Val → Item 𝓤
-  Whole v = ‵ (fat fullShare (tyArray (lone (R .mir)) n) l o v) ⊛ ‵ (Array R n .own xs (v ∷ []))
-
-  pub elements-of : Single (R .mir) → (v : Val) → ent 𝓤 (mean 𝓤 H A (Whole v)) Elements
-  elements-of s v = via 𝓤 (sem 𝓤 H A (partAt (Array R n) fullShare xs l o)) (part-in 𝓤 H A W (Array R n) refl fullShare xs l o v) (array-apart 𝓤 H A W R fullShare s n xs l o)
-
-  pub array-of : ent 𝓤 Elements (mean 𝓤 H A (some Whole))
-  array-of = via 𝓤 (sem 𝓤 H A (partAt (Array R n) fullShare xs l o)) (array-whole 𝓤 H A W R fullShare n xs l o) (part-out 𝓤 H A W (Array R n) refl fullShare xs l o)
 
 -- the front of an array that is a field of a local struct, lent as a slice for κ. Once κ is over the local has room again
 module _ {M : Type 1} (𝓤 : URA M) (H : Heap 𝓤) (A : Atoms 𝓤) (W : Given 𝓤 H A) (R : RattleType) (n : ℕ) (ν : Sym) (τs : Tys) (j d : ℕ) (κ : Lft) (l : ℕ) (vs : Vals) (xs : List (R .Denot)) (k : ℕ) where

@@ -7,10 +7,11 @@ use native.Mathlib.Omega.{arith}
 use mathlib.Core.Path.{_≡_, refl, sym, ap, ap₂, _∙_}
 use mathlib.Core.Logic.{_⊎_, inl, inr, ⊎-elim, _↔_}
 use mathlib.Core.List.{List, _++_}
-use lib.Bits.{bitAnd, bitOr, bitXor, and-le-l, and-le-r, xor-add-and, xor-self, or-zero-r, or-add-and}
+use lib.Bits.{bitAnd, bitOr, bitXor, and-le-l, and-le-r, xor-add-and, xor-self, or-zero-r}
 use lib.ListN.{length, getD, set, take, drop, replicate, length-drop, length-set, length-replicate, take-append-drop}
 use lib.Seq.{take-suc, drop-cons, append-snoc, set-at, getD-at, getD-take, getD-drop, take-take, length-take-le, getD-set-same, getD-set-other, ext-getD}
 use Rattle.words.specs.Each.{wordOfEach}
+use Rattle.words.proofs.Laws.{none-or}
 use Rattle.words.proofs.Tables.{is-table, length-table}
 use Rattle.words.proofs.EachLaws.{each-before, each-at}
 use Rattle.join_nodes.specs.Model.{NodesInRange, WideEdges, WideJoined, added, roundTo, handedTo, wideRoundTo, onesTo, RoundTaken}
@@ -33,10 +34,7 @@ use Rattle.join_nodes.proofs.RoundLaws.{
 
 -- ---- taking a round's words over
 
--- no words differ where all of their differences are none
-or-none : (a b : ℕ) → bitOr a b ≡ 0 → (a ≡ 0) × (b ≡ 0)
-or-none a b e = (omega (arith, or-add-and a b, and-le-l a b, and-le-r a b), omega (arith, or-add-and a b, and-le-l a b, and-le-r a b))
-
+-- words whose difference is none do not differ
 xor-none : (a b : ℕ) → bitXor a b ≡ 0 → a ≡ b
 xor-none a b e = omega (arith, xor-add-and a b, and-le-l a b, and-le-r a b)
 
@@ -58,7 +56,7 @@ module _ {before next words : List ℕ} {n told : ℕ} (h : n < length before) (
 
   tells-same : bitOr told (bitXor (getD next n 0) (getD words n 0)) ≡ 0 → take (suc n) next ≡ take (suc n) before
   tells-same e =
-      let parts = or-none told (bitXor (getD next n 0) (getD words n 0)) e in
+      let parts = none-or told (bitXor (getD next n 0) (getD words n 0)) e in
       let head : getD next n 0 ≡ getD before n 0 = xor-none (getD next n 0) (getD words n 0) (parts .1) ∙ settled-at in
       rw (take-suc next n 0 k, take-suc before n 0 h, head, s .tells .0 (parts .0))
 

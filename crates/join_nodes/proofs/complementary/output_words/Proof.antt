@@ -18,6 +18,33 @@ use Rattle.join_nodes.proofs.Check.{output-within}
 use Rattle.join_nodes.proofs.complementary.output_words.Statement.{statement}
 use Rattle.join_nodes.proofs.complementary.output_words.Tie as tie
 
+-- ---- where things stand
+
+-- the start, from the edges' words
+abbrev start-on : tie.After-on → tie.Start
+start-on c = c .before .before .before .before .before .before
+
+-- the columns, from where supply's words are asked for, and those words, from where ground's are
+abbrev columns : tie.After-next → tie.After-ends-of
+columns c = c .before .before .before .before .before .before .before
+
+abbrev supplied : tie.After-next3 → tie.After-joined-to
+supplied c = c .before .before .before .before .before .before .before
+
+-- what is known where the columns are
+module _ (c : tie.After-ends-of) where
+  abbrev on-told : tie.After-on-words
+  on-told = c .before .before
+
+  abbrev start : tie.Start
+  start = start-on (on-told .before)
+
+  edges-told : (on : List ℕ) → length on ≡ 64
+      → WideEdges (c .ends-of .result .firsts) (c .ends-of .result .seconds) on (start .args .t .count) 1 (start .args .t .highest + 1)
+  edges-told on long = wide-edges (start .args .t) (start .pre .0) (c .ends-of .result) on 1 (c .ends-of .ensures) (omega arith) long
+
+-- ---- the needs
+
 cast-nodes : tie.Need-cast-nodes
 cast-nodes c = search needs
 
@@ -32,7 +59,7 @@ slice-aggregate-on-words c = search needs
 
 on-words-requires : tie.Need-on-words-requires
 on-words-requires c κs =
-    let start = c .before .before .before .before .before .before in
+    let start = start-on c in
     (edges-fit (start .args .t) (start .pre .0), ((omega arith, start .pre .1 .0, start .pre .1 .1), refl))
 
 ends-of-requires : tie.Need-ends-of-requires
@@ -47,18 +74,10 @@ slice-aggregate-joined-to-2 c = search needs
 slice-aggregate-joined-to-3 : tie.Need-slice-aggregate-joined-to-3
 slice-aggregate-joined-to-3 c = search needs
 
--- the start, and the edges, from where the columns are told
-abbrev start : tie.After-ends-of → tie.Start
-start c = c .before .before .before .before .before .before .before .before .before
-
-edges-told : (c : tie.After-ends-of) (on : List ℕ) → length on ≡ 64
-    → WideEdges (c .ends-of .result .firsts) (c .ends-of .result .seconds) on (start c .args .t .count) 1 (start c .args .t .highest + 1)
-edges-told c on long = wide-edges (start c .args .t) (start c .pre .0) (c .ends-of .result) on 1 (c .ends-of .ensures) (omega arith) long
-
 joined-to-requires : tie.Need-joined-to-requires
 joined-to-requires c κs =
-    let call = c .before .before .before .before .before .before .before in
-    (edges-told call _ (call .before .before .on-words .ensures .long), (omega arith, (refl, refl)))
+    let call = columns c in
+    (edges-told call _ (on-told call .on-words .ensures .long), (omega arith, (refl, refl)))
 
 slice-aggregate-joined-to-4 : tie.Need-slice-aggregate-joined-to-4
 slice-aggregate-joined-to-4 c = search needs
@@ -71,15 +90,15 @@ slice-aggregate-joined-to-6 c = search needs
 
 joined-to-requires-2 : tie.Need-joined-to-requires-2
 joined-to-requires-2 c κs =
-    let call = c .before .before .before .before .before .before .before .before .before .before .before .before .before .before .before in
-    (edges-told call _ (call .before .before .on-words .ensures .long), (omega arith, (refl, refl)))
+    let call = columns (supplied c .before) in
+    (edges-told call _ (on-told call .on-words .ensures .long), (omega arith, (refl, refl)))
 
--- the columns, from where both rails' words are told, and that the output has a word
-abbrev columns : tie.After-next4 → tie.After-ends-of
-columns c = c .before .before .before .before .before .before .before .before .before .before .before .before .before .before .before .before .before .before
+-- the output has a word, where both rails' words are told
+abbrev first-told : tie.After-next4 → tie.After-joined-to
+first-told c = supplied (c .before .before .before)
 
-output-lt : (c : tie.After-next4) → start (columns c) .args .t .output < 32
-output-lt c = output-within (start (columns c) .args .t) (start (columns c) .pre .0)
+output-lt : (c : tie.After-next4) → start (columns (first-told c .before)) .args .t .output < 32
+output-lt c = let begun = start (columns (first-told c .before)) in output-within (begun .args .t) (begun .pre .0)
 
 mul-t15 : tie.Need-mul-t15
 mul-t15 c = omega (arith, output-lt c)
@@ -102,8 +121,8 @@ outputs-are t ones zeros toSupply toGround e g = rw (e, g)
 returns : tie.Need-returns
 returns c =
     let second = c .before .before in
-    let first = second .before .before .before .before .before .before .before .before in
-    let call = columns c in
+    let first = first-told c in
+    let call = columns (first .before) in
     let begun = start call in
     let told =
     one-rail-words
@@ -114,7 +133,7 @@ returns c =
     _
     (call .ends-of .result)
     (call .ends-of .ensures)
-    (call .before .before .on-words .ensures)
+    (on-told call .on-words .ensures)
     (begun .pre .1 .0)
     (begun .pre .1 .1)
     in

@@ -28,6 +28,10 @@ Inv-loop e ones zeros width on₀ at w₀ on w =
 abbrev μ-loop : tie.MeasureT-loop
 μ-loop e ones zeros width on₀ at w₀ on w = width - w
 
+-- the start, from a turn
+abbrev start : tie.At-loop Inv-loop μ-loop → tie.Start Inv-loop μ-loop
+start h = h .before .before .before .before
+
 loop-holds : tie.Need-loop-holds Inv-loop μ-loop
 unfolding table
 loop-holds c =
@@ -35,9 +39,9 @@ loop-holds c =
 
 on-word-requires : tie.Need-on-word-requires Inv-loop μ-loop
 on-word-requires c κs =
-    let start = c .before .before .before .before .before in
-    let long = start .pre .1 .0 in
-    (start .pre .0, ((c .loop-test .taken, long .0), (long .1, long .2)))
+    let given = start (c .before) .pre in
+    let long = given .1 .0 in
+    (given .0, ((c .loop-test .taken, long .0), (long .1, long .2)))
 
 add-on : tie.Need-add-on Inv-loop μ-loop
 add-on c = search needs
@@ -56,8 +60,9 @@ loop-less c = search needs
 
 loop-again : tie.Need-loop-again Inv-loop μ-loop
 loop-again c =
-    let a = c .before .before .before .before .before .before .args in
-    let loop = c .before .before .loop in
+    let turn = c .before .before in
+    let a = start turn .args in
+    let loop = turn .loop in
     let e : Edge = edgeOf (a .e) in (
       omega arith,
       simp length-set (loop .inv .1),
@@ -71,7 +76,7 @@ same-length c = c .before .loop .inv .1
 returns : tie.Need-returns Inv-loop μ-loop
 unfolding edgeWords
 returns c =
-    let done : c .before .loop .w ≡ c .before .before .before .before .before .args .width = omega arith in
+    let done : c .before .loop .w ≡ start (c .before) .args .width = omega arith in
     rw done at (c .before .loop .inv .2)
 
 pub edge-words-spec : {M : Type 1} → statement M

@@ -56,7 +56,8 @@ use Rattle.switch.proofs.Edge.Laws as T′
 use Rattle.switch.proofs.ModuleType as R
 use Rattle.switch.proofs.ModuleType.Laws as R′
 use Rattle.join_nodes.proofs.Copies.{CopiedTo, copied-none, copied-more, copied-all}
-use Rattle.join_nodes.proofs.Walks.{calls-told, elements-of, array-of}
+use Rattle.words.proofs.LocalArrays.{elements-of, array-of}
+use Rattle.join_nodes.proofs.Walks.{calls-told}
 use Rattle.join_nodes.proofs.edges.edge_at as one
 use Rattle.join_nodes.proofs.edges.edge_at.Symbol as one-def
 use Rattle.join_nodes.proofs.edges.edge_at.Symbol.{name as #edge-at}

@@ -13,6 +13,33 @@ use Rattle.join_nodes.proofs.RailWords.{rails-are}
 use Rattle.join_nodes.proofs.rails.joining_of.Statement.{statement}
 use Rattle.join_nodes.proofs.rails.joining_of.Tie as tie
 
+-- ---- where things stand
+
+-- the start, from the edges' words
+abbrev start-on : tie.After-on → tie.Start
+start-on c = c .before .before .before .before .before
+
+-- the columns, from where supply's words are asked for, and those words, from where ground's are
+abbrev columns : tie.After-next → tie.After-ends-of
+columns c = c .before .before .before .before .before .before .before
+
+abbrev supplied : tie.After-next3 → tie.After-joined-to
+supplied c = c .before .before .before .before .before .before .before
+
+-- what is known where the columns are
+module _ (c : tie.After-ends-of) where
+  abbrev on-told : tie.After-on-words
+  on-told = c .before .before
+
+  abbrev start : tie.Start
+  start = start-on (on-told .before)
+
+  edges-told : (on : List ℕ) → length on ≡ 256
+      → WideEdges (c .ends-of .result .firsts) (c .ends-of .result .seconds) on (start .args .t .count) 4 (start .args .t .highest + 1)
+  edges-told on long = wide-edges (start .args .t) (start .pre) (c .ends-of .result) on 4 (c .ends-of .ensures) (omega arith) long
+
+-- ---- the needs
+
 cast-nodes : tie.Need-cast-nodes
 cast-nodes c = search needs
 
@@ -24,7 +51,7 @@ slice-aggregate-on-words c = search needs
 
 on-words-requires : tie.Need-on-words-requires
 on-words-requires c κs =
-    let start = c .before .before .before .before .before in
+    let start = start-on c in
     (edges-fit (start .args .t) (start .pre), ((omega arith, search needs, search needs), refl))
 
 ends-of-requires : tie.Need-ends-of-requires
@@ -39,18 +66,10 @@ slice-aggregate-joined-to-2 c = search needs
 slice-aggregate-joined-to-3 : tie.Need-slice-aggregate-joined-to-3
 slice-aggregate-joined-to-3 c = search needs
 
--- the start, and the edges, from where the columns are told
-abbrev start : tie.After-ends-of → tie.Start
-start c = c .before .before .before .before .before .before .before .before
-
-edges-told : (c : tie.After-ends-of) (on : List ℕ) → length on ≡ 256
-    → WideEdges (c .ends-of .result .firsts) (c .ends-of .result .seconds) on (start c .args .t .count) 4 (start c .args .t .highest + 1)
-edges-told c on long = wide-edges (start c .args .t) (start c .pre) (c .ends-of .result) on 4 (c .ends-of .ensures) (omega arith) long
-
 joined-to-requires : tie.Need-joined-to-requires
 joined-to-requires c κs =
-    let call = c .before .before .before .before .before .before .before in
-    (edges-told call _ (call .before .before .on-words .ensures .long), (omega arith, (refl, refl)))
+    let call = columns c in
+    (edges-told call _ (on-told call .on-words .ensures .long), (omega arith, (refl, refl)))
 
 slice-aggregate-joined-to-4 : tie.Need-slice-aggregate-joined-to-4
 slice-aggregate-joined-to-4 c = search needs
@@ -63,14 +82,14 @@ slice-aggregate-joined-to-6 c = search needs
 
 joined-to-requires-2 : tie.Need-joined-to-requires-2
 joined-to-requires-2 c κs =
-    let call = c .before .before .before .before .before .before .before .before .before .before .before .before .before .before .before in
-    (edges-told call _ (call .before .before .on-words .ensures .long), (omega arith, (refl, refl)))
+    let call = columns (supplied c .before) in
+    (edges-told call _ (on-told call .on-words .ensures .long), (omega arith, (refl, refl)))
 
 returns : tie.Need-returns
 returns c =
     let second = c .before .before in
-    let first = second .before .before .before .before .before .before .before .before in
-    let call = first .before .before .before .before .before .before .before .before in
+    let first = supplied (second .before) in
+    let call = columns (first .before) in
     rails-are
     (start call .args .t)
     (start call .pre .places)
@@ -79,7 +98,7 @@ returns c =
     _
     (call .ends-of .result)
     (call .ends-of .ensures)
-    (call .before .before .on-words .ensures)
+    (on-told call .on-words .ensures)
     _
     _
     (first .joined-to .ensures .0)

@@ -3,7 +3,7 @@
 use mathlib.Core.Path.{_≡_, ap, sym, _∙_}
 use mathlib.Core.List.{List}
 use mathlib.Core.Logic.{_↔_}
-use Prim.Native.Nat.{ℕ, _-_, _*_, _^_}
+use Prim.Native.Nat.{ℕ, _-_, _*_, _^_, _≤_}
 use native.Mathlib.Nat.{mul-le-mul-left}
 use native.Mathlib.Omega.{arith}
 use lib.ListN.{length, length-replicate}
@@ -31,115 +31,151 @@ Inv-loop firsts seconds on count width nodes rail joined₀ next₀ joined next 
 abbrev μ-loop : tie.MeasureT-loop
 μ-loop firsts seconds on count width nodes rail joined₀ next₀ joined next = width * 32 * 2 ^ 64 - total joined
 
+-- ---- where things stand
+
+-- the start, from where the rail's words begin in the first list, and from where they begin in the second; the words begun in each
+abbrev start-first : tie.After-begin-arg Inv-loop μ-loop → tie.Start Inv-loop μ-loop
+start-first c = c .before .before .before .before
+
+abbrev first-begun : tie.After-begin-arg2 Inv-loop μ-loop → tie.After-begin Inv-loop μ-loop
+first-begun c = c .before .before .before
+
+abbrev second-begun : tie.After-slice-known4 Inv-loop μ-loop → tie.After-begin2 Inv-loop μ-loop
+second-begun c = c .before .before
+
+abbrev start-second : tie.After-begin-arg2 Inv-loop μ-loop → tie.Start Inv-loop μ-loop
+start-second c = start-first (first-begun c .before)
+
+-- a turn, its round, and its words settled
+abbrev turn-of : tie.After-round Inv-loop μ-loop → tie.At-loop Inv-loop μ-loop
+turn-of c = c .before .before .before
+
+abbrev round-of : tie.After-settle-arg2 Inv-loop μ-loop → tie.After-round Inv-loop μ-loop
+round-of c = c .before .before .before .before
+
+abbrev settled : tie.After-slice-known6 Inv-loop μ-loop → tie.After-settle Inv-loop μ-loop
+settled c = c .before .before
+
+-- ---- a turn
+
+module _ (turn : tie.At-loop Inv-loop μ-loop) where
+  abbrev start : tie.Start Inv-loop μ-loop
+  start = start-second (second-begun (turn .before) .before)
+
+  abbrev Reached-by : List ℕ → Type 0
+  Reached-by words = let x = start .args in WideReached (now (x .firsts)) (now (x .seconds)) (now (x .on)) (x .count) (x .width) (x .rail) words
+
+  -- the words that a round leaves
+  after : List ℕ
+  after = let x = start .args in wideRoundTo (now (x .firsts)) (now (x .seconds)) (now (x .on)) (x .width) (turn .loop .joined) (x .count)
+
+  -- of which the invariant holds again
+  again : Reached-by after
+  unfolding after
+  again = wide-again (start .pre .0) (turn .loop .inv .1)
+
+  -- as many places as the nodes have are there
+  places : start .args .width * start .args .nodes ≤ start .args .width * 32
+  places = mul-le-mul-left (start .args .width) (start .pre .0 .few-nodes)
+
+is-after : (c : tie.After-round Inv-loop μ-loop) → c .round .last .1 .1 .1 .1 .1 .1 .0 ≡ after (turn-of c)
+unfolding after
+is-after c = c .round .ensures
+
+-- what settling leaves and tells of a round's words
+module _ (c : tie.After-settle Inv-loop μ-loop) where
+  abbrev rounded : tie.After-round Inv-loop μ-loop
+  rounded = round-of (c .before)
+
+  abbrev turn : tie.At-loop Inv-loop μ-loop
+  turn = turn-of rounded
+
+  taken : let x = start turn .args in RoundTaken (turn .loop .joined) (after turn) (x .width * x .nodes) (c .settle .last .0) (c .settle .result)
+  taken = rw (is-after rounded) at (c .settle .ensures)
+
+  settles : c .settle .last .0 ≡ after turn
+  unfolding after
+  settles = settled-all (start turn .pre .0) (turn .loop .joined) (turn .loop .inv .1 .long) taken
+
+  tells : (c .settle .result ≡ 0) ↔ (turn .loop .joined ≡ after turn)
+  unfolding after
+  tells = settled-same (start turn .pre .0) (turn .loop .joined) (turn .loop .inv .1 .long) taken
+
+  -- the next round begins from the same words in both lists
+  both-settled : rounded .round .last .1 .1 .1 .1 .1 .1 .0 ≡ c .settle .last .0
+  both-settled = is-after rounded ∙ sym settles
+
+-- ---- the needs
+
 begin-requires : tie.Need-begin-requires Inv-loop μ-loop
 begin-requires c κs =
-    let s = c .before .before .before .before in
+    let s = start-first c in
     omega (arith, ap length (s .pre .1 .1 .0), rail-room (s .args .width) (s .args .rail) (s .pre .1 .0))
 
 begin-requires-2 : tie.Need-begin-requires-2 Inv-loop μ-loop
 begin-requires-2 c κs =
-    let s = c .before .before .before .before .before .before .before .before in
+    let s = start-second c in
     omega (arith, ap length (s .pre .1 .1 .1), rail-room (s .args .width) (s .args .rail) (s .pre .1 .0))
 
 loop-holds : tie.Need-loop-holds Inv-loop μ-loop
 loop-holds c =
-    let s = c .before .before .before .before .before .before .before .before .before .before .before in
+    let second = second-begun c in
+    let s = start-second (second .before) in
     let x = s .args in
     let begun : List ℕ → List ℕ = λ words. onesTo words (x .width * x .rail) (x .width) in
-    let one = c .before .before .before .before .before .before .begin .ensures ∙ ap begun (s .pre .1 .1 .0) in
-    let two = c .before .before .begin2 .ensures ∙ ap begun (s .pre .1 .1 .1) in
+    let one = first-begun (second .before) .begin .ensures ∙ ap begun (s .pre .1 .1 .0) in
+    let two = second .begin2 .ensures ∙ ap begun (s .pre .1 .1 .1) in
     (two ∙ sym one, rw one (wide-first (x .width) (x .rail) (s .pre .1 .0) (now (x .firsts)) (now (x .seconds)) (now (x .on)) (x .count)))
 
 round-requires : tie.Need-round-requires Inv-loop μ-loop
 round-requires c κs =
-    let h = c .before .before in
-    let edges = h .before .before .before .before .before .before .before .before .before .before .before .before .pre .0 in
-    (in-range edges, ((edges .few-words, edges .on-words, h .loop .inv .1 .long), h .loop .inv .0))
-
--- the words that a round leaves, by what the round ensures
-after : tie.At-loop Inv-loop μ-loop → List ℕ
-after h =
-    let x = h .before .before .before .before .before .before .before .before .before .before .before .before .args in
-    wideRoundTo (now (x .firsts)) (now (x .seconds)) (now (x .on)) (x .width) (h .loop .joined) (x .count)
-
-is-after : (c : tie.After-round Inv-loop μ-loop) → c .round .last .1 .1 .1 .1 .1 .1 .0 ≡ after (c .before .before .before)
-unfolding after
-is-after c = c .round .ensures
-
--- of which the invariant holds again
-again : (h : tie.At-loop Inv-loop μ-loop)
-    → let x = h .before .before .before .before .before .before .before .before .before .before .before .before .args in WideReached (now (x .firsts)) (now (x .seconds)) (now (x .on)) (x .count) (x .width) (x .rail) (after h)
-unfolding after
-again h = wide-again (h .before .before .before .before .before .before .before .before .before .before .before .before .pre .0) (h .loop .inv .1)
-
--- and what settling leaves and tells of them
-is-settled : (c : tie.After-settle Inv-loop μ-loop)
-    → let h = c .before .before .before .before .before .before .before .before in let x = h .before .before .before .before .before .before .before .before .before .before .before .before .args in
-    RoundTaken (h .loop .joined) (after h) (x .width * x .nodes) (c .settle .last .0) (c .settle .result)
-is-settled c = rw (is-after (c .before .before .before .before .before)) at (c .settle .ensures)
-
-settles : (c : tie.After-settle Inv-loop μ-loop) → c .settle .last .0 ≡ after (c .before .before .before .before .before .before .before .before)
-unfolding after
-settles c = let h = c .before .before .before .before .before .before .before .before in settled-all (h .before .before .before .before .before .before .before .before .before .before .before .before .pre .0) (h .loop .joined) (h .loop .inv .1 .long) (is-settled c)
-
-tells : (c : tie.After-settle Inv-loop μ-loop) → (c .settle .result ≡ 0) ↔ (c .before .before .before .before .before .before .before .before .loop .joined ≡ after (c .before .before .before .before .before .before .before .before))
-unfolding after
-tells c = let h = c .before .before .before .before .before .before .before .before in settled-same (h .before .before .before .before .before .before .before .before .before .before .before .before .pre .0) (h .loop .joined) (h .loop .inv .1 .long) (is-settled c)
+    let turn = c .before .before in
+    let edges = start turn .pre .0 in
+    (in-range edges, ((edges .few-words, edges .on-words, turn .loop .inv .1 .long), turn .loop .inv .0))
 
 mul-settle : tie.Need-mul-settle Inv-loop μ-loop
 mul-settle c =
-    let s = c .before .before .before .before .before .before .before .before .before .before .before .before .before .before .before .before .before .before .before in
-    omega (arith, mul-le-mul-left (s .args .width) (s .pre .0 .few-nodes), s .pre .0 .few-words)
+    let turn = turn-of (round-of c) in
+    omega (arith, places turn, start turn .pre .0 .few-words)
 
 settle-requires : tie.Need-settle-requires Inv-loop μ-loop
 settle-requires c κs =
-    let h = c .before .before .before .before .before .before .before in
-    let s = h .before .before .before .before .before .before .before .before .before .before .before .before in
-    let places = mul-le-mul-left (s .args .width) (s .pre .0 .few-nodes) in
-    (omega (arith, places, h .loop .inv .1 .long), omega (arith, places, ap length (is-after (c .before .before .before .before)), again h .long))
+    let rounded = round-of c in
+    let turn = turn-of rounded in
+    (omega (arith, places turn, turn .loop .inv .1 .long), omega (arith, places turn, ap length (is-after rounded), again turn .long))
 
 same-length : tie.Need-same-length Inv-loop μ-loop
 same-length c =
-    omega (
-      arith,
-      ap length (settles (c .before .before .before)),
-      again (c .before .before .before .before .before .before .before .before .before .before .before) .long,
-      ap length (c .before .before .before .before .before .before .before .before .before .before .before .before .before .before .before .before .before .before .before .before .before .before .before .pre .1 .1 .0),
-      length-replicate {A = ℕ} (c .before .before .before .before .before .before .before .before .before .before .before .before .before .before .before .before .before .before .before .before .before .before .before .args .width * 32) 0,
-    )
+    let end = settled (c .before) in
+    let s = start (turn end) in
+    omega (arith, ap length (settles end), again (turn end) .long, ap length (s .pre .1 .1 .0), length-replicate {A = ℕ} (s .args .width * 32) 0)
 
 same-length-2 : tie.Need-same-length-2 Inv-loop μ-loop
 same-length-2 c =
-    omega (
-      arith,
-      ap length (is-after (c .before .before .before .before .before .before .before .before)),
-      again (c .before .before .before .before .before .before .before .before .before .before .before) .long,
-      ap length (c .before .before .before .before .before .before .before .before .before .before .before .before .before .before .before .before .before .before .before .before .before .before .before .pre .1 .1 .1),
-      length-replicate {A = ℕ} (c .before .before .before .before .before .before .before .before .before .before .before .before .before .before .before .before .before .before .before .before .before .before .before .args .width * 32) 0,
-    )
+    let end = settled (c .before) in
+    let s = start (turn end) in
+    omega (arith, ap length (is-after (rounded end)), again (turn end) .long, ap length (s .pre .1 .1 .1), length-replicate {A = ℕ} (s .args .width * 32) 0)
 
 returns : tie.Need-returns Inv-loop μ-loop
 unfolding after
 returns c =
-    let h = c .before .before .before .before .before .before .before .before .before .before .before in
-    let same = tells (c .before .before .before) .0 (c .if1 .taken) in (
-      rw (settles (c .before .before .before) ∙ sym same) (wide-all (h .before .before .before .before .before .before .before .before .before .before .before .before .pre .0) (h .loop .inv .1) same),
-      is-after (c .before .before .before .before .before .before .before .before) ∙ sym (settles (c .before .before .before)),
-    )
+    let end = settled (c .before) in
+    let same = tells end .0 (c .if1 .taken) in
+    (rw (settles end ∙ sym same) (wide-all (start (turn end) .pre .0) (turn end .loop .inv .1) same), both-settled end)
 
 loop-less : tie.Need-loop-less Inv-loop μ-loop
 unfolding after
 loop-less c =
-    let h = c .before .before .before .before .before .before .before .before .before .before .before in
+    let end = settled (c .before) in
     omega (
       arith,
-      ap total (settles (c .before .before .before)),
-      wide-within (again h),
-      wide-more (h .before .before .before .before .before .before .before .before .before .before .before .before .pre .0) (h .loop .inv .1) (λ same. c .if1 .left (tells (c .before .before .before) .1 same)),
+      ap total (settles end),
+      wide-within (again (turn end)),
+      wide-more (start (turn end) .pre .0) (turn end .loop .inv .1) (λ same. c .if1 .left (tells end .1 same)),
     )
 
 loop-again : tie.Need-loop-again Inv-loop μ-loop
-loop-again c = (is-after (c .before .before .before .before .before .before .before .before) ∙ sym (settles (c .before .before .before)), rw (settles (c .before .before .before)) (again (c .before .before .before .before .before .before .before .before .before .before .before)))
+loop-again c = let end = settled (c .before) in (both-settled end, rw (settles end) (again (turn end)))
 
 pub joined-to-spec : {M : Type 1} → statement M
 joined-to-spec =

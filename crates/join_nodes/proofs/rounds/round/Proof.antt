@@ -18,32 +18,58 @@ Inv-loop firsts seconds on count width joined next₀ i₀ next i = (i ≤ count
 abbrev μ-loop : tie.MeasureT-loop
 μ-loop firsts seconds on count width joined next₀ i₀ next i = count - i
 
-loop-holds : tie.Need-loop-holds Inv-loop μ-loop
-unfolding wideRoundTo
-loop-holds c = (omega arith, c .before .before .before .pre .1 .1)
+-- ---- where things stand
 
-next-long : (h : tie.At-loop Inv-loop μ-loop) → length (h .loop .next) ≡ h .before .before .before .before .args .width * 32
-next-long h = ap length (h .loop .inv .1) ∙ wide-length _ _ _ _ _ (h .loop .i) ∙ h .before .before .before .before .pre .1 .0 .2
+-- the start, from a turn
+abbrev start : tie.At-loop Inv-loop μ-loop → tie.Start Inv-loop μ-loop
+start h = h .before .before .before .before
+
+-- a turn, from what it hands on first, and that from what it hands on second
+abbrev turn-of : tie.After-hand-on-arg Inv-loop μ-loop → tie.In-loop Inv-loop μ-loop
+turn-of c = c .before .before .before
+
+abbrev first-handed : tie.After-hand-on-arg2 Inv-loop μ-loop → tie.After-hand-on Inv-loop μ-loop
+first-handed c = c .before .before .before
+
+-- ---- the loop, at any turn
+
+next-long : (h : tie.At-loop Inv-loop μ-loop) → length (h .loop .next) ≡ start h .args .width * 32
+next-long h = ap length (h .loop .inv .1) ∙ wide-length _ _ _ _ _ (h .loop .i) ∙ start h .pre .1 .0 .2
 
 -- the nodes of the edge of a turn are in range, and their words and the edge's stand within the lists
 module _ (c : tie.In-loop Inv-loop μ-loop) where
-  a-in : getD (now (c .before .before .before .before .before .args .firsts)) (c .before .loop .i) 0 < 32
-  a-in = c .before .before .before .before .before .pre .0 .first (c .before .loop .i) (c .loop-test .taken)
+  abbrev begin : tie.Start Inv-loop μ-loop
+  begin = start (c .before)
 
-  b-in : getD (now (c .before .before .before .before .before .args .seconds)) (c .before .loop .i) 0 < 32
-  b-in = c .before .before .before .before .before .pre .0 .second (c .before .loop .i) (c .loop-test .taken)
+  abbrev place : ℕ
+  place = c .before .loop .i
 
-  words-in : let x = c .before .before .before .before .before .args in
-      (x .width * getD (now (x .firsts)) (c .before .loop .i) 0 + x .width ≤ x .width * 32)
-      × (x .width * getD (now (x .seconds)) (c .before .loop .i) 0 + x .width ≤ x .width * 32)
-      × (x .width * c .before .loop .i + x .width ≤ x .width * 64)
+  abbrev a : ℕ
+  a = getD (now (begin .args .firsts)) place 0
+
+  abbrev b : ℕ
+  b = getD (now (begin .args .seconds)) place 0
+
+  a-in : a < 32
+  a-in = begin .pre .0 .first place (c .loop-test .taken)
+
+  b-in : b < 32
+  b-in = begin .pre .0 .second place (c .loop-test .taken)
+
+  words-in : let width = begin .args .width in
+      (width * a + width ≤ width * 32) × (width * b + width ≤ width * 32) × (width * place + width ≤ width * 64)
   words-in =
-      let s = c .before .before .before .before .before in
-      let width : ℕ = s .args .width in (
-        each-before width _ 32 a-in,
-        each-before width _ 32 b-in,
-        each-before width (c .before .loop .i) 64 (omega (arith, s .pre .0 .places, c .loop-test .taken)),
+      let width : ℕ = begin .args .width in (
+        each-before width a 32 a-in,
+        each-before width b 32 b-in,
+        each-before width place 64 (omega (arith, begin .pre .0 .places, c .loop-test .taken)),
       )
+
+-- ---- the needs
+
+loop-holds : tie.Need-loop-holds Inv-loop μ-loop
+unfolding wideRoundTo
+loop-holds c = (omega arith, c .before .before .before .pre .1 .1)
 
 element-copy-out-a : tie.Need-element-copy-out-a Inv-loop μ-loop
 element-copy-out-a c = omega arith
@@ -68,16 +94,19 @@ mul-hand-on c = omega (arith, words-in (c .before .before))
 
 hand-on-requires : tie.Need-hand-on-requires Inv-loop μ-loop
 hand-on-requires c κs =
-    let places = words-in (c .before .before .before) in
-    (omega (arith, places .2), omega (arith, places .1), omega (arith, places .0, next-long (c .before .before .before .before)))
+    let turn = turn-of c in
+    let places = words-in turn in
+    (omega (arith, places .2), omega (arith, places .1), omega (arith, places .0, next-long (turn .before)))
 
 mul-hand-on-2 : tie.Need-mul-hand-on-2 Inv-loop μ-loop
-mul-hand-on-2 c = omega (arith, words-in (c .before .before .before .before .before .before))
+mul-hand-on-2 c = omega (arith, words-in (turn-of (c .before .before .before)))
 
 hand-on-requires-2 : tie.Need-hand-on-requires-2 Inv-loop μ-loop
 hand-on-requires-2 c κs =
-    let places = words-in (c .before .before .before .before .before .before .before) in
-    let size = ap length (c .before .before .before .hand-on .ensures) ∙ handed-length _ _ _ _ _ _ _ ∙ next-long (c .before .before .before .before .before .before .before .before) in
+    let handed = first-handed c in
+    let turn = turn-of (handed .before) in
+    let places = words-in turn in
+    let size = ap length (handed .hand-on .ensures) ∙ handed-length _ _ _ _ _ _ _ ∙ next-long (turn .before) in
     (omega (arith, places .2), omega (arith, places .0), omega (arith, places .1, size))
 
 add-i : tie.Need-add-i Inv-loop μ-loop
@@ -89,20 +118,21 @@ loop-less c = omega arith
 loop-again : tie.Need-loop-again Inv-loop μ-loop
 unfolding wideRoundTo
 loop-again c =
-    let h = c .before .before .before .before .before .before .before .before .before .before .before in
-    let x = h .before .before .before .before .args in
-    let a : ℕ = x .width * getD (now (x .firsts)) (h .loop .i) 0 in
-    let b : ℕ = x .width * getD (now (x .seconds)) (h .loop .i) 0 in
-    let handed : ℕ → ℕ → List ℕ → List ℕ = λ from to words. handedTo (now (x .on)) (x .width * h .loop .i) (now (x .joined)) from words to (x .width) in
-    let both = c .before .before .hand-on2 .ensures ∙ ap (handed a b) (c .before .before .before .before .before .before .hand-on .ensures ∙ ap (handed b a) (h .loop .inv .1)) in
-    (omega arith, rw add-one both)
+    let second = c .before .before in
+    let first = first-handed (second .before) in
+    let turn = turn-of (first .before) in
+    let x = begin turn .args in
+    let handed : ℕ → ℕ → List ℕ → List ℕ = λ from to words. handedTo (now (x .on)) (x .width * place turn) (now (x .joined)) from words to (x .width) in
+    let to-a : List ℕ → List ℕ = handed (x .width * b turn) (x .width * a turn) in
+    let to-b : List ℕ → List ℕ = handed (x .width * a turn) (x .width * b turn) in
+    (omega arith, rw add-one (second .hand-on2 .ensures ∙ ap to-b (first .hand-on .ensures ∙ ap to-a (turn .before .loop .inv .1))))
 
 same-length : tie.Need-same-length Inv-loop μ-loop
-same-length c = omega (arith, next-long (c .before), ap length (c .before .before .before .before .before .pre .1 .1))
+same-length c = omega (arith, next-long (c .before), ap length (start (c .before) .pre .1 .1))
 
 returns : tie.Need-returns Inv-loop μ-loop
 returns c =
-    let last : c .before .loop .i ≡ c .before .before .before .before .before .args .count = omega arith in
+    let last : c .before .loop .i ≡ start (c .before) .args .count = omega arith in
     c .before .loop .inv .1 ∙ ap (wideRoundTo _ _ _ _ _) last
 
 pub round-spec : {M : Type 1} → statement M

@@ -23,6 +23,7 @@ use Rattle.circuit.specs.Verdicts.{isRefused}
 use Rattle.circuit.specs.Before.{typesBefore}
 use Rattle.circuit.specs.Stages.{Stage, stageOf, stopped, ifPasses, section, bridgeStage, instanceStage, failingVerdict, judged, fieldPlace, typeStage, readTo, gatheredFrom, gatheredAtStart, gatheredOf}
 use Rattle.circuit.specs.Laws.{Each, TypeSound, TypeGood, InstanceGood, CircuitGood, BeforeIsGood}
+use Rattle.circuit.proofs.StageLaws.{with-edge, with-type, more-edges, more-types, by-edge, by-type, by-other}
 use Rattle.circuit.proofs.GatheredLaws.{failing-refuses, gathered-is-before}
 use Rattle.circuit.proofs.Tested.{inputs-pass, type-pass, edge-pass, bridge-pass, faults-snoc, instance-pass, vector-pass, holds, length-snoc, getD-any, some-length, no-length, each-none, each-snoc}
 use Rattle.circuit.proofs.Verdicts.{refused-passes}
@@ -140,43 +141,31 @@ types-keep types from (broken at) s =
     (λ e. judged-types types (fieldPlace from) (broken at) s e)
 types-keep types from (field f rest) s =
     go (isEdge (tagOf (f .tag))) (isEmpty types) refl
-    (λ k. types-keep (edgeAdded types (edgeIn (latest types .output) (f .body))) from rest k)
-    (λ k. types-keep (types ++ (typeIn (f .body) ∷ [])) (field f rest) rest k)
+    (λ k. types-keep (with-edge types f) from rest k)
+    (λ k. types-keep (with-type types f) (field f rest) rest k)
   where
-    more-edges : Stage (List ModuleType)
-    more-edges = typeStage (edgeAdded types (edgeIn (latest types .output) (f .body))) from rest
-
-    more-types : Stage (List ModuleType)
-    more-types = typeStage (types ++ (typeIn (f .body) ∷ [])) (field f rest) rest
-
-    edge : Stage (List ModuleType)
-    edge = ifPasses (firstOf (edgeTests (latest types) (f .at) (f .body))) (typesBefore types) from more-edges
-
-    type : Stage (List ModuleType)
-    type = ifPasses (firstOf (typeTests (length types) (f .at) (f .body))) types (field f rest) more-types
-
-    as-type : (two : Bool) → TypesGood types → (TypesSound (types ++ (typeIn (f .body) ∷ [])) → TypesGood (more-types .gathered))
-        → TypesGood (cond two type (stopped types (field f rest)) .gathered)
+    as-type : (two : Bool) → TypesGood types → (TypesSound (with-type types f) → TypesGood (more-types types f from rest .gathered))
+        → TypesGood (cond two (by-type types f from rest) (stopped types (field f rest)) .gathered)
     as-type true g more =
-        verdict-keeps TypesGood (firstOf (typeTests (length types) (f .at) (f .body))) types (field f rest) more-types g
+        verdict-keeps TypesGood (firstOf (typeTests (length types) (f .at) (f .body))) types (field f rest) (more-types types f from rest) g
         (λ e. let new = type-pass (length types) (f .at) (f .body) e in more (type-keeps types (typeIn (f .body)) g (new .0) (new .1)))
     as-type false g more = g
 
-    other : (TypesSound (types ++ (typeIn (f .body) ∷ [])) → TypesGood (more-types .gathered))
-        → TypesGood (ifPasses (judged types (fieldPlace from) (field f rest)) (typesBefore types) from (cond (isKind type-tag (tagOf (f .tag))) type (stopped types (field f rest))) .gathered)
+    other : (TypesSound (with-type types f) → TypesGood (more-types types f from rest .gathered))
+        → TypesGood (ifPasses (judged types (fieldPlace from) (field f rest)) (typesBefore types) from (by-other types f from rest) .gathered)
     other more =
-        verdict-keeps TypesGood (judged types (fieldPlace from) (field f rest)) (typesBefore types) from (cond (isKind type-tag (tagOf (f .tag))) type (stopped types (field f rest)))
+        verdict-keeps TypesGood (judged types (fieldPlace from) (field f rest)) (typesBefore types) from (by-other types f from rest)
         (before-good types s)
         (λ e. as-type (isKind type-tag (tagOf (f .tag))) (judged-types types (fieldPlace from) (field f rest) s e) more)
 
     go : (three em : Bool) → isEmpty types ≡ em
-        → (TypesSound (edgeAdded types (edgeIn (latest types .output) (f .body))) → TypesGood (more-edges .gathered))
-        → (TypesSound (types ++ (typeIn (f .body) ∷ [])) → TypesGood (more-types .gathered))
-        → TypesGood (cond (three && not em) edge
-        (ifPasses (judged types (fieldPlace from) (field f rest)) (typesBefore types) from (cond (isKind type-tag (tagOf (f .tag))) type (stopped types (field f rest)))) .gathered)
+        → (TypesSound (with-edge types f) → TypesGood (more-edges types f from rest .gathered))
+        → (TypesSound (with-type types f) → TypesGood (more-types types f from rest .gathered))
+        → TypesGood (cond (three && not em) (by-edge types f from rest)
+        (ifPasses (judged types (fieldPlace from) (field f rest)) (typesBefore types) from (by-other types f from rest)) .gathered)
     go true true em edges types′ = other types′
     go true false em edges types′ =
-        verdict-keeps TypesGood (firstOf (edgeTests (latest types) (f .at) (f .body))) (typesBefore types) from more-edges (before-good types s)
+        verdict-keeps TypesGood (firstOf (edgeTests (latest types) (f .at) (f .body))) (typesBefore types) from (more-edges types f from rest) (before-good types s)
         (λ e. edges (edge-keeps types (withEdge (latest types) (edgeIn (latest types .output) (f .body))) em s
         (edge-pass (latest types) (f .at) (f .body) e (latest-sound types em s))))
     go false em em′ edges types′ = other types′

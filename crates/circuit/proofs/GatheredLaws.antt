@@ -22,7 +22,7 @@ use Rattle.circuit.specs.Verdicts.{isRefused}
 use Rattle.circuit.specs.Before.{typesBefore, withoutLatest, finished, beforeFrom, readBefore}
 use Rattle.circuit.specs.Stages.{Stage, stopped, ifPasses, section, bridgeStage, instanceStage, vectorStage, failingBefore, failingVerdict, judged, fieldPlace, typeStage, pastVerdict, afterStage, afterInputs, fromStart, staged, gatheredFrom, gatheredAtStart, gatheredOf}
 use Rattle.circuit.specs.Laws.{GatheredIsBefore, BeforeIsCircuit}
-use Rattle.circuit.proofs.StageLaws.{knowing, quiet, judged-quiet, Ready, StageOf, after-own, at-stop, ready-end, bridges-stage, instances-stage, vectors-stage, Before, after-type, ready, both-true, none-waits, snoc-some, set-some, failing-field, types-past, withTypes, staged-is-reading}
+use Rattle.circuit.proofs.StageLaws.{knowing, quiet, judged-quiet, Ready, StageOf, after-own, at-stop, ready-end, bridges-stage, instances-stage, vectors-stage, Before, after-type, ready, with-edge, with-type, more-edges, more-types, by-edge, by-type, by-other, both-true, none-waits, snoc-some, set-some, failing-field, types-past, withTypes, staged-is-reading}
 use Rattle.circuit.proofs.OrderLaws.{kind-is, known-rank, first-place}
 use Rattle.circuit.proofs.RangeLaws.{between-in}
 
@@ -205,7 +205,7 @@ module _ (P : ℕ) (next : List ModuleType → Cut → Circuit)
 
   module _ (types : List ModuleType) (previous : Previous) (from : Cut) (f : Field) (rest : Cut) (more : Stage (List ModuleType)) where
     at-edge : tagOf (f .tag) ≡ edge-tag → unjudged previous ≡ true → next (typesBefore types) from ≡ withTypes P (typesBefore types)
-        → beforeFrom (knowing (after-tag edge-tag) (fieldPlace from) (withTypes P (edgeAdded types (edgeIn (latest types .output) (f .body))))) rest ≡ goesOn next more
+        → beforeFrom (knowing (after-tag edge-tag) (fieldPlace from) (withTypes P (with-edge types f))) rest ≡ goesOn next more
         → beforeFrom (knowing previous (fieldPlace from) (withTypes P types)) (field f rest)
         ≡ goesOn next (ifPasses (firstOf (edgeTests (latest types) (f .at) (f .body))) (typesBefore types) from more)
     unfolding isKind mayFollow unjudged bodyTests taken
@@ -215,7 +215,7 @@ module _ (P : ℕ) (next : List ModuleType → Cut → Circuit)
         (drops previous (fieldPlace from) (withTypes P types) true u refl ∙ sym holds) later
 
     at-type : tagOf (f .tag) ≡ type-tag → 1 ≤ reached previous → reached previous ≤ 2 → (unjudged previous ≡ true → notComplementary types ≡ false)
-        → beforeFrom (knowing (after-tag type-tag) (f .at) (withTypes P (types ++ (typeIn (f .body) ∷ [])))) rest ≡ goesOn next more
+        → beforeFrom (knowing (after-tag type-tag) (f .at) (withTypes P (with-type types f))) rest ≡ goesOn next more
         → beforeFrom (knowing previous (fieldPlace from) (withTypes P types)) (field f rest)
         ≡ goesOn next (ifPasses (firstOf (typeTests (length types) (f .at) (f .body))) types (field f rest) more)
     unfolding isKind mayFollow bodyTests taken
@@ -248,49 +248,36 @@ module _ (P : ℕ) (next : List ModuleType → Cut → Circuit)
       (λ j. goes-on types previous (fieldPlace from) (broken at) (ready types previous (broken at) b j (λ h. absurd (omega arith))))
   types-gather types previous from (field f rest) b holds =
       go (isEdge (tagOf (f .tag)) && not (isEmpty types)) refl
-      (λ c. types-gather (edgeAdded types (edgeIn (latest types .output) (f .body))) (after-tag edge-tag) from rest c holds)
-      (λ c q. types-gather (types ++ (typeIn (f .body) ∷ [])) (after-tag type-tag) (field f rest) rest c (λ ts. stays ts f rest q))
+      (λ c. types-gather (with-edge types f) (after-tag edge-tag) from rest c holds)
+      (λ c q. types-gather (with-type types f) (after-tag type-tag) (field f rest) rest c (λ ts. stays ts f rest q))
     where
       known : Known
       known = knowing previous (fieldPlace from) (withTypes P types)
 
-      more-edges : Stage (List ModuleType)
-      more-edges = typeStage (edgeAdded types (edgeIn (latest types .output) (f .body))) from rest
-
-      more-types : Stage (List ModuleType)
-      more-types = typeStage (types ++ (typeIn (f .body) ∷ [])) (field f rest) rest
-
-      edge : Stage (List ModuleType)
-      edge = ifPasses (firstOf (edgeTests (latest types) (f .at) (f .body))) (typesBefore types) from more-edges
-
-      type : Stage (List ModuleType)
-      type = ifPasses (firstOf (typeTests (length types) (f .at) (f .body))) types (field f rest) more-types
-
       go : (own : Bool) → (isEdge (tagOf (f .tag)) && not (isEmpty types)) ≡ own
-          → (Before (edgeAdded types (edgeIn (latest types .output) (f .body))) (after-tag edge-tag)
-          → beforeFrom (knowing (after-tag edge-tag) (fieldPlace from) (withTypes P (edgeAdded types (edgeIn (latest types .output) (f .body))))) rest ≡ goesOn next more-edges)
-          → (Before (types ++ (typeIn (f .body) ∷ [])) (after-tag type-tag) → tagOf (f .tag) ≡ type-tag
-          → beforeFrom (knowing (after-tag type-tag) (f .at) (withTypes P (types ++ (typeIn (f .body) ∷ [])))) rest ≡ goesOn next more-types)
+          → (Before (with-edge types f) (after-tag edge-tag)
+          → beforeFrom (knowing (after-tag edge-tag) (fieldPlace from) (withTypes P (with-edge types f))) rest ≡ goesOn next (more-edges types f from rest))
+          → (Before (with-type types f) (after-tag type-tag) → tagOf (f .tag) ≡ type-tag
+          → beforeFrom (knowing (after-tag type-tag) (f .at) (withTypes P (with-type types f))) rest ≡ goesOn next (more-types types f from rest))
           → beforeFrom known (field f rest)
-          ≡ goesOn next (cond own edge (ifPasses (judged types (fieldPlace from) (field f rest)) (typesBefore types) from
-          (cond (isKind type-tag (tagOf (f .tag))) type (stopped types (field f rest)))))
+          ≡ goesOn next (cond own (by-edge types f from rest) (ifPasses (judged types (fieldPlace from) (field f rest)) (typesBefore types) from (by-other types f from rest)))
       go true e later-edge later-type =
           let parts = both-true (isEdge (tagOf (f .tag))) (not (isEmpty types)) e in
           let some = not-true (isEmpty types) (parts .1) in
-          at-edge types previous from f rest more-edges (kind-is edge-tag (tagOf (f .tag)) (parts .0)) (b .some some) (holds (typesBefore types))
-          (later-edge (after-type (edgeAdded types (edgeIn (latest types .output) (f .body))) (after-tag edge-tag)
+          at-edge types previous from f rest (more-edges types f from rest) (kind-is edge-tag (tagOf (f .tag)) (parts .0)) (b .some some) (holds (typesBefore types))
+          (later-edge (after-type (with-edge types f) (after-tag edge-tag)
           (set-some types (length types - 1) (withEdge (latest types) (edgeIn (latest types .output) (f .body))) some) refl))
       go false e later-edge later-type =
-          judge types previous from (field f rest) (cond (isKind type-tag (tagOf (f .tag))) type (stopped types (field f rest))) _ b (holds (typesBefore types))
-          (λ em fl. at-failing types previous from f rest type (sym (and-true (isEdge (tagOf (f .tag)))) ∙ (rw em at e)) (b .some em) fl)
+          judge types previous from (field f rest) (by-other types f from rest) _ b (holds (typesBefore types))
+          (λ em fl. at-failing types previous from f rest (by-type types f from rest) (sym (and-true (isEdge (tagOf (f .tag)))) ∙ (rw em at e)) (b .some em) fl)
           (as-type (isKind type-tag (tagOf (f .tag))) refl)
         where
           as-type : (two : Bool) → isKind type-tag (tagOf (f .tag)) ≡ two → (unjudged previous ≡ true → notComplementary types ≡ false)
-              → beforeFrom known (field f rest) ≡ goesOn next (cond two type (stopped types (field f rest)))
+              → beforeFrom known (field f rest) ≡ goesOn next (cond two (by-type types f from rest) (stopped types (field f rest)))
           as-type true q j =
               let own = kind-is type-tag (tagOf (f .tag)) q in
-              at-type types previous from f rest more-types own (b .low) (b .high) j
-              (later-type (after-type (types ++ (typeIn (f .body) ∷ [])) (after-tag type-tag) (snoc-some types (typeIn (f .body))) refl) own)
+              at-type types previous from f rest (more-types types f from rest) own (b .low) (b .high) j
+              (later-type (after-type (with-type types f) (after-tag type-tag) (snoc-some types (typeIn (f .body))) refl) own)
           as-type false q j =
               goes-on types previous (fieldPlace from) (field f rest) (ready types previous (field f rest) b j (types-past types previous (tagOf (f .tag)) b e q))
 

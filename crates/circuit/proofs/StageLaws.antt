@@ -237,6 +237,31 @@ pub ready : (types : List ModuleType) (previous : Previous) (cut : Cut) → Befo
     → (rank (nextTag cut) < 3 → mayFollow previous (nextTag cut) ≡ false) → Ready 3 previous types cut
 ready types previous cut b j behind = let h = b .high in record { low = b .low; high = omega arith; judged = j; behind = behind }
 
+-- what a field makes of the types, as the next edge of the latest or as the next type, and the stage from there
+module _ (types : List ModuleType) (f : Field) where
+  abbrev pub with-edge : List ModuleType
+  with-edge = edgeAdded types (edgeIn (latest types .output) (f .body))
+
+  abbrev pub with-type : List ModuleType
+  with-type = types ++ (typeIn (f .body) ∷ [])
+
+  module _ (from rest : Cut) where
+    abbrev pub more-edges : Stage (List ModuleType)
+    more-edges = typeStage with-edge from rest
+
+    abbrev pub more-types : Stage (List ModuleType)
+    more-types = typeStage with-type (field f rest) rest
+
+    abbrev pub by-edge : Stage (List ModuleType)
+    by-edge = ifPasses (firstOf (edgeTests (latest types) (f .at) (f .body))) (typesBefore types) from more-edges
+
+    abbrev pub by-type : Stage (List ModuleType)
+    by-type = ifPasses (firstOf (typeTests (length types) (f .at) (f .body))) types (field f rest) more-types
+
+    -- it is no edge
+    abbrev pub by-other : Stage (List ModuleType)
+    by-other = cond (isKind type-tag (tagOf (f .tag))) by-type (stopped types (field f rest))
+
 pub both-true : (a b : Bool) → (a && b) ≡ true → (a ≡ true) × (b ≡ true)
 both-true true b e = (refl, e)
 both-true false b e = (cc, cc)
@@ -358,49 +383,43 @@ module _ (wanted : Bool) (size P : ℕ) where
         (λ j. goes-on types previous (fieldPlace from) (broken at) (ready types previous (broken at) b j (λ h. absurd (omega arith))))
     types-read types previous from (field f rest) b =
         go (isEdge (tagOf (f .tag)) && not (isEmpty types)) refl
-        (λ c. types-read (edgeAdded types (edgeIn (latest types .output) (f .body))) (after-tag edge-tag) from rest c)
-        (λ c. types-read (types ++ (typeIn (f .body) ∷ [])) (after-tag type-tag) (field f rest) rest c)
+        (λ c. types-read (with-edge types f) (after-tag edge-tag) from rest c)
+        (λ c. types-read (with-type types f) (after-tag type-tag) (field f rest) rest c)
       where
-        edge : Stage (List ModuleType)
-        edge = ifPasses (firstOf (edgeTests (latest types) (f .at) (f .body))) (typesBefore types) from (typeStage (edgeAdded types (edgeIn (latest types .output) (f .body))) from rest)
-
-        type : Stage (List ModuleType)
-        type = ifPasses (firstOf (typeTests (length types) (f .at) (f .body))) types (field f rest) (typeStage (types ++ (typeIn (f .body) ∷ [])) (field f rest) rest)
-
         go : (own : Bool) → (isEdge (tagOf (f .tag)) && not (isEmpty types)) ≡ own
-            → (Before (edgeAdded types (edgeIn (latest types .output) (f .body))) (after-tag edge-tag) → readFrom wanted size (knowing (after-tag edge-tag) (fieldPlace from) (withTypes P (edgeAdded types (edgeIn (latest types .output) (f .body))))) rest
-            ≡ afterStage (typeStage (edgeAdded types (edgeIn (latest types .output) (f .body))) from rest) next)
-            → (Before (types ++ (typeIn (f .body) ∷ [])) (after-tag type-tag) → readFrom wanted size (knowing (after-tag type-tag) (f .at) (withTypes P (types ++ (typeIn (f .body) ∷ [])))) rest
-            ≡ afterStage (typeStage (types ++ (typeIn (f .body) ∷ [])) (field f rest) rest) next)
+            → (Before (with-edge types f) (after-tag edge-tag) → readFrom wanted size (knowing (after-tag edge-tag) (fieldPlace from) (withTypes P (with-edge types f))) rest
+            ≡ afterStage (more-edges types f from rest) next)
+            → (Before (with-type types f) (after-tag type-tag) → readFrom wanted size (knowing (after-tag type-tag) (f .at) (withTypes P (with-type types f))) rest
+            ≡ afterStage (more-types types f from rest) next)
             → readFrom wanted size (knowing previous (fieldPlace from) (withTypes P types)) (field f rest)
-            ≡ afterStage (cond own edge (ifPasses (judged types (fieldPlace from) (field f rest)) (typesBefore types) from (cond (isKind type-tag (tagOf (f .tag))) type (stopped types (field f rest))))) next
+            ≡ afterStage (cond own (by-edge types f from rest) (ifPasses (judged types (fieldPlace from) (field f rest)) (typesBefore types) from (by-other types f from rest))) next
         go true e more-edge more-type =
             let parts = both-true (isEdge (tagOf (f .tag))) (not (isEmpty types)) e in
             let some = not-true (isEmpty types) (parts .1) in
             read-edge wanted size P types previous (fieldPlace from) f rest (kind-is edge-tag (tagOf (f .tag)) (parts .0)) (b .some some)
-            ∙ unless-stage (firstOf (edgeTests (latest types) (f .at) (f .body))) _ (typesBefore types) from (typeStage (edgeAdded types (edgeIn (latest types .output) (f .body))) from rest) next
-            (more-edge (after-type (edgeAdded types (edgeIn (latest types .output) (f .body))) (after-tag edge-tag)
+            ∙ unless-stage (firstOf (edgeTests (latest types) (f .at) (f .body))) _ (typesBefore types) from (more-edges types f from rest) next
+            (more-edge (after-type (with-edge types f) (after-tag edge-tag)
             (set-some types (length types - 1) (withEdge (latest types) (edgeIn (latest types .output) (f .body))) some) refl))
-        go false e more-edge more-type = judge types previous from (field f rest) (cond (isKind type-tag (tagOf (f .tag))) type (stopped types (field f rest))) b failing fine
+        go false e more-edge more-type = judge types previous from (field f rest) (by-other types f from rest) b failing fine
           where
             failing : isEmpty types ≡ false → notComplementary types ≡ true → readFrom wanted size (knowing previous (fieldPlace from) (withTypes P types)) (field f rest)
-                ≡ afterStage (ifPasses (failingVerdict (fieldPlace from) (field f rest)) (typesBefore types) from (cond (isKind type-tag (tagOf (f .tag))) type (stopped types (field f rest)))) next
+                ≡ afterStage (ifPasses (failingVerdict (fieldPlace from) (field f rest)) (typesBefore types) from (by-other types f from rest)) next
             failing em fl =
-                failing-at-field wanted size P types previous (fieldPlace from) (typesBefore types) from (cond (isKind type-tag (tagOf (f .tag))) type (stopped types (field f rest))) next (b .some em) fl f rest
+                failing-at-field wanted size P types previous (fieldPlace from) (typesBefore types) from (by-other types f from rest) next (b .some em) fl f rest
                 (sym (and-true (isEdge (tagOf (f .tag)))) ∙ (rw em at e))
 
             as-type : (two : Bool) → isKind type-tag (tagOf (f .tag)) ≡ two → (unjudged previous ≡ true → notComplementary types ≡ false)
-                → readFrom wanted size (knowing previous (fieldPlace from) (withTypes P types)) (field f rest) ≡ afterStage (cond two type (stopped types (field f rest))) next
+                → readFrom wanted size (knowing previous (fieldPlace from) (withTypes P types)) (field f rest) ≡ afterStage (cond two (by-type types f from rest) (stopped types (field f rest))) next
             as-type true q j =
                 read-type wanted size P types previous (fieldPlace from) f rest (kind-is type-tag (tagOf (f .tag)) q) (b .low) (b .high) j
-                ∙ unless-stage (firstOf (typeTests (length types) (f .at) (f .body))) _ types (field f rest) (typeStage (types ++ (typeIn (f .body) ∷ [])) (field f rest) rest) next
-                (more-type (after-type (types ++ (typeIn (f .body) ∷ [])) (after-tag type-tag) (snoc-some types (typeIn (f .body))) refl))
+                ∙ unless-stage (firstOf (typeTests (length types) (f .at) (f .body))) _ types (field f rest) (more-types types f from rest) next
+                (more-type (after-type (with-type types f) (after-tag type-tag) (snoc-some types (typeIn (f .body))) refl))
             as-type false q j =
                 goes-on types previous (fieldPlace from) (field f rest) (ready types previous (field f rest) b j (types-past types previous (tagOf (f .tag)) b e q))
 
             fine : (unjudged previous ≡ true → notComplementary types ≡ false)
                 → readFrom wanted size (knowing previous (fieldPlace from) (withTypes P types)) (field f rest)
-                ≡ afterStage (cond (isKind type-tag (tagOf (f .tag))) type (stopped types (field f rest))) next
+                ≡ afterStage (by-other types f from rest) next
             fine = as-type (isKind type-tag (tagOf (f .tag))) refl
 
 -- ---- the whole

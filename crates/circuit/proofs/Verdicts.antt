@@ -28,11 +28,6 @@ chain (t ∷ ts) = go (t .refuses) (chain ts)
     go true later = sym (after-refused (t .number) (t .place) ts)
     go false later = later
 
-pub refused-is : (v : Verdict) → isRefused v ≡ true → (n : ℕ) × (p : ℕ) × (v ≡ refusedAt n p)
-unfolding isRefused
-refused-is passes e = let z : _≡_ {A = ℕ} 0 1 = cc in absurd (omega arith)
-refused-is (refusedAt n p) e = (n, p, refl)
-
 pub passes-is : (v : Verdict) → isRefused v ≡ false → v ≡ passes
 unfolding isRefused
 passes-is passes e = refl

@@ -14,7 +14,7 @@ use lib.Dec.{T, leb, ltb, leb→le, ltb→lt, le→leb, lt→ltb}
 use lib.ListN.{length, getD, length-map, List·getD-map}
 use Rattle.words.specs.Bits.{bit, ofBool, firstOnes}
 use Rattle.words.specs.Tables.{table, upTo}
-use Rattle.words.proofs.Laws.{bit-le-one, bit-or, bit-and, ofBool-le-one, word-of-bits}
+use Rattle.words.proofs.Laws.{bit-le-one, bit-or, bit-and, min-and, max-or, ofBool-le-one, word-of-bits}
 use Rattle.words.proofs.Tables.{table-cong, up-below, up-past}
 use Rattle.words.proofs.Rows.{row-word}
 use Rattle.words.proofs.FirstOnes.{firstOnes-lt, bit-firstOnes}
@@ -79,16 +79,6 @@ faults-suit types bridges inst = go (inst .choice)
     go no-faults e j d h = absurd (not-suc-le-zero h)
     go (list n) e j d h = all-of (bridgeSuits t) d (userList n bridges) .0 (accepts (allOf (bridgeSuits t) (userList n bridges)) e) j h
 
--- ---- tests and bits
-
-and-bit : (a b : Bool) → min (ofBool a) (ofBool b) ≡ ofBool (a && b)
-and-bit true b = omega (arith, ofBool-le-one b)
-and-bit false b = omega arith
-
-or-bit : (a b : Bool) → max (ofBool a) (ofBool b) ≡ ofBool (a || b)
-or-bit true b = omega (arith, ofBool-le-one b)
-or-bit false b = omega arith
-
 -- ---- marks by the ends' bits
 
 module _ (t : ModuleType) (accepted : Accepted t) (values : ℕ → Value) where
@@ -130,7 +120,7 @@ module _ (t : ModuleType) (accepted : Accepted t) (values : ℕ → Value) where
         ≡ ofBool (isMarked t values (nodes a b))
     unfolding one-way other-way
     pair-mark =
-        rw (and-bit (to a supply) (to b ground), and-bit (to a ground) (to b supply), or-bit one-way other-way)
+        rw (min-and (to a supply) (to b ground), min-and (to a ground) (to b supply), max-or one-way other-way)
         (ap ofBool (same-test (one-way || other-way) (isMarked t values (nodes a b))
         (λ p. ways-mark (or-cases one-way other-way p)) (λ p. mark-ways (by-ends (nodes a b) p))))
 

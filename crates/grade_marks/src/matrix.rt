@@ -1,4 +1,7 @@
 // The rows of the matrix: four words for each fault, from both rails' words of its nodes and both planes of its label.
+use grading::codes::first_in;
+use grading::codes::kind_in;
+use grading::codes::second_in;
 use words::first_ones;
 ghost use mathlib.Core.Path.{_≡_};
 ghost use Prim.Native.Nat.{_+_, _*_, _<_, _≤_};
@@ -20,10 +23,9 @@ fn mark_word(
     requires { ⌜ w < 4 ⌝ }
     ensures { λ r. ⌜ r ≡ markWord (now (supply .entry)) (now (ground .entry)) (now (ones .entry)) (now (zeros .entry)) row w ⌝ }
 {
-    let kind = row / 65536 % 256;
-    let a = 4 * ((row / 256 % 256) as usize) + w;
-    let b = 4 * ((row % 256) as usize) + w;
-    if kind == 0 {
+    let a = 4 * (first_in(row) as usize) + w;
+    let b = 4 * (second_in(row) as usize) + w;
+    if kind_in(row) == 0 {
         return (supply[a] & ground[b]) | (ground[a] & supply[b]);
     }
     (ones[b] & ground[a]) | (zeros[b] & supply[a])

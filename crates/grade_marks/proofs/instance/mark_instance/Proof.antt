@@ -32,6 +32,30 @@ marked t references ones zeros labelOnes labelZeros rails e₁ e₀ joined put�
   zeros-are = put₀ ∙ rw (joined, e₁, e₀);
 }
 
+-- ---- where things stand
+
+-- the start, from the planes of the labels, known-1 and then known-0
+abbrev start-ones : tie.After-label-planes-arg → tie.Start
+start-ones c = c .before .before .before .before
+
+abbrev start-zeros : tie.After-label-planes-arg2 → tie.Start
+start-zeros c = start-ones (c .before .before)
+
+-- those planes, from the joined nodes; these, from the output; and that, from the rows
+abbrev planes-told : tie.After-join-type → tie.After-label-planes2
+planes-told c = c .before .before .before
+
+abbrev nodes-told : tie.After-put-output-arg4 → tie.After-join-type
+nodes-told c = c .before .before .before .before .before
+
+abbrev output-told : tie.After-write-rows-arg3 → tie.After-put-output
+output-told c = c .before .before .before .before .before .before
+
+abbrev start : tie.After-join-type → tie.Start
+start c = start-zeros (planes-told c .before)
+
+-- ---- the needs
+
 cast-k : tie.Need-cast-k
 cast-k c = search needs
 
@@ -39,23 +63,23 @@ cast-output : tie.Need-cast-output
 cast-output c = search needs
 
 label-planes-requires : tie.Need-label-planes-requires
-label-planes-requires c κs = c .before .before .before .before .pre .tied
+label-planes-requires c κs = start-ones c .pre .tied
 
 label-planes-requires-2 : tie.Need-label-planes-requires-2
-label-planes-requires-2 c κs = c .before .before .before .before .before .before .pre .tied
+label-planes-requires-2 c κs = start-zeros c .pre .tied
 
 join-type-requires : tie.Need-join-type-requires
-join-type-requires c κs = c .before .before .before .before .before .before .before .before .before .pre .sound
+join-type-requires c κs = start-zeros (c .before .before .before) .pre .sound
 
 put-output-requires : tie.Need-put-output-requires
 put-output-requires c κs =
-    let start = c .before .before .before .before .before .before .before .before .before .before .before .before .before .before .before in
-    let ranges = given-type (start .args .t) (start .pre .sound) in
-    ((omega (arith, ranges .output-high, ranges .highest), start .pre .placed), (start .pre .ones-long, start .pre .zeros-long))
+    let begin = start (nodes-told c) in
+    let ranges = given-type (begin .args .t) (begin .pre .sound) in
+    ((omega (arith, ranges .output-high, ranges .highest), begin .pre .placed), (begin .pre .ones-long, begin .pre .zeros-long))
 
 write-rows-requires : tie.Need-write-rows-requires
 write-rows-requires c κs =
-    let pre = c .before .before .before .before .before .before .before .before .before .before .before .before .before .before .before .before .before .before .before .before .before .before .pre in
+    let pre = start (nodes-told (output-told c .before)) .pre in
     ((pre .order, pre .most), (pre .room, pre .codes))
 
 same-length : tie.Need-same-length
@@ -63,10 +87,10 @@ same-length c = search needs
 
 returns : tie.Need-returns
 returns c =
-    let put = c .before .before .before .before .before .before .before .before .before in
-    let joined = put .before .before .before .before .before .before in
-    let planes = joined .before .before .before in
-    let args = planes .before .before .before .before .before .before .before .args in
+    let put = output-told (c .before .before .before) in
+    let joined = nodes-told (put .before) in
+    let planes = planes-told joined in
+    let args = start joined .args in
     marked (args .t) (args .one .references) (now (args .ones)) (now (args .zeros)) _ _
     (joined .join-type .result) (planes .before .before .label-planes .ensures) (planes .label-planes2 .ensures) (joined .join-type .ensures)
     (put .put-output .ensures .0) (put .put-output .ensures .1) (c .before .before .write-rows .ensures)

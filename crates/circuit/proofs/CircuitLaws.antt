@@ -1,21 +1,23 @@
 -- What holds of every reading, field by field: a refusal has a number of the table and a place in the file, and an accepted circuit is whole. It keeps the rules,
 -- as what was read of any file does (BeforeLaws).
-use Prim.Native.Nat.{ℕ, zero, suc, _+_, _-_, _≤_, _<_}
+use Prim.Native.Nat.{ℕ, zero, suc, _+_, _-_, _≤_}
 use mathlib.Core.Path.{_≡_, refl, sym, subst, _∙_}
-use mathlib.Core.Bool.{Bool, true, false, cond, not, _&&_}
-use mathlib.Core.List.{List, [], _∷_}
+use mathlib.Core.Bool.{Bool, true, false, cond}
+use mathlib.Core.List.{List, []}
 use native.Mathlib.Omega.{arith}
 use borrow.Author.Tests.{ltb-false, eqb-true, not-false}
-use lib.Dec.{eqb, ltb}
+use lib.Dec.{T, eqb, ltb}
 use lib.ListN.{length, getD, take, drop}
+use Rattle.switch.specs.Conduction.{between}
+use Rattle.switch.proofs.Channels.{in-between}
 use Rattle.circuit.specs.Limits.{mostBytes}
 use Rattle.circuit.specs.Fields.{Field, Cut, clean, broken, field, cutIn, cutFrom, twoBytes}
-use Rattle.circuit.specs.Circuit.{Circuit}
+use Rattle.circuit.specs.Circuit.{Circuit, Instance, numbered, noType, typeOfInstance}
 use Rattle.circuit.specs.Order.{Tag, inputs-tag, type-tag, edge-tag, bridge-tag, instance-tag, vector-tag, no-tag, tagOf, isKind, isUnknown, reached, atStart, mayFollow}
 use Rattle.circuit.specs.Known.{Known, start, latest, taken, typeAtAfter, knownAfter}
-use Rattle.circuit.specs.Table.{Verdict, passes, refusedAt, firstOf, isEmpty, bodyTests, fieldTests, endTests}
+use Rattle.circuit.specs.Table.{Verdict, passes, refusedAt, firstOf, bodyTests, fieldTests, endTests}
 use Rattle.circuit.specs.Reading.{Reading, accepted, refusal, unless, readFrom, readingWith}
-use Rattle.circuit.specs.Laws.{CircuitGood, Whole, RefusalGood, AcceptedIsGood, AcceptedIsWhole, RefusalIsGood}
+use Rattle.circuit.specs.Laws.{TypeGood, CircuitGood, Whole, RefusalGood, AcceptedIsGood, AcceptedIsWhole, RefusalIsGood}
 use Rattle.circuit.proofs.BeforeLaws.{before-is-good}
 use Rattle.circuit.proofs.GatheredLaws.{before-is-circuit}
 use Rattle.circuit.proofs.OrderLaws.{first-place}
@@ -170,3 +172,13 @@ accepted-is-whole wanted file c e = subst (ReadingGood wanted (length file)) e (
 
 pub refusal-is-good : RefusalIsGood
 refusal-is-good wanted file number place e = subst (ReadingGood wanted (length file)) e (reading-good wanted file)
+
+-- ---- the type of an instance of a good circuit
+
+pub instance-type : (c : Circuit) → CircuitGood c → (i : Instance) → T (between 1 (length (c .types)) (i .type)) → TypeGood (typeOfInstance (c .types) i)
+unfolding numbered
+instance-type c good i t = go (i .type) (in-between 1 (length (c .types)) (i .type) t)
+  where
+    go : (n : ℕ) → (1 ≤ n) × (n ≤ length (c .types)) → TypeGood (numbered (c .types) n noType)
+    go zero h = absurd (omega arith)
+    go (suc n) h = good .types n noType (omega arith)

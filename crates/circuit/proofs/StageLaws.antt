@@ -11,7 +11,7 @@ use lib.ListN.{length, set}
 use Rattle.switch.specs.Conduction.{Value}
 use Rattle.switch.specs.Modules.{ModuleType}
 use Rattle.circuit.specs.Fields.{Field, Cut, clean, broken, field, cutFrom, twoBytes}
-use Rattle.circuit.specs.Circuit.{Circuit, Instance, Listed, faultCount}
+use Rattle.circuit.specs.Circuit.{Circuit, Instance, Listed}
 use Rattle.circuit.specs.Order.{Tag, inputs-tag, type-tag, edge-tag, bridge-tag, instance-tag, vector-tag, no-tag, tagOf, isKind, isEdge, isUnknown, rank, Previous, start-of-file, after-tag, reached, mayFollow}
 use Rattle.circuit.specs.Known.{Known, start, typeIn, edgeIn, listedIn, instanceIn, vectorIn, latest, withEdge, edgeAdded, taken, typeAtAfter, knownAfter}
 use Rattle.circuit.specs.Table.{Test, Verdict, passes, refusedAt, firstOf, misplaced, unjudged, notComplementary, isEmpty, inputsTests, typeTests, edgeTests, bridgeTests, instanceTests, vectorTests, bodyTests, fieldTests, endTests}

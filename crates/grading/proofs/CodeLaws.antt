@@ -1,28 +1,16 @@
--- The number of a row tells its instance, its kind and its ends, and fits where its nodes and labels are there. Assumes nothing.
+-- The number of a row tells its instance, its kind and its ends, and fits where its nodes and labels are there; rows have a number each. Assumes nothing.
 use Prim.Native.Nat.{ℕ, _<_}
 use mathlib.Core.Path.{_≡_, refl}
 use mathlib.Core.Bool.{false}
+use mathlib.Core.List.{List}
 use native.Mathlib.Omega.{arith}
 use borrow.Author.Tests.{eqb-false}
 use lib.Dec.{eqb}
+use lib.ListN.{length, length-map}
 use Rattle.switch.specs.Bridges.{Bridge, nodes, input}
-use Rattle.grading.specs.Codes.{kindOf, firstEnd, secondEnd, packed, instanceIn, kindIn, firstIn, secondIn, codeOf, CodeFits}
+use Rattle.grading.specs.Rows.{Row}
+use Rattle.grading.specs.Codes.{kindOf, firstEnd, secondEnd, instanceIn, kindIn, firstIn, secondIn, codeOf, codesOf, CodeFits}
 use Rattle.grading.proofs.FaultRanges.{BridgeFits}
-
--- ---- four numbers in one
-
-module _ (n kind first second : ℕ) (k : kind < 256) (f : first < 256) (s : second < 256) where
-  pub instance-back : instanceIn (packed n kind first second) ≡ n
-  instance-back = omega arith
-
-  pub kind-back : kindIn (packed n kind first second) ≡ kind
-  kind-back = omega arith
-
-  pub first-back : firstIn (packed n kind first second) ≡ first
-  first-back = omega arith
-
-pub second-back : (n kind first second : ℕ) → second < 256 → secondIn (packed n kind first second) ≡ second
-second-back n kind first second s = omega arith
 
 -- ---- a bridge's
 
@@ -44,27 +32,27 @@ label-fits (input m l) fits e = fits .1
 module _ (n : ℕ) (b : Bridge) (fits : BridgeFits b) where
   pub code-instance : instanceIn (codeOf n b) ≡ n
   unfolding codeOf
-  code-instance =
-      let p = parts b fits in
-      instance-back n (kindOf b) (firstEnd b) (secondEnd b) (p .kind) (omega (arith, p .first)) (omega (arith, p .second))
+  code-instance = omega (arith, parts b fits)
 
   pub code-kind : kindIn (codeOf n b) ≡ kindOf b
   unfolding codeOf
-  code-kind =
-      let p = parts b fits in
-      kind-back n (kindOf b) (firstEnd b) (secondEnd b) (p .kind) (omega (arith, p .first)) (omega (arith, p .second))
+  code-kind = omega (arith, parts b fits)
 
   pub code-first : firstIn (codeOf n b) ≡ firstEnd b
   unfolding codeOf
-  code-first =
-      let p = parts b fits in
-      first-back n (kindOf b) (firstEnd b) (secondEnd b) (p .kind) (omega (arith, p .first)) (omega (arith, p .second))
+  code-first = omega (arith, parts b fits)
 
   pub code-second : secondIn (codeOf n b) ≡ secondEnd b
   unfolding codeOf
-  code-second = second-back n (kindOf b) (firstEnd b) (secondEnd b) (omega (arith, parts b fits .second))
+  code-second = omega (arith, parts b fits)
 
   -- every code has its nodes and its label
   pub code-fits : CodeFits (codeOf n b)
   unfolding CodeFits
   code-fits = rw (code-first, code-second, code-kind) (parts b fits .first, parts b fits .second, label-fits b fits)
+
+-- ---- the codes of rows
+
+pub length-codes : (rows : List Row) → length (codesOf rows) ≡ length rows
+unfolding codesOf
+length-codes rows = length-map rows _

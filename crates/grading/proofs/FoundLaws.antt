@@ -10,15 +10,21 @@ use borrow.Author.Tests.{eqb-true, eq-eqb, ne-eqb, lt-ltb, le-ltb}
 use lib.Dec.{T, eqb, ltb}
 use lib.ListN.{length, getD}
 use Rattle.words.specs.Bits.{ofBool, sumTo}
+use Rattle.words.proofs.Laws.{ofBool-le-one}
 use Rattle.words.proofs.Counting.{sum-cong, sum-snoc}
 use Rattle.circuit.specs.Circuit.{Circuit}
-use Rattle.grading.specs.Rows.{Row, markOf}
+use Rattle.grading.specs.Rows.{Row, cell, markOf}
 use Rattle.grading.specs.Classes.{sameClass, largest, hasMarkBy, hasMark, classFoundBy, foundBy}
 use Rattle.grading.specs.Statements.{RowOf}
 use Rattle.grading.proofs.Everywhere.{Every, every-at}
 use Rattle.grading.proofs.SameClass.{classes-have-equal-marks}
 use Rattle.grading.proofs.ClassLists.{classOf, at-most-largest}
 use Rattle.grading.proofs.ClassNumbering.{Matched, Fresh, searched}
+
+-- a row has a mark under a vector, or none
+pub mark-le-one : (c : Circuit) (row : Row) (v : ℕ) → markOf c row v ≤ 1
+unfolding markOf
+mark-le-one c row v = ofBool-le-one (cell c (getD (c .vectors) v []) row)
 
 -- ---- by the marks of rows under so many vectors
 

@@ -1,5 +1,5 @@
 -- The type of a good instance, and the values of its labels. Assumes nothing.
-use Prim.Native.Nat.{ℕ, zero, suc, _<_, _≤_}
+use Prim.Native.Nat.{ℕ, _<_, _≤_}
 use mathlib.Core.Path.{_≡_, subst}
 use mathlib.Core.List.{List, map}
 use native.Mathlib.Omega.{arith}
@@ -7,12 +7,12 @@ use lib.ListN.{length, getD, length-map, List·getD-eq-default, List·getD-map}
 use Rattle.switch.specs.Conduction.{Value, atX}
 use Rattle.switch.specs.Modules.{ModuleType}
 use Rattle.switch.specs.Statements.{Accepted}
-use Rattle.switch.proofs.Channels.{in-between}
 use Rattle.switch.proofs.Deciding.{complementary-decides}
 use Rattle.switch.proofs.Ranges.{TypeRanges, given-type}
-use Rattle.circuit.specs.Circuit.{Circuit, primary, Instance, numbered, noType, typeOfInstance}
+use Rattle.circuit.specs.Circuit.{Circuit, primary, Instance, numbered, typeOfInstance}
 use Rattle.circuit.specs.Records.{typeRecord}
 use Rattle.circuit.specs.Laws.{CircuitGood, TypeGood, TypeSound, InstanceGood}
+use Rattle.circuit.proofs.CircuitLaws.{instance-type}
 use Rattle.circuit.proofs.TypeLaws.{type-given}
 use Rattle.grading.specs.Values.{valueAt, labelValues}
 
@@ -31,12 +31,7 @@ module _ (c : Circuit) (good : CircuitGood c) (i : ℕ) (within : i < length (c 
   instance-good = subst (InstanceGood (c .inputs) (c .types) (c .bridges) i) is (good .instances i none within)
 
   pub type-good : TypeGood (typeOfInstance (c .types) inst)
-  unfolding numbered
-  type-good = go (inst .type) (in-between 1 (length (c .types)) (inst .type) (instance-good .type))
-    where
-      go : (n : ℕ) → (1 ≤ n) × (n ≤ length (c .types)) → TypeGood (numbered (c .types) n noType)
-      go zero h = absurd (omega arith)
-      go (suc n) h = good .types n noType (omega arith)
+  type-good = instance-type c good inst (instance-good .type)
 
 -- the instance at place i, from 0, of a good circuit
 pub record InstanceAt (c : Circuit) (i : ℕ) (inst : Instance) : Type 0 where

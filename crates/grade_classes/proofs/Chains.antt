@@ -220,9 +220,6 @@ module _ (keys : List ℕ) where
         rw (so-far .classes-are) (ap (λ (k : ℕ). getD (written classes₀ 0 (numbersTo r)) k 0) (omega arith)
         ∙ written-here classes₀ 0 (numbersTo r) (omega (arith, numbers-long)) j (omega (arith, numbers-long)))
 
-    pub class-old : (j : ℕ) → j < r → getD classes j 0 ≤ count
-    class-old j h = omega (arith, class-stands j h, at-most-largest (numbersTo r) j, so-far .count-is)
-
     -- keys that a test finds equal
     same-at : (s : ℕ) → s < r → T (eqb (getD before s 0) key) → keyAt s ≡ key
     same-at s h t = sym (getD-take r keys s 0 h) ∙ eqb→eq (getD before s 0) key t

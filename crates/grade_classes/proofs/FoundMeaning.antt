@@ -11,26 +11,21 @@ use lib.ListN.{length, getD, take, drop, length-take, take-append-drop, List·ge
 use lib.Seq.{take-suc, take-length, getD-at}
 use Rattle.words.specs.Bits.{ofBool, sumTo}
 use Rattle.words.specs.Rows.{rowOf}
-use Rattle.words.proofs.Laws.{ofBool-le-one}
 use Rattle.words.proofs.AnyMark.{any-mark}
 use Rattle.circuit.specs.Circuit.{Circuit, joinLists}
 use Rattle.circuit.specs.Laws.{CircuitGood}
-use Rattle.grading.specs.Rows.{Row, noRow, rowsOf, cell, markOf, rowWords}
+use Rattle.grading.specs.Rows.{Row, noRow, rowsOf, markOf, rowWords}
 use Rattle.grading.specs.Classes.{sameClass, largest, classesAfterBy, classesBy, classesOf, hasMarkBy, hasMark, foundBy, foundAmong, foundCount}
 use Rattle.grading.specs.Statements.{RowOf}
 use Rattle.grading.proofs.Everywhere.{Every, every-at, every-first}
 use Rattle.grading.proofs.MatrixLaws.{row-long, word-in}
-use Rattle.grading.proofs.FoundLaws.{found-more, same-mark}
+use Rattle.grading.proofs.FoundLaws.{mark-le-one, found-more, same-mark}
 use Rattle.grading.proofs.ClassLists.{classOf, length-classes, largest-append, classes-first, classes-snoc}
 use Rattle.grade_classes.specs.Model.{rowMarked, foundFrom}
 
 -- the rows' words stand in a matrix, from its start on
 abbrev pub WordsOf : Circuit → List Row → List ℕ → Type 0
 WordsOf c rows matrix = (r w : ℕ) (none : Row) → r < length rows → w < 4 → getD matrix (4 * r + w) 0 ≡ getD (rowWords c (getD rows r none)) w 0
-
-mark-le-one : (c : Circuit) (row : Row) (v : ℕ) → markOf c row v ≤ 1
-unfolding markOf
-mark-le-one c row v = ofBool-le-one (cell c (getD (c .vectors) v []) row)
 
 pub row-marked : (c : Circuit) → length (c .vectors) ≤ 256 → (rows : List Row) (matrix : List ℕ) → WordsOf c rows matrix
     → (r : ℕ) (none : Row) → r < length rows → eqb (rowMarked matrix r) 0 ≡ not (hasMark c (getD rows r none))

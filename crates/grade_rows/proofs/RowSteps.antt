@@ -16,6 +16,7 @@ use Rattle.circuit.specs.Records.{padded}
 use Rattle.circuit.specs.Laws.{CircuitGood}
 use Rattle.grading.specs.Codes.{codeOf, codesOf}
 use Rattle.grading.specs.Rows.{Row, rowsOfInstance, rowsFrom, rowsOf}
+use Rattle.grading.proofs.CodeLaws.{length-codes}
 use Rattle.grading.proofs.RowLaws.{rows-more, rowsBefore, faultsAt, rows-few, rows-all, few-rows}
 use Rattle.grade_rows.specs.Model.{RowsListed}
 use Rattle.grade_rows.proofs.RowWriting.{Wrote, wrote-nothing, wrote-more}
@@ -28,10 +29,6 @@ codes-of-instance types bridges n i = map-map _ _ (faultsOf types bridges i)
 codes-append : (rs ss : List Row) → codesOf (rs ++ ss) ≡ codesOf rs ++ codesOf ss
 unfolding codesOf
 codes-append rs ss = map-append _ rs ss
-
-length-codes : (rs : List Row) → length (codesOf rs) ≡ length rs
-unfolding codesOf
-length-codes rs = length-map rs _
 
 codes-more : (c : Circuit) (i : ℕ) (d : Instance) → i < length (c .instances)
     → codesOf (rowsBefore c (suc i)) ≡ codesOf (rowsBefore c i) ++ map (codeOf (suc i)) (faultsAt c d i)

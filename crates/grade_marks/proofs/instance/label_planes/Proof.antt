@@ -16,6 +16,13 @@ Inv-loop k signals references planes₀ l₀ planes l = (l ≤ k) × (planes ≡
 abbrev μ-loop : tie.MeasureT-loop
 μ-loop k signals references planes₀ l₀ planes l = k - l
 
+-- the start, and the turn, from a label's reference
+abbrev start : tie.At-loop Inv-loop μ-loop → tie.Start Inv-loop μ-loop
+start h = h .before .before
+
+abbrev turn : tie.After-r Inv-loop μ-loop → tie.At-loop Inv-loop μ-loop
+turn c = c .before .before
+
 loop-holds : tie.Need-loop-holds Inv-loop μ-loop
 loop-holds c = (omega arith, fill-none 48 (planeAt (c .before .args .one .references) (now (c .before .args .signals))))
 
@@ -26,14 +33,14 @@ array-copy-out-r : tie.Need-array-copy-out-r Inv-loop μ-loop
 array-copy-out-r c = omega arith
 
 signal-of-requires : tie.Need-signal-of-requires Inv-loop μ-loop
-signal-of-requires c κs = c .before .before .before .before .pre .some (c .before .before .loop .l) (c .before .loop-test .taken)
+signal-of-requires c κs = start (turn c) .pre .some (turn c .loop .l) (c .before .loop-test .taken)
 
 -- the signal is there
 inside : (c : tie.After-signal-of Inv-loop μ-loop) → c .signal-of .result < 192
 inside c =
-    let start = c .before .before .before .before .before in
-    let l : ℕ = c .before .before .before .loop .l in
-    omega (arith, c .signal-of .ensures, place-in (start .args .one .references) (start .args .k) l (start .pre) (c .before .before .loop-test .taken))
+    let here = turn (c .before) in
+    let begin = start here in
+    omega (arith, c .signal-of .ensures, place-in (begin .args .one .references) (begin .args .k) (here .loop .l) (begin .pre) (c .before .before .loop-test .taken))
 
 mul-at : tie.Need-mul-at Inv-loop μ-loop
 mul-at c = omega (arith, inside c)
@@ -126,8 +133,8 @@ loop-again : tie.Need-loop-again Inv-loop μ-loop
 unfolding signalOf
 loop-again c =
     let signal = c .before .before .before .before in
-    let loop = signal .before .before .before .loop in
-    let args = signal .before .before .before .before .before .args in
+    let loop = turn (signal .before) .loop in
+    let args = start (turn (signal .before)) .args in
     let place : loop .l < 12 = omega arith in
     (omega arith, planes-more (args .one .references) (now (args .signals)) (loop .planes) (loop .l) _ place (loop .inv .1) (ap (λ (n : ℕ). 4 * n) (signal .signal-of .ensures)))
 

@@ -42,6 +42,13 @@ module _ (c : tie.After-kind-in) where
   unfolding CodeFits
   label-there n = omega (arith, c .before .second-in .ensures, start .pre .0 .2 (ne-eqb _ 0 (λ e. n (c .kind-in .ensures ∙ e))))
 
+-- the last element of a row of either kind, and its kind
+abbrev nodes-told : tie.After-result3 → tie.Then1
+nodes-told c = c .before .before .before
+
+abbrev label-told : tie.After-result7 → tie.Else1
+label-told c = c .before .before .before
+
 -- ---- the needs
 
 first-in-requires : tie.Need-first-in-requires
@@ -93,12 +100,12 @@ mul-result-4 : tie.Need-mul-result-4
 mul-result-4 c = search needs
 
 element-copy-out-result-4 : tie.Need-element-copy-out-result-4
-element-copy-out-result-4 c = omega (arith, second-there (c .before .before .before .before))
+element-copy-out-result-4 c = omega (arith, second-there (nodes-told c .before))
 
 returns : tie.Need-returns
 unfolding pairWord
 returns c =
-    let then = c .before .before .before .before in
+    let then = nodes-told (c .before) in
     let told = then .before in
     let a = start told .args in
     of-nodes _ _ (now (a .ones)) (now (a .zeros)) (a .row) (a .w) (told .before .before .first-in .ensures) (told .before .second-in .ensures) (told .kind-in .ensures) (then .if1 .taken)
@@ -125,12 +132,12 @@ mul-result-8 : tie.Need-mul-result-8
 mul-result-8 c = search needs
 
 element-copy-out-result-8 : tie.Need-element-copy-out-result-8
-element-copy-out-result-8 c = omega (arith, first-there (c .before .before .before .before))
+element-copy-out-result-8 c = omega (arith, first-there (label-told c .before))
 
 returns-2 : tie.Need-returns-2
 unfolding inputMarkWord
 returns-2 c =
-    let else = c .before .before .before .before in
+    let else = label-told (c .before) in
     let told = else .before in
     let a = start told .args in
     of-label _ _ _ _ (a .row) (a .w) (told .before .before .first-in .ensures) (told .before .second-in .ensures) (told .kind-in .ensures) (else .if1 .left)

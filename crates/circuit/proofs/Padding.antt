@@ -1,4 +1,4 @@
--- The laws of a list in n places: one element more, and none at all.
+-- The laws of a list in n places: one element more, and none at all. And the records that an array read past its end gives.
 use Prim.Native.Nat.{ℕ, _<_}
 use mathlib.Core.Path.{_≡_, sym, ap, _∙_}
 use mathlib.Core.List.{List, [], _∷_, _++_}
@@ -8,7 +8,9 @@ use lib.ListN.{length, getD, set, replicate, length-append, length-replicate, ge
 use lib.Seq.{getD-append-seam}
 use Rattle.words.specs.Tables.{table}
 use Rattle.words.proofs.Tables.{getD-table, set-table, is-table}
+use Rattle.switch.specs.declared.ModuleType.{ModuleType as TypeRecord}
 use Rattle.circuit.specs.Records.{padded}
+use Rattle.circuit.specs.declared.Instance.{Instance as InstanceRecord}
 
 module _ {A : Type 0} (none : A) where
   pub getD-padded : (n : ℕ) (as′ : List A) (d : A) (i : ℕ) → i < n → getD (padded n none as′) i d ≡ getD as′ i none
@@ -34,3 +36,11 @@ module _ {A : Type 0} (none : A) where
   padded-snoc n as′ a h =
       ap (λ (x : A). set (table n (λ (j : ℕ). getD as′ j none)) (length as′) x) (sym (getD-append-seam as′ a [] none))
       ∙ set-table none n (λ (j : ℕ). getD as′ j none) (λ (j : ℕ). getD (as′ ++ (a ∷ [])) j none) (length as′) h (λ j q other. elsewhere as′ a j other)
+
+-- ---- past an array's end
+
+abbrev pub pastType : TypeRecord
+pastType = record { highest = 0; output = 0; labels = 0; count = 0; edges = [] }
+
+abbrev pub pastInstance : InstanceRecord
+pastInstance = record { «type_number» = 0; choice = 0; references = [] }

@@ -80,6 +80,17 @@ module _ (start : tie.Start) where
   own : (choice ≡ 255 → ⊥) → (choice ≡ 0 → ⊥) → new ≡ listedCodes number choice bridges
   own p q = codes-listed (start .args .place) choice h k bridges p q
 
+-- ---- where things stand
+
+-- the start, from the choice of all faults, and from that of none or of a list
+abbrev start-all : tie.Then1 → tie.Start
+start-all c = c .before .before .before
+
+abbrev start-other : tie.Else1 → tie.Start
+start-other c = c .before .before .before
+
+-- ---- the needs
+
 cast-number : tie.Need-cast-number
 cast-number c = search needs
 
@@ -91,7 +102,7 @@ cast-h c = search needs
 
 all-pairs-requires : tie.Need-all-pairs-requires
 all-pairs-requires c κs =
-    let start = c .before .before .before .before in
+    let start = start-all (c .before) in
     ((omega (arith, start .pre .0), start .pre .0 .1), omega (arith, start .pre .1, size start (c .before .if1 .taken)))
 
 cast-all-inputs : tie.Need-cast-all-inputs
@@ -100,7 +111,7 @@ cast-all-inputs c = search needs
 all-inputs-requires : tie.Need-all-inputs-requires
 all-inputs-requires c κs =
     let pairs = c .before .before in
-    let start = pairs .before .before .before .before .before in (
+    let start = start-all (pairs .before .before) in (
       (omega (arith, start .pre .0), start .pre .0 .1, start .pre .0 .2),
       omega (arith, start .pre .1, size start (pairs .before .before .if1 .taken), pairs .all-pairs .ensures .0, pairs .all-pairs .kept .0),
     )
@@ -108,21 +119,23 @@ all-inputs-requires c κs =
 returns : tie.Need-returns
 returns c =
     let pairs = c .before .before .before in
-    all-listed (pairs .before .before .before .before .before) (pairs .before .before .if1 .taken) _ _ _ _ (pairs .all-pairs .ensures) (c .all-inputs .ensures)
+    all-listed (start-all (pairs .before .before)) (pairs .before .before .if1 .taken) _ _ _ _ (pairs .all-pairs .ensures) (c .all-inputs .ensures)
 
 returns-2 : tie.Need-returns-2
-returns-2 c = none-listed (c .before .before .before .before .before) (c .if2 .taken)
+returns-2 c = none-listed (start-other (c .before .before)) (c .if2 .taken)
 
 listed-requires : tie.Need-listed-requires
 listed-requires c κs =
-    let start = c .before .before .before .before .before .before in
-    let e = own start (c .before .before .before .if1 .left) (c .before .if2 .left) in
+    let other = c .before .before .before in
+    let start = start-other other in
+    let e = own start (other .if1 .left) (c .before .if2 .left) in
     ((omega (arith, start .pre .0), start .pre .0 .3), rw (← e) (start .pre .1))
 
 returns-3 : tie.Need-returns-3
 returns-3 c =
     let tests = c .before .before in
-    let e = own (tests .before .before .before .before .before) (tests .before .before .if1 .left) (tests .if2 .left) in
+    let other = tests .before .before in
+    let e = own (start-other other) (other .if1 .left) (tests .if2 .left) in
     rw e record { end = c .listed .ensures .0; listed = c .listed .ensures .1 }
 
 pub list-rows-spec : {M : Type 1} → statement M

@@ -22,16 +22,33 @@ abbrev μ-loop : tie.MeasureT-loop
 long : (c : tie.Start Inv-loop μ-loop) → length (c .args .t5) ≡ 256
 long c = search needs
 
--- where the bridge is of the list there is a place for its code
-place : (c : tie.Then1 Inv-loop μ-loop)
-    → c .before .before .before .before .loop .next < length (c .before .before .before .before .before .before .args .rows .now)
+-- ---- where things stand
+
+-- a turn whose bridge is copied, and its start
+module _ (c : tie.After-struct-known Inv-loop μ-loop) where
+  abbrev turn : tie.At-loop Inv-loop μ-loop
+  turn = c .before .before .before
+
+  abbrev start : tie.Start Inv-loop μ-loop
+  start = turn .before .before
+
+  inside : turn .loop .i < length (start .args .t5)
+  inside = omega (arith, long start)
+
+-- the test that the bridge is of the list, from its code
+abbrev tested : tie.After-pack Inv-loop μ-loop → tie.Then1 Inv-loop μ-loop
+tested c = c .before .before .before .before
+
+-- there is then a place for its code
+place : (c : tie.Then1 Inv-loop μ-loop) → turn (c .before) .loop .next < length (start (c .before) .args .rows .now)
 place c =
-    let start = c .before .before .before .before .before .before in
-    let a = start .args in
-    let l = c .before .before .before .before .loop in
-    listed-place (a .instance) (a .list) (a .t5) (a .count) (a .rows .now) (a .at) (start .pre .1)
-    unusedBridge (l .i) (omega (arith, long start)) (omega arith)
+    let a = start (c .before) .args in
+    let l = turn (c .before) .loop in
+    listed-place (a .instance) (a .list) (a .t5) (a .count) (a .rows .now) (a .at) (start (c .before) .pre .1)
+    unusedBridge (l .i) (inside (c .before)) (omega arith)
     (l .rows) (l .next) (l .inv .1) (c .if1 .taken)
+
+-- ---- the needs
 
 loop-holds : tie.Need-loop-holds Inv-loop μ-loop
 unfolding listedCodes
@@ -56,13 +73,13 @@ pack-requires : tie.Need-pack-requires Inv-loop μ-loop
 pack-requires c κs = omega (arith, c .struct-known4 .given, c .before .struct-known3 .given, c .before .before .struct-known2 .given)
 
 mul-rows : tie.Need-mul-rows Inv-loop μ-loop
-mul-rows c = omega (arith, place (c .before .before .before .before))
+mul-rows c = omega (arith, place (tested c))
 
 slice-write-rows : tie.Need-slice-write-rows Inv-loop μ-loop
-slice-write-rows c = omega (arith, place (c .before .before .before .before))
+slice-write-rows c = omega (arith, place (tested c))
 
 add-next : tie.Need-add-next Inv-loop μ-loop
-add-next c = omega (arith, place (c .before .before .before .before))
+add-next c = omega (arith, place (tested c))
 
 add-i : tie.Need-add-i Inv-loop μ-loop
 add-i c = omega arith
@@ -73,20 +90,19 @@ loop-less c = omega arith
 loop-again : tie.Need-loop-again Inv-loop μ-loop
 unfolding recordCode
 loop-again c =
-    let start = c .before .before .before .before .before .before in
-    let a = start .args in
-    let l = c .before .before .before .before .loop in
-    let inside : l .i < length (a .t5) = omega (arith, long start) in (
+    let begin = start (c .before) in
+    let a = begin .args in
+    let l = turn (c .before) .loop in (
       omega arith,
       rw (add-one (l .i))
           (⊎-elim
           (λ w.
           rw (w .5, w .6, w .4 .ensures)
-          (listed-more (a .instance) (a .list) (a .t5) (a .count) (a .rows .now) (a .at) (start .pre .1) unusedBridge (l .i) inside (omega arith)
+          (listed-more (a .instance) (a .list) (a .t5) (a .count) (a .rows .now) (a .at) (begin .pre .1) unusedBridge (l .i) (inside (c .before)) (omega arith)
           (l .rows) (l .next) (l .inv .1) (w .0 .taken)))
           (λ w.
           rw (w .1, w .2)
-          (listed-same (a .instance) (a .list) (a .t5) (a .count) (a .rows .now) (a .at) (start .pre .1) unusedBridge (l .i) inside (omega arith)
+          (listed-same (a .instance) (a .list) (a .t5) (a .count) (a .rows .now) (a .at) (begin .pre .1) unusedBridge (l .i) (inside (c .before)) (omega arith)
           (l .rows) (l .next) (l .inv .1) (w .0 .left)))
           (c .if1 .came)),
     )
@@ -96,10 +112,10 @@ same-length c = c .before .loop .inv .1 .long
 
 returns : tie.Need-returns Inv-loop μ-loop
 returns c =
-    let start = c .before .before .before in
-    let a = start .args in
+    let begin = c .before .before .before in
+    let a = begin .args in
     let l = c .before .loop in
-    listed-end (a .instance) (a .list) (a .t5) (a .count) (a .rows .now) (a .at) (start .pre .1) (l .i) (omega arith) (l .rows) (l .next) (l .inv .1)
+    listed-end (a .instance) (a .list) (a .t5) (a .count) (a .rows .now) (a .at) (begin .pre .1) (l .i) (omega arith) (l .rows) (l .next) (l .inv .1)
 
 pub listed-spec : {M : Type 1} → statement M
 listed-spec =

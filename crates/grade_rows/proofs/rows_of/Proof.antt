@@ -2,15 +2,14 @@
 -- The measure is what is left of the instances. Assumes nothing.
 use Prim.Native.Nat.{ℕ, _-_, _≤_, _<_}
 use mathlib.Core.Path.{_≡_}
-use mathlib.Core.List.{List, []}
+use mathlib.Core.List.{List}
 use native.Mathlib.Omega.{arith}
 use lib.ListN.{length, getD}
-use Rattle.switch.specs.declared.ModuleType.{ModuleType as TypeRecord}
 use Rattle.circuit.specs.Circuit.{Circuit}
 use Rattle.circuit.specs.Records.{circuitRecord}
 use Rattle.circuit.specs.Laws.{CircuitGood}
 use Rattle.circuit.specs.declared.Circuit.{Circuit as CircuitRecord}
-use Rattle.circuit.specs.declared.Instance.{Instance as InstanceRecord}
+use Rattle.circuit.proofs.Padding.{pastType, pastInstance}
 use Rattle.grading.specs.Given.{CircuitGiven}
 use Rattle.grading.specs.Rows.{noInstance}
 use Rattle.grading.proofs.RecordReads.{count-is, count-few, bridges-few, type-place, type-few}
@@ -18,13 +17,6 @@ use Rattle.grade_rows.proofs.InstanceCodes.{instance-codes, codes-long}
 use Rattle.grade_rows.proofs.RowSteps.{Rowed, rowed-none, rowed-long, rowed-room, rowed-more, rowed-end}
 use Rattle.grade_rows.proofs.rows_of.Statement.{statement}
 use Rattle.grade_rows.proofs.rows_of.Tie as tie
-
--- what an array read past its end gives
-abbrev noOne : InstanceRecord
-noOne = record { «type_number» = 0; choice = 0; references = [] }
-
-abbrev noType : TypeRecord
-noType = record { highest = 0; output = 0; labels = 0; count = 0; edges = [] }
 
 abbrev Inv-loop : tie.InvT-loop
 Inv-loop c types bridges instances count codes₀ at₀ i₀ codes at i = (meant : Circuit) → c ≡ circuitRecord meant → CircuitGood meant → Rowed meant i codes at
@@ -64,8 +56,12 @@ module _ (c : tie.In-loop Inv-loop μ-loop) where
   small : index < 128
   small = omega (arith, count-few (known .circuit) (known .good) told (known .is), c .loop-test .taken)
 
-  place : (1 ≤ getD (told .instances) index noOne .«type_number») × (getD (told .instances) index noOne .«type_number» ≤ 16)
-  place = type-place (known .circuit) (known .good) told (known .is) index noInstance there noOne
+  place : (1 ≤ getD (told .instances) index pastInstance .«type_number») × (getD (told .instances) index pastInstance .«type_number» ≤ 16)
+  place = type-place (known .circuit) (known .good) told (known .is) index noInstance there pastInstance
+
+-- a turn, from its codes
+abbrev turn-of : tie.After-codes Inv-loop μ-loop → tie.In-loop Inv-loop μ-loop
+turn-of c = c .before .before .before .before
 
 loop-holds : tie.Need-loop-holds Inv-loop μ-loop
 loop-holds c = λ meant is good. rowed-none meant
@@ -90,33 +86,33 @@ array-copy-out-t c = omega (arith, place (c .before .before))
 
 list-rows-requires : tie.Need-list-rows-requires Inv-loop μ-loop
 list-rows-requires c κs =
-    let turn = c .before .before .before .before in
+    let turn = turn-of c in
     let p = known turn in
     let at = there turn in
-    let few = type-few (p .circuit) (p .good) (told turn) (p .is) (index turn) noInstance at noOne noType in
+    let few = type-few (p .circuit) (p .good) (told turn) (p .is) (index turn) noInstance at pastInstance pastType in
     let so-far = turn .before .loop .inv (p .circuit) (p .is) (p .good) in (
       (small turn, few .0, few .1, bridges-few (p .circuit) (p .good) (told turn) (p .is)),
       omega (
         arith,
-        codes-long (p .circuit) (p .good) (told turn) (p .is) (index turn) noInstance at noOne noType,
+        codes-long (p .circuit) (p .good) (told turn) (p .is) (index turn) noInstance at pastInstance pastType,
         rowed-room (p .circuit) (p .good) (rows turn) (next turn) (index turn) noInstance at so-far,
         rowed-long (p .circuit) (p .good) (rows turn) (next turn) (index turn) noInstance at so-far,
       ),
     )
 
 add-i : tie.Need-add-i Inv-loop μ-loop
-add-i c = omega (arith, small (c .before .before .before .before .before))
+add-i c = omega (arith, small (turn-of (c .before)))
 
 loop-less : tie.Need-loop-less Inv-loop μ-loop
-loop-less c = omega (arith, c .before .before .before .before .before .loop-test .taken)
+loop-less c = omega (arith, turn-of (c .before) .loop-test .taken)
 
 loop-again : tie.Need-loop-again Inv-loop μ-loop
 loop-again c =
     λ meant is good.
-    let turn = c .before .before .before .before .before in
+    let turn = turn-of (c .before) in
     let at = here turn meant is good in
     rowed-more meant good (rows turn) (next turn) (index turn) noInstance at (turn .before .loop .inv meant is good) _ _ _
-    (instance-codes meant good (told turn) is (index turn) noInstance at noOne noType) (c .list-rows .ensures)
+    (instance-codes meant good (told turn) is (index turn) noInstance at pastInstance pastType) (c .list-rows .ensures)
 
 returns : tie.Need-returns Inv-loop μ-loop
 returns c =

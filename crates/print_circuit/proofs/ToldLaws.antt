@@ -18,7 +18,7 @@ use Rattle.switch.specs.Records.{typeOf, valueOf}
 use Rattle.switch.proofs.Paths.{both}
 use Rattle.switch.proofs.Outputs.{at1-small, at0-small, value-again}
 use Rattle.circuit.specs.Limits.{mostTypes, mostBridges, mostInstances, mostVectors}
-use Rattle.circuit.specs.Circuit.{Circuit, Instance, Listed, Reference, primary, outputOf, Choice, exhaustive, no-faults, list, numbered, noType, typeOfInstance}
+use Rattle.circuit.specs.Circuit.{Circuit, Instance, Listed, Reference, primary, outputOf, Choice, exhaustive, no-faults, list, typeOfInstance}
 use Rattle.circuit.specs.Reading.{Reading, accepted, refusal, unless, readingOf}
 use Rattle.circuit.specs.Records.{padded, unusedType, typeRecord, unusedBridge, bridgeRecordIn, bridgeRecord, unusedReference, referenceRecord}
 use Rattle.circuit.specs.Records.{unusedInstance, choiceByte, instanceRecord, unusedVector, vectorRecord, circuitRecord}
@@ -29,7 +29,7 @@ use Rattle.circuit.specs.Before.{readBefore}
 use Rattle.circuit.specs.Laws.{choiceGood, TypeGood, InstanceGood, CircuitGood}
 use Rattle.circuit.specs.declared.Reading.{Reading as ReadingRecord}
 use Rattle.circuit.proofs.BeforeLaws.{before-is-good}
-use Rattle.circuit.proofs.CircuitLaws.{accepted-is-good}
+use Rattle.circuit.proofs.CircuitLaws.{accepted-is-good, instance-type}
 use Rattle.circuit.proofs.GatheredLaws.{before-is-circuit}
 use Rattle.switch.proofs.Channels.{in-between}
 use Rattle.circuit.proofs.TypeLaws.{take-padded, edges-ranges, type-back}
@@ -91,20 +91,12 @@ labels-few t good =
     in-between 1 12 (t .labels) labels .1
 
 module _ (c : Circuit) (good : CircuitGood c) where
-  instance-type : (i : Instance) → T (between 1 (length (c .types)) (i .type)) → TypeGood (typeOfInstance (c .types) i)
-  unfolding numbered
-  instance-type i t = go (i .type) (in-between 1 (length (c .types)) (i .type) t)
-    where
-      go : (n : ℕ) → (1 ≤ n) × (n ≤ length (c .types)) → TypeGood (numbered (c .types) n noType)
-      go zero h = absurd (omega arith)
-      go (suc n) h = good .types n noType (omega arith)
-
   instance-back : (before : ℕ) (i : Instance) → InstanceGood (c .inputs) (c .types) (c .bridges) before i
       → instanceTold (c .types) (instanceRecord i) ≡ i
   unfolding instanceTold instanceWith instanceRecord
   instance-back before i here =
       let count : length (i .references) ≡ typeOfInstance (c .types) i .labels = here .count in
-      let few : length (i .references) ≤ 12 = omega (arith, labels-few (typeOfInstance (c .types) i) (instance-type i (here .type))) in
+      let few : length (i .references) ≤ 12 = omega (arith, labels-few (typeOfInstance (c .types) i) (instance-type c good i (here .type))) in
       let back : map referenceTold (take (length (i .references)) (padded 12 unusedReference (map referenceRecord (i .references)))) ≡ i .references
       = used-back referenceTold referenceRecord unusedReference 12 (i .references) few (λ (k : ℕ) (none : Reference) (h : _). reference-back (getD (i .references) k none)) in
       ap (λ (b : Choice). record {

@@ -64,44 +64,44 @@ before-instances c = c .before .before .before
 abbrev before-vectors : tie.After-vector-part → tie.Else4
 before-vectors c = c .before .before .before
 
-abbrev inputs-asked : tie.Else1 → tie.After-inputs-part
-inputs-asked c = c .before .before .before .before
+abbrev inputs-asked : tie.After-struct-known → tie.After-inputs-part
+inputs-asked c = c .before .before .before
 
-abbrev types-asked : tie.Else2 → tie.After-type-part
-types-asked c = c .before .before .before .before
+abbrev types-asked : tie.After-struct-known2 → tie.After-type-part
+types-asked c = c .before .before .before
 
-abbrev bridges-asked : tie.Else3 → tie.After-bridge-part
-bridges-asked c = c .before .before .before .before
+abbrev bridges-asked : tie.After-struct-known3 → tie.After-bridge-part
+bridges-asked c = c .before .before .before
 
-abbrev instances-asked : tie.Else4 → tie.After-instance-part
-instances-asked c = c .before .before .before .before
+abbrev instances-asked : tie.After-struct-known4 → tie.After-instance-part
+instances-asked c = c .before .before .before
 
 abbrev start-1 : tie.Else1 → tie.Start
-start-1 c = inputs-asked c .before .before .before
+start-1 c = inputs-asked (c .before) .before .before .before
 
 abbrev start-2 : tie.Else2 → tie.Start
-start-2 c = start-1 (before-types (types-asked c))
+start-2 c = start-1 (before-types (types-asked (c .before)))
 
 abbrev start-3 : tie.Else3 → tie.Start
-start-3 c = start-2 (before-bridges (bridges-asked c))
+start-3 c = start-2 (before-bridges (bridges-asked (c .before)))
 
 abbrev start-4 : tie.Else4 → tie.Start
-start-4 c = start-3 (before-instances (instances-asked c))
+start-4 c = start-3 (before-instances (instances-asked (c .before)))
 
 -- no part has changed the buffer's length
-kept-1 : (c : tie.Else1) → length (inputs-asked c .inputs-part .last .0) ≡ length (start-1 c .args .line .now)
-kept-1 c = inputs-asked c .inputs-part .kept .0
+kept-1 : (c : tie.Else1) → length (inputs-asked (c .before) .inputs-part .last .0) ≡ length (start-1 c .args .line .now)
+kept-1 c = inputs-asked (c .before) .inputs-part .kept .0
 
-kept-2 : (c : tie.Else2) → length (types-asked c .type-part .last .0) ≡ length (start-2 c .args .line .now)
-kept-2 c = types-asked c .type-part .kept .0 ∙ kept-1 (before-types (types-asked c))
+kept-2 : (c : tie.Else2) → length (types-asked (c .before) .type-part .last .0) ≡ length (start-2 c .args .line .now)
+kept-2 c = types-asked (c .before) .type-part .kept .0 ∙ kept-1 (before-types (types-asked (c .before)))
 
-kept-3 : (c : tie.Else3) → length (bridges-asked c .bridge-part .last .0) ≡ length (start-3 c .args .line .now)
-kept-3 c = bridges-asked c .bridge-part .kept .0 ∙ kept-2 (before-bridges (bridges-asked c))
+kept-3 : (c : tie.Else3) → length (bridges-asked (c .before) .bridge-part .last .0) ≡ length (start-3 c .args .line .now)
+kept-3 c = bridges-asked (c .before) .bridge-part .kept .0 ∙ kept-2 (before-bridges (bridges-asked (c .before)))
 
-kept-4 : (c : tie.Else4) → length (instances-asked c .instance-part .last .0) ≡ length (start-4 c .args .line .now)
-kept-4 c = instances-asked c .instance-part .kept .0 ∙ kept-3 (before-instances (instances-asked c))
+kept-4 : (c : tie.Else4) → length (instances-asked (c .before) .instance-part .last .0) ≡ length (start-4 c .args .line .now)
+kept-4 c = instances-asked (c .before) .instance-part .kept .0 ∙ kept-3 (before-instances (instances-asked (c .before)))
 
-room-4 : (c : tie.Else4) → 512 ≤ length (instances-asked c .instance-part .last .0)
+room-4 : (c : tie.Else4) → 512 ≤ length (instances-asked (c .before) .instance-part .last .0)
 room-4 c = omega (arith, kept-4 c, start-4 c .pre)
 
 -- the line is sought behind each part that has not put it
@@ -109,25 +109,25 @@ abbrev Behind : tie.Start → (CircuitRecord → List (List ℕ)) → ℕ → �
 Behind start rest left most after =
     Sought (lines-of (start .args .c)) (rest (start .args .c)) (start .args .n) left most (start .args .line .now) after
 
-sought-1 : (c : tie.Else1) → Behind (start-1 c) behind-inputs (inputs-asked c .inputs-part .result .left) 1 (inputs-asked c .inputs-part .last .0)
-sought-1 c = sought-more sought-start (inputs-asked c .inputs-part .ensures) (inputs-filled _) (c .if1 .left)
+sought-1 : (c : tie.Else1) → Behind (start-1 c) behind-inputs (inputs-asked (c .before) .inputs-part .result .left) 1 (inputs-asked (c .before) .inputs-part .last .0)
+sought-1 c = sought-more sought-start (inputs-asked (c .before) .inputs-part .ensures) (inputs-filled _) (c .if1 .left)
 
-sought-2 : (c : tie.Else2) → Behind (start-2 c) behind-types (types-asked c .type-part .result .left) (1 + mostOfTypes) (types-asked c .type-part .last .0)
-sought-2 c = sought-more (sought-1 (before-types (types-asked c))) (types-asked c .type-part .ensures) (types-filled 1 _) (c .if2 .left)
+sought-2 : (c : tie.Else2) → Behind (start-2 c) behind-types (types-asked (c .before) .type-part .result .left) (1 + mostOfTypes) (types-asked (c .before) .type-part .last .0)
+sought-2 c = sought-more (sought-1 (before-types (types-asked (c .before)))) (types-asked (c .before) .type-part .ensures) (types-filled 1 _) (c .if2 .left)
 
 sought-3 : (c : tie.Else3)
-    → Behind (start-3 c) behind-bridges (bridges-asked c .bridge-part .result .left) (1 + mostOfTypes + mostBridges) (bridges-asked c .bridge-part .last .0)
+    → Behind (start-3 c) behind-bridges (bridges-asked (c .before) .bridge-part .result .left) (1 + mostOfTypes + mostBridges) (bridges-asked (c .before) .bridge-part .last .0)
 sought-3 c =
     let r : CircuitRecord = start-3 c .args .c in
-    sought-more (sought-2 (before-bridges (bridges-asked c))) (bridges-asked c .bridge-part .ensures)
+    sought-more (sought-2 (before-bridges (bridges-asked (c .before)))) (bridges-asked (c .before) .bridge-part .ensures)
     (bridges-filled (map listedTold (take (r .«bridge_count») (r .bridges)))) (c .if3 .left)
 
 sought-4 : (c : tie.Else4)
-    → Behind (start-4 c) behind-instances (instances-asked c .instance-part .result .left) (1 + mostOfTypes + mostBridges + mostInstances)
-    (instances-asked c .instance-part .last .0)
+    → Behind (start-4 c) behind-instances (instances-asked (c .before) .instance-part .result .left) (1 + mostOfTypes + mostBridges + mostInstances)
+    (instances-asked (c .before) .instance-part .last .0)
 sought-4 c =
     let r : CircuitRecord = start-4 c .args .c in
-    sought-more (sought-3 (before-instances (instances-asked c))) (instances-asked c .instance-part .ensures)
+    sought-more (sought-3 (before-instances (instances-asked (c .before)))) (instances-asked (c .before) .instance-part .ensures)
     (instances-filled (map (instanceTold (map typeOf (take (r .«type_count») (r .types)))) (take (r .«instance_count») (r .instances)))) (c .if4 .left)
 
 inputs-part-requires : tie.Need-inputs-part-requires
@@ -138,7 +138,7 @@ same-length c = search needs
 
 returns : tie.Need-returns
 returns c =
-    let asked : tie.After-inputs-part = c .before .before .before .before in
+    let asked = inputs-asked (c .before) in
     let r : CircuitRecord = asked .before .before .before .args .c in
     rw (← (lines-are r)) (sought-found (behind-inputs r) sought-start (asked .inputs-part .ensures) (omega arith) (c .if1 .taken))
 
@@ -150,7 +150,7 @@ same-length-2 c = search needs
 
 returns-2 : tie.Need-returns-2
 returns-2 c =
-    let asked : tie.After-type-part = c .before .before .before .before in
+    let asked = types-asked (c .before) in
     let r : CircuitRecord = start-1 (before-types asked) .args .c in
     rw (← (lines-are r)) (sought-found (behind-types r) (sought-1 (before-types asked)) (asked .type-part .ensures) (omega arith) (c .if2 .taken))
 
@@ -162,7 +162,7 @@ same-length-3 c = search needs
 
 returns-3 : tie.Need-returns-3
 returns-3 c =
-    let asked : tie.After-bridge-part = c .before .before .before .before in
+    let asked = bridges-asked (c .before) in
     let r : CircuitRecord = start-2 (before-bridges asked) .args .c in
     rw (← (lines-are r)) (sought-found (behind-bridges r) (sought-2 (before-bridges asked)) (asked .bridge-part .ensures) (omega arith) (c .if3 .taken))
 
@@ -174,7 +174,7 @@ same-length-4 c = search needs
 
 returns-4 : tie.Need-returns-4
 returns-4 c =
-    let asked : tie.After-instance-part = c .before .before .before .before in
+    let asked = instances-asked (c .before) in
     let r : CircuitRecord = start-3 (before-instances asked) .args .c in
     rw (← (lines-are r)) (sought-found (behind-instances r) (sought-3 (before-instances asked)) (asked .instance-part .ensures) (omega arith) (c .if4 .taken))
 

@@ -9,37 +9,53 @@ use Rattle.print_circuit.proofs.Putting.{SoFar, start, piece, byte, nex
 use Rattle.print_circuit.proofs.lines.edge_line.Statement.{statement}
 use Rattle.print_circuit.proofs.lines.edge_line.Tie as tie
 
--- where the function began, seen from each call
+-- where each piece was put, seen from where the next is, and the start, seen from where the first is
+abbrev began : tie.After-put-bytes-arg → tie.Start
+began c = c .before .before .before
+
+abbrev word-put : tie.After-put-spaced-arg → tie.After-put-bytes
+word-put c = c .before .before .before
+
+abbrev first-put : tie.After-put-spaced-arg2 → tie.After-put-spaced
+first-put c = c .before .before .before
+
+abbrev second-put : tie.After-put-labels-arg → tie.After-put-spaced2
+second-put c = c .before .before .before
+
+abbrev labels-put : tie.After-put-byte-arg → tie.After-put-labels
+labels-put c = c .before .before .before
+
+-- where the function began, seen from each piece
 abbrev start-1 : tie.After-put-bytes → tie.Start
-start-1 c = c .before .before .before .before .before
+start-1 c = began (c .before .before)
 
 abbrev start-2 : tie.After-put-spaced → tie.Start
-start-2 c = start-1 (c .before .before .before .before .before)
+start-2 c = start-1 (word-put (c .before .before))
 
 abbrev start-3 : tie.After-put-spaced2 → tie.Start
-start-3 c = start-2 (c .before .before .before .before .before)
+start-3 c = start-2 (first-put (c .before .before))
 
 abbrev start-4 : tie.After-put-labels → tie.Start
-start-4 c = start-3 (c .before .before .before .before .before)
+start-4 c = start-3 (second-put (c .before .before))
 
 abbrev start-5 : tie.After-put-byte → tie.Start
-start-5 c = start-4 (c .before .before .before .before)
+start-5 c = start-4 (labels-put (c .before))
 
--- the text after each call: what the calls have added, one by one, and how many bytes that is at most
+-- the text after each piece: what the calls have added, one by one, and how many bytes that is at most
 line-1 : (c : tie.After-put-bytes) → SoFar (start-1 c .args .out .now) (start-1 c .args .at) 512 4 (c .put-bytes .last .0) (c .put-bytes .result)
 line-1 c = piece (start (start-1 c .pre)) 4 (bytesOf "edge") (omega arith) (omega arith) (c .put-bytes .ensures)
 
 line-2 : (c : tie.After-put-spaced) → SoFar (start-2 c .args .out .now) (start-2 c .args .at) 512 26 (c .put-spaced .last .0) (c .put-spaced .result)
-line-2 c = next-number (line-1 (c .before .before .before .before .before)) _ (omega arith) (c .put-spaced .ensures)
+line-2 c = next-number (line-1 (word-put (c .before .before))) _ (omega arith) (c .put-spaced .ensures)
 
 line-3 : (c : tie.After-put-spaced2) → SoFar (start-3 c .args .out .now) (start-3 c .args .at) 512 48 (c .put-spaced2 .last .0) (c .put-spaced2 .result)
-line-3 c = next-number (line-2 (c .before .before .before .before .before)) _ (omega arith) (c .put-spaced2 .ensures)
+line-3 c = next-number (line-2 (first-put (c .before .before))) _ (omega arith) (c .put-spaced2 .ensures)
 
 line-4 : (c : tie.After-put-labels) → SoFar (start-4 c .args .out .now) (start-4 c .args .at) 512 136 (c .put-labels .last .0) (c .put-labels .result)
-line-4 c = piece (line-3 (c .before .before .before .before .before)) 88 _ (omega (arith, (c .put-labels .ensures) .0 .0, (c .put-labels .ensures) .1)) (omega arith) ((c .put-labels .ensures) .0)
+line-4 c = piece (line-3 (second-put (c .before .before))) 88 _ (omega (arith, (c .put-labels .ensures) .0 .0, (c .put-labels .ensures) .1)) (omega arith) ((c .put-labels .ensures) .0)
 
 line-5 : (c : tie.After-put-byte) → SoFar (start-5 c .args .out .now) (start-5 c .args .at) 512 137 (c .put-byte .last .0) (c .put-byte .result)
-line-5 c = byte (line-4 (c .before .before .before .before)) 10 (omega arith) (c .put-byte .ensures)
+line-5 c = byte (line-4 (labels-put (c .before))) 10 (omega arith) (c .put-byte .ensures)
 
 slice-aggregate-put-bytes : tie.Need-slice-aggregate-put-bytes
 slice-aggregate-put-bytes c = search needs
@@ -51,22 +67,22 @@ cast-put-spaced : tie.Need-cast-put-spaced
 cast-put-spaced c = search needs
 
 put-spaced-requires : tie.Need-put-spaced-requires
-put-spaced-requires c κs = let l = line-1 (c .before .before .before .before) in omega arith
+put-spaced-requires c κs = let l = line-1 (word-put (c .before)) in omega arith
 
 cast-put-spaced-2 : tie.Need-cast-put-spaced-2
 cast-put-spaced-2 c = search needs
 
 put-spaced-requires-2 : tie.Need-put-spaced-requires-2
-put-spaced-requires-2 c κs = let l = line-2 (c .before .before .before .before) in omega arith
+put-spaced-requires-2 c κs = let l = line-2 (first-put (c .before)) in omega arith
 
 cast-put-labels : tie.Need-cast-put-labels
 cast-put-labels c = search needs
 
 put-labels-requires : tie.Need-put-labels-requires
-put-labels-requires c κs = let l = line-3 (c .before .before .before .before) in omega arith
+put-labels-requires c κs = let l = line-3 (second-put (c .before)) in omega arith
 
 put-byte-requires : tie.Need-put-byte-requires
-put-byte-requires c κs = let l = line-4 (c .before .before .before) in omega arith
+put-byte-requires c κs = let l = line-4 (labels-put c) in omega arith
 
 same-length : tie.Need-same-length
 same-length c = search needs

@@ -1,11 +1,12 @@
 -- `print_circuit::parts::instance_part` meets its contract. Assumes nothing.
 use Prim.Native.Nat.{ℕ, _+_}
 use mathlib.Core.Path.{ap}
-use mathlib.Core.List.{List, [], map}
+use mathlib.Core.List.{List, map}
 use lib.ListN.{getD, take}
 use Rattle.switch.specs.Records.{typeOf}
 use Rattle.circuit.specs.Limits.{mostInstances}
 use Rattle.circuit.specs.declared.Instance.{Instance as InstanceRecord}
+use Rattle.circuit.proofs.Padding.{pastInstance}
 use Rattle.print_circuit.specs.Lines.{instanceLine}
 use Rattle.print_circuit.specs.Told.{instanceWith, instanceTold}
 use Rattle.print_circuit.proofs.Putting.{puts-same}
@@ -14,9 +15,12 @@ use borrow.Author.Needs.{needs}
 use Rattle.print_circuit.proofs.parts.instance_part.Statement.{statement}
 use Rattle.print_circuit.proofs.parts.instance_part.Tie as tie
 
--- what the code reads past the last place
-abbrev blank : InstanceRecord
-blank = record { «type_number» = 0; choice = 0; references = [] }
+-- the test that the instance is there, from its line, and its labels
+abbrev tested : tie.After-labels-of → tie.Else1
+tested c = c .before .before .before
+
+abbrev labelled : tie.After-instance-line → tie.After-labels-of
+labelled c = c .before .before
 
 at-most-requires : tie.Need-at-most-requires
 at-most-requires c κs = search needs
@@ -53,14 +57,16 @@ same-length c = search needs
 returns-2 : tie.Need-returns-2
 unfolding instanceTold
 returns-2 c =
-    let asked = c .before .before .before .before .before .before .before .before in
-    let start = asked .before .before in
+    let put = c .before .before in
+    let labels-told = labelled put in
+    let here = tested labels-told in
+    let start = here .before .before .before in
     let n = start .args .n in
     let l : List InstanceRecord = start .args .t2 in
     let told = instanceTold (map typeOf (take (start .args .type-count) (start .args .types))) in
-    let labels = ap (λ (k : ℕ). instanceLine (n + 1) (instanceWith k (getD l n blank))) (c .before .before .before .before .labels-of .ensures) in
-    numbered-here told (start .args .count) l mostInstances (start .good .1 .0 .1 .0 .1) (asked .at-most .ensures) instanceLine blank
-    (c .before .before .before .before .before .before .before .if1 .left) (puts-same _ _ labels (c .before .before .instance-line .ensures))
+    let labels = ap (λ (k : ℕ). instanceLine (n + 1) (instanceWith k (getD l n pastInstance))) (labels-told .labels-of .ensures) in
+    numbered-here told (start .args .count) l mostInstances (start .good .1 .0 .1 .0 .1) (here .before .at-most .ensures) instanceLine pastInstance
+    (here .if1 .left) (puts-same _ _ labels (put .instance-line .ensures))
 
 pub instance-part-spec : {M : Type 1} → statement M
 instance-part-spec =

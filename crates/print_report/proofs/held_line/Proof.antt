@@ -6,6 +6,10 @@ use borrow.Author.Needs.{needs}
 use Rattle.print_report.proofs.held_line.Statement.{statement}
 use Rattle.print_report.proofs.held_line.Tie as tie
 
+-- the start, from the answer's number
+abbrev start-of : tie.After-number-of → tie.Start
+start-of c = c .before .before .before .before .before
+
 number-of-requires : tie.Need-number-of-requires
 number-of-requires c κs = search needs
 
@@ -20,11 +24,12 @@ same-length c = search needs
 
 returns : tie.Need-returns
 returns c =
-    let start = c .before .before .before .before .before .before .before .before .before .before .before in
-    let numbered = c .before .before .before .before .before .before .number-of .ensures in
-    let placed = c .before .before .before .before .place-of .ensures in
-    let given = c .before .before .refusal-line .ensures in
-    given-line _ _ (refused-line (start .args .answer) _ numbered _ _ _ _ (start .pre .1) _ placed (omega arith)) given
+    let line = c .before .before in
+    let placed = line .before .before in
+    let numbered = placed .before .before in
+    let start = start-of numbered in
+    given-line _ _ (refused-line (start .args .answer) _ (numbered .number-of .ensures) _ _ _ _ (start .pre .1) _ (placed .place-of .ensures) (omega arith))
+    (line .refusal-line .ensures)
 
 counts-of-requires : tie.Need-counts-of-requires
 counts-of-requires c κs = search needs
@@ -37,19 +42,20 @@ same-length-2 c = search needs
 
 returns-2 : tie.Need-returns-2
 returns-2 c =
-    let start = c .before .before .before .before .before .before .before .before .before .before .before .before in
-    let numbered = c .before .before .before .before .before .before .before .number-of .ensures in
-    let counted = c .before .before .before .before .before .counts-of .ensures in
-    let given = c .before .before .first-line .ensures in
-    given-line _ _ (counts-line (start .args .answer) _ numbered _ _ _ _ (start .pre .1) (omega arith) _ counted (omega arith)) given
+    let line = c .before .before in
+    let counted = line .before .before .before in
+    let numbered = counted .before .before in
+    let start = start-of numbered in
+    given-line _ _ (counts-line (start .args .answer) _ (numbered .number-of .ensures) _ _ _ _ (start .pre .1) (omega arith) _ (counted .counts-of .ensures) (omega arith))
+    (line .first-line .ensures)
 
 sub-held-row : tie.Need-sub-held-row
 sub-held-row c = search needs
 
 held-row-requires : tie.Need-held-row-requires
 held-row-requires c κs =
-    let numbered = c .before .before .before .before .number-of .ensures in
-    let rows = graded-count _ _ numbered (omega arith) in search needs
+    let counted = c .before .before in
+    let rows = graded-count _ _ (counted .before .before .number-of .ensures) (omega arith) in search needs
 
 same-length-3 : tie.Need-same-length-3
 same-length-3 c = search needs
@@ -57,11 +63,12 @@ same-length-3 c = search needs
 returns-3 : tie.Need-returns-3
 unfolding heldRow
 returns-3 c =
-    let start = c .before .before .before .before .before .before .before .before .before .before .before .before in
-    let numbered = c .before .before .before .before .before .before .before .number-of .ensures in
-    let counted = c .before .before .before .before .before .counts-of .ensures in
-    let given = c .before .before .held-row .ensures in
-    given-line _ _ (row-line-held (start .args .answer) _ numbered _ _ _ _ (start .pre .1) (omega arith) _ counted (omega arith)) given
+    let line = c .before .before in
+    let counted = line .before .before .before in
+    let numbered = counted .before .before in
+    let start = start-of numbered in
+    given-line _ _ (row-line-held (start .args .answer) _ (numbered .number-of .ensures) _ _ _ _ (start .pre .1) (omega arith) _ (counted .counts-of .ensures) (omega arith))
+    (line .held-row .ensures)
 
 pub held-line-spec : {M : Type 1} → statement M
 held-line-spec =

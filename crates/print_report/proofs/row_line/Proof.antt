@@ -17,45 +17,46 @@ line-2 : (c : tie.After-put-byte) → Line 512 22 (c .put-byte .last .0) (c .put
 line-2 c = byte (line-1 (c .before .before .before)) refl (omega arith) (c .put-byte .ensures)
 
 line-3 : (c : tie.After-put-byte2) → Line 512 23 (c .put-byte2 .last .0) (c .put-byte2 .result)
-line-3 c = byte (line-2 (c .before .before .before .before)) (c .before .kind-letter .ensures) (omega arith) (c .put-byte2 .ensures)
+line-3 c = let letter = c .before in byte (line-2 (letter .before .before .before)) (letter .kind-letter .ensures) (omega arith) (c .put-byte2 .ensures)
 
 line-4 : (c : tie.After-put-byte3) → Line 512 24 (c .put-byte3 .last .0) (c .put-byte3 .result)
 line-4 c = byte (line-3 (c .before .before .before)) refl (omega arith) (c .put-byte3 .ensures)
 
 line-5 : (c : tie.After-put-number2) → Line 512 45 (c .put-number2 .last .0) (c .put-number2 .result)
-line-5 c = number (line-4 (c .before .before .before .before)) refl (omega arith) (c .put-number2 .ensures)
+line-5 c = let known = c .before in number (line-4 (known .before .before .before)) refl (omega arith) (c .put-number2 .ensures)
 
 line-6 : (c : tie.After-put-byte4) → Line 512 46 (c .put-byte4 .last .0) (c .put-byte4 .result)
 line-6 c = byte (line-5 (c .before .before .before)) refl (omega arith) (c .put-byte4 .ensures)
 
 line-7 : (c : tie.After-put-number3) → Line 512 67 (c .put-number3 .last .0) (c .put-number3 .result)
-line-7 c = number (line-6 (c .before .before .before .before)) refl (omega arith) (c .put-number3 .ensures)
+line-7 c = let known = c .before in number (line-6 (known .before .before .before)) refl (omega arith) (c .put-number3 .ensures)
 
 line-8 : (c : tie.After-put-byte5) → Line 512 68 (c .put-byte5 .last .0) (c .put-byte5 .result)
 line-8 c = byte (line-7 (c .before .before .before)) refl (omega arith) (c .put-byte5 .ensures)
 
 line-9 : (c : tie.After-put-number4) → Line 512 89 (c .put-number4 .last .0) (c .put-number4 .result)
-line-9 c = number (line-8 (c .before .before .before .before)) refl (omega arith) (c .put-number4 .ensures)
+line-9 c = let known = c .before in number (line-8 (known .before .before .before)) refl (omega arith) (c .put-number4 .ensures)
 
 line-10 : (c : tie.After-put-byte6) → Line 512 90 (c .put-byte6 .last .0) (c .put-byte6 .result)
 line-10 c = byte (line-9 (c .before .before .before)) refl (omega arith) (c .put-byte6 .ensures)
 
 line-11 : (c : tie.After-put-marks) → Line 512 346 (c .put-marks .last .0) (c .put-marks .result)
-line-11 c = marks (line-10 (c .before .before .before .before)) _ (c .before .shown .ensures) (omega arith) (omega arith) (c .put-marks .ensures)
+line-11 c = let shown = c .before in marks (line-10 (shown .before .before .before)) _ (shown .shown .ensures) (omega arith) (omega arith) (c .put-marks .ensures)
 
 line-12 : (c : tie.After-put-byte7) → Line 512 347 (c .put-byte7 .last .0) (c .put-byte7 .result)
 line-12 c = byte (line-11 (c .before .before .before)) refl (omega arith) (c .put-byte7 .ensures)
 
 line-13 : (c : tie.After-put-number5) → Line 512 368 (c .put-number5 .last .0) (c .put-number5 .result)
-line-13 c = number (line-12 (c .before .before .before .before .before)) (c .before .before .before .marks .ensures) (omega arith) (c .put-number5 .ensures)
+line-13 c = let counted = c .before .before .before in number (line-12 (counted .before .before)) (counted .marks .ensures) (omega arith) (c .put-number5 .ensures)
 
 line-14 : (c : tie.After-put-byte8) → Line 512 369 (c .put-byte8 .last .0) (c .put-byte8 .result)
 line-14 c = byte (line-13 (c .before .before .before)) refl (omega arith) (c .put-byte8 .ensures)
 
 line-15 : (c : tie.After-put-number6) → Line 512 390 (c .put-number6 .last .0) (c .put-number6 .result)
 line-15 c =
-    let first = c .before .before .before .before .before .before .before .before .first-mark .ensures in
-    number (line-14 (c .before .before .before)) first (omega arith) (c .put-number6 .ensures)
+    let spaced = c .before .before .before in
+    let many = spaced .before .before .before in
+    number (line-14 spaced) (many .before .before .first-mark .ensures) (omega arith) (c .put-number6 .ensures)
 
 line-16 : (c : tie.After-put-byte9) → Line 512 391 (c .put-byte9 .last .0) (c .put-byte9 .result)
 line-16 c = byte (line-15 (c .before .before .before)) refl (omega arith) (c .put-byte9 .ensures)
@@ -166,7 +167,7 @@ slice-aggregate-put-number-5 : tie.Need-slice-aggregate-put-number-5
 slice-aggregate-put-number-5 c = search needs
 
 put-number-requires-5 : tie.Need-put-number-requires-5
-put-number-requires-5 c κs = let l = line-12 (c .before .before .before .before) in omega arith
+put-number-requires-5 c κs = let counted = c .before .before in let l = line-12 (counted .before .before) in omega arith
 
 slice-aggregate-put-byte-8 : tie.Need-slice-aggregate-put-byte-8
 slice-aggregate-put-byte-8 c = search needs
@@ -200,7 +201,10 @@ same-length c = search needs
 
 returns : tie.Need-returns
 unfolding rowLine start piece byte number marks line-1 line-2 line-3 line-4 line-5 line-6 line-7 line-8 line-9 line-10 line-11 line-12 line-13 line-14 line-15 line-16
-returns c = promised (line-16 (c .before .before .before .before .before .before)) refl (c .before .before .give .ensures)
+returns c =
+    let given = c .before .before in
+    let whole = given .before in
+    promised (line-16 (whole .before .before .before)) refl (given .give .ensures)
 
 pub row-line-spec : {M : Type 1} → statement M
 row-line-spec =

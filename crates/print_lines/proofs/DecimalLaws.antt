@@ -66,9 +66,6 @@ unfolding decimal
 decimal-short n zero p h = absurd (omega arith)
 decimal-short n (suc d) p h = rw length-digits (length-short 20 d n h)
 
-pub decimal-length : (n : ℕ) → n < 2 ^ 64 → length (decimal n) ≤ 20
-decimal-length n h = decimal-short n 20 (omega arith) (omega arith)
-
 pub decimal-some : (n : ℕ) → 1 ≤ length (decimal n)
 unfolding decimal
 decimal-some n = rw length-digits (length-some 20 n)

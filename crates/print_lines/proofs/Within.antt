@@ -1,4 +1,4 @@
--- A line that was given into a buffer: it is no longer than the buffer, whose length stays; where nothing was given the buffer is as it was. Assumes nothing.
+-- A line that was given into a buffer: it is no longer than the buffer; where nothing was given the buffer is as it was. Assumes nothing.
 use Prim.Native.Nat.{ℕ, suc, _≤_, _<_}
 use mathlib.Core.Path.{_≡_, refl, ap, _∙_}
 use mathlib.Core.Bool.{Bool, true, false, cond}
@@ -8,7 +8,7 @@ use lib.ListN.{length}
 use native.Mathlib.Omega.{arith}
 use borrow.Author.Tests.{leb-true}
 use Rattle.words.specs.Written.{written}
-use Rattle.words.proofs.WrittenLaws.{written-nothing, length-written}
+use Rattle.words.proofs.WrittenLaws.{written-nothing}
 use Rattle.print_lines.specs.Given.{LineGiven}
 
 pub given-within : (line buffer after : List ℕ) (count : ℕ) → LineGiven line buffer count after → count ≤ length buffer
@@ -17,13 +17,6 @@ given-within line buffer after count given = go (leb (length line) (length buffe
     go : (fits : Bool) → leb (length line) (length buffer) ≡ fits → count ≤ length buffer
     go true e = omega (arith, given .count-is ∙ ap (λ (b : Bool). cond b (length line) 0) e, leb-true (length line) (length buffer) e)
     go false e = omega (arith, given .count-is ∙ ap (λ (b : Bool). cond b (length line) 0) e)
-
-pub given-length : (line buffer after : List ℕ) (count : ℕ) → LineGiven line buffer count after → length after ≡ length buffer
-given-length line buffer after count given = ap length (given .after-is) ∙ go (leb (length line) (length buffer)) refl
-  where
-    go : (fits : Bool) → leb (length line) (length buffer) ≡ fits → length (cond (leb (length line) (length buffer)) (written buffer 0 line) buffer) ≡ length buffer
-    go true e = rw e (length-written buffer 0 line (omega (arith, leb-true (length line) (length buffer) e)))
-    go false e = rw e refl
 
 pub given-some : (line buffer : List ℕ) (count : ℕ) (after : List ℕ) → LineGiven line buffer count after → 0 < count → 0 < length line
 given-some line buffer count after given some = go (leb (length line) (length buffer)) refl

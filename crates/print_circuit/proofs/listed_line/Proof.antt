@@ -40,19 +40,22 @@ unfolding listingTold listingOf
 lines-are r = refl
 
 -- where the circuit was asked, which has no such line
-abbrev asked-of : tie.Else1 → tie.After-circuit-line
-asked-of c = c .before .before .before .before
+abbrev asked-of : tie.After-struct-known → tie.After-circuit-line
+asked-of c = c .before .before .before
+
+abbrev start-asked : tie.After-circuit-line → tie.Start
+start-asked c = c .before .before .before .before
 
 abbrev start-of : tie.Else1 → tie.Start
-start-of c = asked-of c .before .before .before .before
+start-of c = start-asked (asked-of (c .before))
 
 sought : (c : tie.Else1)
     → Sought (circuit-of (start-of c .args .reading) ++ refusal-of (start-of c .args .reading)) (refusal-of (start-of c .args .reading)) (start-of c .args .n)
-    (asked-of c .circuit-line .result .left) mostLines (start-of c .args .line .now) (asked-of c .circuit-line .last .0)
-sought c = sought-more sought-start (asked-of c .circuit-line .ensures) (circuit-filled (circuitTold (start-of c .args .reading .circuit))) (c .if1 .left)
+    (asked-of (c .before) .circuit-line .result .left) mostLines (start-of c .args .line .now) (asked-of (c .before) .circuit-line .last .0)
+sought c = sought-more sought-start (asked-of (c .before) .circuit-line .ensures) (circuit-filled (circuitTold (start-of c .args .reading .circuit))) (c .if1 .left)
 
-room : (c : tie.Else1) → 512 ≤ length (asked-of c .circuit-line .last .0)
-room c = omega (arith, asked-of c .circuit-line .kept .0, start-of c .pre)
+room : (c : tie.Else1) → 512 ≤ length (asked-of (c .before) .circuit-line .last .0)
+room c = omega (arith, asked-of (c .before) .circuit-line .kept .0, start-of c .pre)
 
 circuit-line-requires : tie.Need-circuit-line-requires
 circuit-line-requires c κs = search needs
@@ -62,8 +65,8 @@ same-length c = search needs
 
 returns : tie.Need-returns
 returns c =
-    let asked = c .before .before .before .before in
-    let r : ReadingRecord = asked .before .before .before .before .args .reading in
+    let asked = asked-of (c .before) in
+    let r : ReadingRecord = start-asked asked .args .reading in
     rw (← (lines-are r)) (part-puts (sought-found (refusal-of r) sought-start (asked .circuit-line .ensures) (omega arith) (c .if1 .taken)))
 
 refuses-requires : tie.Need-refuses-requires
@@ -88,7 +91,8 @@ returns-2 c =
     let placed = called .before .before in
     let numbered = placed .before in
     let taken = numbered .before in
-    let behind = taken .before .before .before .before in
+    let there = taken .before .before in
+    let behind = there .before .before in
     let r : ReadingRecord = start-of behind .args .reading in
     let number : ℕ = numbered .number-of .result in
     let place : ℕ = placed .place-of .result in
@@ -96,16 +100,17 @@ returns-2 c =
     let said : refusalLine number place ≡ refusalLine (refusalNumber (r .refusal)) (refusalPlace (r .refusal))
     = ap (λ (k : ℕ). refusalLine k place) (numbered .number-of .ensures) ∙ ap (λ (k : ℕ). refusalLine (refusalNumber (r .refusal)) k) (placed .place-of .ensures) in
     let given = given-puts _ _ _ _ (omega (arith, refusal-sized number place .1, room behind)) (called .refusal-line .ensures) in
-    rw (← (lines-are r)) (sought-one (sought behind) (told-refused r refuses) (taken .before .before .if2 .taken) (puts-same _ _ said given))
+    rw (← (lines-are r)) (sought-one (sought behind) (told-refused r refuses) (there .if2 .taken) (puts-same _ _ said given))
 
 same-length-3 : tie.Need-same-length-3
 same-length-3 c = search needs
 
 returns-3 : tie.Need-returns-3
 returns-3 c =
-    let behind = c .before .before .before .before in
+    let asked = c .before in
+    let behind = asked .before .before .before in
     let r : ReadingRecord = start-of behind .args .reading in
-    let accepts = sym (c .before .refuses .ensures) ∙ c .if3 .left in
+    let accepts = sym (asked .refuses .ensures) ∙ c .if3 .left in
     rw (← (lines-are r)) (sought-past (sought behind) (omega (arith, ap length (told-accepted r accepts))))
 
 same-length-4 : tie.Need-same-length-4

@@ -20,6 +20,13 @@ Inv-loop reading from out₀ next₀ count₀ out next count = PieceSoFar (lineI
 abbrev μ-loop : tie.MeasureT-loop
 μ-loop reading from out₀ next₀ count₀ out next count = length out₀ - count
 
+-- a line asked for, from its answer, and the turn that asks for it
+abbrev asked : tie.After-slice-known2 Inv-loop μ-loop → tie.After-one-line Inv-loop μ-loop
+asked c = c .before .before
+
+abbrev turn-of : tie.After-one-line Inv-loop μ-loop → tie.At-loop Inv-loop μ-loop
+turn-of c = c .before .before
+
 loop-holds : tie.Need-loop-holds Inv-loop μ-loop
 loop-holds c = piece-begins
 
@@ -36,25 +43,28 @@ one-line-requires : tie.Need-one-line-requires Inv-loop μ-loop
 one-line-requires c κs = search needs
 
 add-next : tie.Need-add-next Inv-loop μ-loop
-add-next c = omega (arith, c .before .before .before .one-line .ensures .1 .0 (omega arith))
+add-next c = omega (arith, asked (c .before) .one-line .ensures .1 .0 (omega arith))
 
 add-count : tie.Need-add-count Inv-loop μ-loop
 add-count c =
-    let turn = c .before .before .before .before .before .loop in
-    let handed = c .before .before .before .one-line .ensures .0 in
+    let line = asked (c .before) in
+    let turn = turn-of line .loop in
+    let handed = line .one-line .ensures .0 in
     let fits = count-fits (turn .inv) handed in search needs
 
 loop-less : tie.Need-loop-less Inv-loop μ-loop
 loop-less c =
-    let turn = c .before .before .before .before .before .loop in
-    let handed = c .before .before .before .one-line .ensures .0 in
+    let line = asked (c .before) in
+    let turn = turn-of line .loop in
+    let handed = line .one-line .ensures .0 in
     omega (arith, count-fits (turn .inv) handed)
 
 loop-again : tie.Need-loop-again Inv-loop μ-loop
 loop-again c =
-    let turn = c .before .before .before .before .before .loop in
-    let handed = c .before .before .before .one-line .ensures .0 in
-    let some : 0 < c .before .before .before .one-line .result = omega arith in
+    let line = asked (c .before) in
+    let turn = turn-of line .loop in
+    let handed = line .one-line .ensures .0 in
+    let some : 0 < line .one-line .result = omega arith in
     piece-grows (turn .inv) handed some (line-there _ (turn .next) (given-some _ _ _ _ handed some))
 
 same-length : tie.Need-same-length Inv-loop μ-loop
@@ -63,10 +73,11 @@ same-length c = search needs
 returns : tie.Need-returns Inv-loop μ-loop
 unfolding lineIn
 returns c =
-    let turn = c .before .before .before .before .before .loop in
-    let handed = c .before .before .before .one-line .ensures .0 in
-    let short = c .before .before .before .one-line .ensures .1 .1 in
-    let start = c .before .before .before .before .before .before .before in
+    let line = asked (c .before) in
+    let turn = turn-of line .loop in
+    let handed = line .one-line .ensures .0 in
+    let short = line .one-line .ensures .1 .1 in
+    let start = turn-of line .before .before in
     let lines : List (List ℕ) = listingTold (start .args .reading) in
     let filled : (n : ℕ) → n < length lines → 0 < length (lineIn lines n) = λ (n : ℕ) (h : n < length lines). filled-at lines n (listing-filled _) h in
     let piece = piece-full (turn .inv) handed (c .if1 .taken) (filled (turn .next)) in

@@ -17,7 +17,7 @@ line-2 : (c : tie.After-put-number) → Line 64 29 (c .put-number .last .0) (c .
 line-2 c = number (line-1 (c .before .before .before)) refl (omega arith) (c .put-number .ensures)
 
 line-3 : (c : tie.After-put-bytes2) → Line 64 33 (c .put-bytes2 .last .0) (c .put-bytes2 .result)
-line-3 c = piece (line-2 (c .before .before .before .before)) 4 (32 ∷ atWord) (omega arith) (omega arith) (c .put-bytes2 .ensures)
+line-3 c = let word = c .before in piece (line-2 (word .before .before .before)) 4 (32 ∷ atWord) (omega arith) (omega arith) (c .put-bytes2 .ensures)
 
 line-4 : (c : tie.After-put-number2) → Line 64 54 (c .put-number2 .last .0) (c .put-number2 .result)
 line-4 c = number (line-3 (c .before .before .before)) refl (omega arith) (c .put-number2 .ensures)
@@ -75,7 +75,10 @@ same-length c = search needs
 
 returns : tie.Need-returns
 unfolding refusalLine start piece byte number line-1 line-2 line-3 line-4 line-5
-returns c = promised (line-5 (c .before .before .before .before .before .before)) (simp append-assoc) (c .before .before .give .ensures)
+returns c =
+    let given = c .before .before in
+    let whole = given .before in
+    promised (line-5 (whole .before .before .before)) (simp append-assoc) (given .give .ensures)
 
 pub refusal-line-spec : {M : Type 1} → statement M
 refusal-line-spec =

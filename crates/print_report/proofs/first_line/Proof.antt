@@ -17,19 +17,19 @@ line-2 : (c : tie.After-put-number) → Line 128 29 (c .put-number .last .0) (c 
 line-2 c = number (line-1 (c .before .before .before)) refl (omega arith) (c .put-number .ensures)
 
 line-3 : (c : tie.After-put-bytes2) → Line 128 37 (c .put-bytes2 .last .0) (c .put-bytes2 .result)
-line-3 c = piece (line-2 (c .before .before .before .before)) 8 (32 ∷ faultsWord) (omega arith) (omega arith) (c .put-bytes2 .ensures)
+line-3 c = let word = c .before in piece (line-2 (word .before .before .before)) 8 (32 ∷ faultsWord) (omega arith) (omega arith) (c .put-bytes2 .ensures)
 
 line-4 : (c : tie.After-put-number2) → Line 128 58 (c .put-number2 .last .0) (c .put-number2 .result)
 line-4 c = number (line-3 (c .before .before .before)) refl (omega arith) (c .put-number2 .ensures)
 
 line-5 : (c : tie.After-put-bytes3) → Line 128 67 (c .put-bytes3 .last .0) (c .put-bytes3 .result)
-line-5 c = piece (line-4 (c .before .before .before .before)) 9 (32 ∷ classesWord) (omega arith) (omega arith) (c .put-bytes3 .ensures)
+line-5 c = let word = c .before in piece (line-4 (word .before .before .before)) 9 (32 ∷ classesWord) (omega arith) (omega arith) (c .put-bytes3 .ensures)
 
 line-6 : (c : tie.After-put-number3) → Line 128 88 (c .put-number3 .last .0) (c .put-number3 .result)
 line-6 c = number (line-5 (c .before .before .before)) refl (omega arith) (c .put-number3 .ensures)
 
 line-7 : (c : tie.After-put-bytes4) → Line 128 95 (c .put-bytes4 .last .0) (c .put-bytes4 .result)
-line-7 c = piece (line-6 (c .before .before .before .before)) 7 (32 ∷ foundWord) (omega arith) (omega arith) (c .put-bytes4 .ensures)
+line-7 c = let word = c .before in piece (line-6 (word .before .before .before)) 7 (32 ∷ foundWord) (omega arith) (omega arith) (c .put-bytes4 .ensures)
 
 line-8 : (c : tie.After-put-number4) → Line 128 116 (c .put-number4 .last .0) (c .put-number4 .result)
 line-8 c = number (line-7 (c .before .before .before)) refl (omega arith) (c .put-number4 .ensures)
@@ -117,7 +117,10 @@ same-length c = search needs
 
 returns : tie.Need-returns
 unfolding firstLine start piece byte number line-1 line-2 line-3 line-4 line-5 line-6 line-7 line-8 line-9
-returns c = promised (line-9 (c .before .before .before .before .before .before)) (simp append-assoc) (c .before .before .give .ensures)
+returns c =
+    let given = c .before .before in
+    let whole = given .before in
+    promised (line-9 (whole .before .before .before)) (simp append-assoc) (given .give .ensures)
 
 pub first-line-spec : {M : Type 1} → statement M
 first-line-spec =

@@ -5,6 +5,13 @@ use borrow.Author.Needs.{needs}
 use Rattle.print_report.proofs.held_row.Statement.{statement}
 use Rattle.print_report.proofs.held_row.Tie as tie
 
+-- the row's head, from its line, and the start, from its head
+abbrev head-told : tie.After-row-line → tie.After-head-of
+head-told c = c .before .before .before .before .before .before
+
+abbrev start-of : tie.After-head-of → tie.Start
+start-of c = c .before .before .before .before .before .before .before
+
 mul-head-of : tie.Need-mul-head-of
 mul-head-of c = search needs
 
@@ -64,8 +71,10 @@ same-length c = search needs
 
 returns : tie.Need-returns
 returns c =
-    let e = c .before .before .before .before .before .before .before .before .before .before .before .before .before .before .before .args in
-    given-head (e .vectors) (wordsAt (e .matrix .now) (e .r)) (c .before .before .before .before .before .before .before .before .head-of .ensures) (c .before .before .row-line .ensures)
+    let put = c .before .before in
+    let told = head-told put in
+    let e = start-of told .args in
+    given-head (e .vectors) (wordsAt (e .matrix .now) (e .r)) (told .head-of .ensures) (put .row-line .ensures)
 
 pub held-row-spec : {M : Type 1} → statement M
 held-row-spec =

@@ -17,6 +17,17 @@ Inv-loop answer codes matrix classes from out₀ lines next₀ count₀ out next
 abbrev μ-loop : tie.MeasureT-loop
 μ-loop answer codes matrix classes from out₀ lines next₀ count₀ out next count = lines - next
 
+-- ---- where things stand
+
+-- a line asked for, from its answer, and the turn that asks for it
+abbrev asked : tie.After-slice-known2 Inv-loop μ-loop → tie.After-held-line Inv-loop μ-loop
+asked c = c .before .before
+
+abbrev turn-of : tie.After-held-line Inv-loop μ-loop → tie.At-loop Inv-loop μ-loop
+turn-of c = c .before .before .before
+
+-- ---- the needs
+
 held-count-requires : tie.Need-held-count-requires Inv-loop μ-loop
 held-count-requires c κs = search needs
 
@@ -40,16 +51,18 @@ add-next c = search needs
 
 add-count : tie.Need-add-count Inv-loop μ-loop
 add-count c =
-    let turn = c .before .before .before .before .before .before .loop in
-    let fits = count-fits (turn .inv .0) (c .before .before .before .held-line .ensures) in search needs
+    let line = asked (c .before) in
+    let turn = turn-of line .loop in
+    let fits = count-fits (turn .inv .0) (line .held-line .ensures) in search needs
 
 loop-less : tie.Need-loop-less Inv-loop μ-loop
 loop-less c = search needs
 
 loop-again : tie.Need-loop-again Inv-loop μ-loop
 loop-again c =
-    let turn = c .before .before .before .before .before .before .loop in
-    (piece-grows (turn .inv .0) (c .before .before .before .held-line .ensures) (omega arith) (omega arith), turn .inv .1, turn .inv .2)
+    let line = asked (c .before) in
+    let turn = turn-of line .loop in
+    (piece-grows (turn .inv .0) (line .held-line .ensures) (omega arith) (omega arith), turn .inv .1, turn .inv .2)
 
 same-length : tie.Need-same-length Inv-loop μ-loop
 same-length c = search needs
@@ -62,8 +75,9 @@ same-length-2 c = search needs
 
 returns-2 : tie.Need-returns-2 Inv-loop μ-loop
 returns-2 c =
-    let turn = c .before .before .before .before .before .before .loop in
-    report-piece _ _ _ _ _ _ _ _ (piece-full (turn .inv .0) (c .before .before .before .held-line .ensures) (omega arith) (λ (more : _). held-some _ _ _ _ _ more))
+    let line = asked (c .before) in
+    let turn = turn-of line .loop in
+    report-piece _ _ _ _ _ _ _ _ (piece-full (turn .inv .0) (line .held-line .ensures) (omega arith) (λ (more : _). held-some _ _ _ _ _ more))
 
 pub report-piece-spec : {M : Type 1} → statement M
 report-piece-spec =

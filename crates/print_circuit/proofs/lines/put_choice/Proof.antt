@@ -15,7 +15,10 @@ same-length : tie.Need-same-length
 same-length c = search needs
 
 returns : tie.Need-returns
-returns c = puts-same _ _ (choice-255 (c .before .before .before .before .before .before .before .args .byte) (c .before .before .before .before .before .if1 .taken)) (c .before .before .put-bytes .ensures)
+returns c =
+    let put = c .before .before in
+    let then = put .before .before .before in
+    puts-same _ _ (choice-255 (then .before .before .args .byte) (then .if1 .taken)) (put .put-bytes .ensures)
 
 put-spaced-requires : tie.Need-put-spaced-requires
 put-spaced-requires c κs = search needs
@@ -24,7 +27,10 @@ same-length-2 : tie.Need-same-length-2
 same-length-2 c = search needs
 
 returns-2 : tie.Need-returns-2
-returns-2 c = puts-same _ _ (choice-other (c .before .before .before .before .before .before .args .byte) (c .before .before .before .before .if1 .left)) (c .before .before .put-spaced .ensures)
+returns-2 c =
+    let put = c .before .before in
+    let else = put .before .before in
+    puts-same _ _ (choice-other (else .before .before .args .byte) (else .if1 .left)) (put .put-spaced .ensures)
 
 pub put-choice-spec : {M : Type 1} → statement M
 put-choice-spec =

@@ -15,7 +15,10 @@ same-length : tie.Need-same-length
 same-length c = search needs
 
 returns : tie.Need-returns
-returns c = puts-same _ _ (kind-n (c .before .before .before .before .before .before .before .args .kind) (c .before .before .before .before .before .if1 .taken)) (c .before .before .put-bytes .ensures)
+returns c =
+    let put = c .before .before in
+    let then = put .before .before .before in
+    puts-same _ _ (kind-n (then .before .before .args .kind) (then .if1 .taken)) (put .put-bytes .ensures)
 
 slice-aggregate-put-bytes-2 : tie.Need-slice-aggregate-put-bytes-2
 slice-aggregate-put-bytes-2 c = search needs
@@ -27,7 +30,10 @@ same-length-2 : tie.Need-same-length-2
 same-length-2 c = search needs
 
 returns-2 : tie.Need-returns-2
-returns-2 c = puts-same _ _ (kind-i (c .before .before .before .before .before .before .before .args .kind) (c .before .before .before .before .before .if1 .left)) (c .before .before .put-bytes2 .ensures)
+returns-2 c =
+    let put = c .before .before in
+    let else = put .before .before .before in
+    puts-same _ _ (kind-i (else .before .before .args .kind) (else .if1 .left)) (put .put-bytes2 .ensures)
 
 pub put-kind-spec : {M : Type 1} → statement M
 put-kind-spec =

@@ -18,6 +18,28 @@ Inv-loop out₀ at count labels used end₀ i₀ out end i = (i ≤ used) × Joi
 abbrev μ-loop : tie.MeasureT-loop
 μ-loop out₀ at count labels used end₀ i₀ out end i = used - i
 
+-- ---- where things stand
+
+-- the start, what it is given and how many of it are held, from a turn
+module _ (turn : tie.At-loop Inv-loop μ-loop) where
+  abbrev start : tie.Start Inv-loop μ-loop
+  start = turn .before .before .before
+
+  abbrev given : List ℕ
+  given = start .args .t3
+
+  size : length given ≡ 4
+  size = start .good .1 .1 .0 .1 .0 .1
+
+  held : turn .before .at-most .result ≡ min (start .args .count) 4
+  held = turn .before .at-most .ensures
+
+-- a turn, from what it puts
+abbrev turn-of : tie.After-put-spaced Inv-loop μ-loop → tie.At-loop Inv-loop μ-loop
+turn-of c = c .before .before .before
+
+-- ---- the needs
+
 at-most-requires : tie.Need-at-most-requires Inv-loop μ-loop
 at-most-requires c κs = search needs
 
@@ -41,27 +63,21 @@ loop-less c = search needs
 
 loop-again : tie.Need-loop-again Inv-loop μ-loop
 loop-again c =
-    let start = c .before .before .before .before .before .before .before .before in
-    let turn = c .before .before .before .before .before .loop in
-    let l : List ℕ = start .args .t3 in
-    let size : length l ≡ 4 = start .good .1 .1 .0 .1 .0 .1 in
-    let held : c .before .before .before .before .before .before .at-most .result ≡ min (start .args .count) 4 = c .before .before .before .before .before .before .at-most .ensures in
-    let inside : turn .i < length l = omega arith in
-    let i : ℕ = turn .i in
-    let room : start .args .at + 22 * suc i ≤ length (start .args .out .now) = omega (arith, start .pre) in
-    (omega arith, rw (add-one i) (joined-more spaced 0 (turn .inv .1) inside (spaced-short _) room (c .before .before .put-spaced .ensures)))
+    let put = c .before .before in
+    let turn = turn-of put in
+    let i : ℕ = turn .loop .i in
+    let inside : i < length (given turn) = omega (arith, size turn, held turn) in
+    let room : start turn .args .at + 22 * suc i ≤ length (start turn .args .out .now) = omega (arith, start turn .pre, held turn) in
+    (omega arith, rw (add-one i) (joined-more spaced 0 (turn .loop .inv .1) inside (spaced-short _) room (put .put-spaced .ensures)))
 
 same-length : tie.Need-same-length Inv-loop μ-loop
 same-length c = search needs
 
 returns : tie.Need-returns Inv-loop μ-loop
 returns c =
-    let start = c .before .before .before .before in
-    let l : List ℕ = start .args .t3 in
-    let size : length l ≡ 4 = start .good .1 .1 .0 .1 .0 .1 in
-    let held : c .before .before .at-most .result ≡ min (start .args .count) 4 = c .before .before .at-most .ensures in
-    let all : c .before .loop .i ≡ min (start .args .count) (length l) = omega arith in
-    (joined-all spaced (start .args .count) (c .before .loop .inv .1) all, omega (arith, c .before .loop .inv .1 .short))
+    let turn = c .before in
+    let all : turn .loop .i ≡ min (start turn .args .count) (length (given turn)) = omega (arith, size turn, held turn) in
+    (joined-all spaced (start turn .args .count) (turn .loop .inv .1) all, omega (arith, turn .loop .inv .1 .short))
 
 pub put-labels-spec : {M : Type 1} → statement M
 put-labels-spec =

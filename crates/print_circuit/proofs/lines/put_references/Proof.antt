@@ -24,6 +24,28 @@ Inv-loop out₀ at count references used end₀ i₀ out end i = (i ≤ used) ×
 abbrev μ-loop : tie.MeasureT-loop
 μ-loop out₀ at count references used end₀ i₀ out end i = used - i
 
+-- ---- where things stand
+
+-- the start, what it is given and how many of it are held, from a turn
+module _ (turn : tie.At-loop Inv-loop μ-loop) where
+  abbrev start : tie.Start Inv-loop μ-loop
+  start = turn .before .before .before
+
+  abbrev given : List ReferenceRecord
+  given = start .args .t3
+
+  size : length given ≡ 12
+  size = start .good .1 .1 .0 .1 .0 .1
+
+  held : turn .before .at-most .result ≡ min (start .args .count) 12
+  held = turn .before .at-most .ensures
+
+-- a turn, from what it puts
+abbrev turn-of : tie.After-put-reference Inv-loop μ-loop → tie.At-loop Inv-loop μ-loop
+turn-of c = c .before .before .before .before
+
+-- ---- the needs
+
 at-most-requires : tie.Need-at-most-requires Inv-loop μ-loop
 at-most-requires c κs = search needs
 
@@ -47,27 +69,21 @@ loop-less c = search needs
 
 loop-again : tie.Need-loop-again Inv-loop μ-loop
 loop-again c =
-    let start = c .before .before .before .before .before .before .before .before .before in
-    let turn = c .before .before .before .before .before .before .loop in
-    let l : List ReferenceRecord = start .args .t3 in
-    let size : length l ≡ 12 = start .good .1 .1 .0 .1 .0 .1 in
-    let held : c .before .before .before .before .before .before .before .at-most .result ≡ min (start .args .count) 12 = c .before .before .before .before .before .before .before .at-most .ensures in
-    let inside : turn .i < length l = omega arith in
-    let i : ℕ = turn .i in
-    let room : start .args .at + 23 * suc i ≤ length (start .args .out .now) = omega (arith, start .pre) in
-    (omega arith, rw (add-one i) (joined-more recordText blank (turn .inv .1) inside (reference-short _) room (c .before .before .put-reference .ensures)))
+    let put = c .before .before in
+    let turn = turn-of put in
+    let i : ℕ = turn .loop .i in
+    let inside : i < length (given turn) = omega (arith, size turn, held turn) in
+    let room : start turn .args .at + 23 * suc i ≤ length (start turn .args .out .now) = omega (arith, start turn .pre, held turn) in
+    (omega arith, rw (add-one i) (joined-more recordText blank (turn .loop .inv .1) inside (reference-short _) room (put .put-reference .ensures)))
 
 same-length : tie.Need-same-length Inv-loop μ-loop
 same-length c = search needs
 
 returns : tie.Need-returns Inv-loop μ-loop
 returns c =
-    let start = c .before .before .before .before in
-    let l : List ReferenceRecord = start .args .t3 in
-    let size : length l ≡ 12 = start .good .1 .1 .0 .1 .0 .1 in
-    let held : c .before .before .at-most .result ≡ min (start .args .count) 12 = c .before .before .at-most .ensures in
-    let all : c .before .loop .i ≡ min (start .args .count) (length l) = omega arith in
-    (puts-same _ _ (references-are (take (start .args .count) l)) (joined-all recordText (start .args .count) (c .before .loop .inv .1) all), omega (arith, c .before .loop .inv .1 .short))
+    let turn = c .before in
+    let all : turn .loop .i ≡ min (start turn .args .count) (length (given turn)) = omega (arith, size turn, held turn) in
+    (puts-same _ _ (references-are (take (start turn .args .count) (given turn))) (joined-all recordText (start turn .args .count) (turn .loop .inv .1) all), omega (arith, turn .loop .inv .1 .short))
 
 pub put-references-spec : {M : Type 1} → statement M
 put-references-spec =

@@ -17,6 +17,20 @@ Inv-loop vectors words ones₀ zeros₀ w₀ ones zeros w =
 abbrev μ-loop : tie.MeasureT-loop
 μ-loop vectors words ones₀ zeros₀ w₀ ones zeros w = words - w
 
+-- ---- where things stand
+
+-- a turn, from both planes of its block turned, and those, from the first plane put; that, from the second
+abbrev turn-of : tie.After-transpose2 Inv-loop μ-loop → tie.In-loop Inv-loop μ-loop
+turn-of c = c .before .before .before .before .before
+
+abbrev both-turned : tie.After-put-inputs Inv-loop μ-loop → tie.After-transpose2 Inv-loop μ-loop
+both-turned c = c .before .before .before .before
+
+abbrev ones-put : tie.After-put-inputs2 Inv-loop μ-loop → tie.After-put-inputs Inv-loop μ-loop
+ones-put c = c .before .before .before .before
+
+-- ---- the needs
+
 loop-holds : tie.Need-loop-holds Inv-loop μ-loop
 loop-holds c = (omega arith, c .pre .1 .0 ∙ inputs-none (onesOf (c .args .vectors)), c .pre .1 .1 ∙ inputs-none (zerosOf (c .args .vectors)))
 
@@ -37,24 +51,24 @@ transpose-requires-2 c κs =
 
 put-inputs-requires : tie.Need-put-inputs-requires Inv-loop μ-loop
 put-inputs-requires c κs =
-    let loop = c .before .before .before .before .before .before .before .before .before .loop in
-    (word (c .before .before .before .before .before .before .before .before), ap length (loop .inv .1) ∙ length-inputs _ _)
+    let turn = turn-of (c .before .before .before) in
+    (word turn, ap length (turn .before .loop .inv .1) ∙ length-inputs _ _)
 
 put-inputs-requires-2 : tie.Need-put-inputs-requires-2 Inv-loop μ-loop
 put-inputs-requires-2 c κs =
-    let loop = c .before .before .before .before .before .before .before .before .before .before .before .before .before .loop in
-    (word (c .before .before .before .before .before .before .before .before .before .before .before .before), ap length (loop .inv .2) ∙ length-inputs _ _)
+    let turn = turn-of (both-turned (c .before .before .before)) in
+    (word turn, ap length (turn .before .loop .inv .2) ∙ length-inputs _ _)
 
 add-w : tie.Need-add-w Inv-loop μ-loop
-add-w c = omega (arith, word (c .before .before .before .before .before .before .before .before .before .before .before .before .before))
+add-w c = omega (arith, word (turn-of (both-turned (ones-put c))))
 
 loop-less : tie.Need-loop-less Inv-loop μ-loop
-loop-less c = omega (arith, c .before .before .before .before .before .before .before .before .before .before .before .before .before .loop-test .taken)
+loop-less c = omega (arith, turn-of (both-turned (ones-put c)) .loop-test .taken)
 
 loop-again : tie.Need-loop-again Inv-loop μ-loop
 loop-again c =
-    let ones = c .before .before .before .before in
-    let zeros-turned = ones .before .before .before .before in
+    let ones = ones-put c in
+    let zeros-turned = both-turned ones in
     let ones-turned = zeros-turned .before .before in
     let block = ones-turned .before .before in
     let inside = block .before in

@@ -2,13 +2,14 @@
 -- their rows keyed (`Turned`). The measure is what is left of the instances. Assumes nothing.
 use Prim.Native.Nat.{ℕ, _+_, _-_, _≤_, _<_}
 use mathlib.Core.Path.{_≡_, refl}
-use mathlib.Core.List.{List, []}
+use mathlib.Core.List.{List}
 use native.Mathlib.Omega.{arith}
 use borrow.Author.Needs.{needs}
 use lib.ListN.{length, getD, length-replicate}
 use Rattle.switch.specs.declared.ModuleType.{ModuleType as TypeRecord}
 use Rattle.circuit.specs.declared.Circuit.{Circuit as CircuitRecord}
 use Rattle.circuit.specs.declared.Instance.{Instance as InstanceRecord}
+use Rattle.circuit.proofs.Padding.{pastType, pastInstance}
 use Rattle.grading.specs.Given.{CircuitGiven}
 use Rattle.grading.specs.Rows.{noInstance}
 use Rattle.grading.proofs.RecordReads.{bridges-few, type-place, type-few}
@@ -25,32 +26,34 @@ Inv-loop c matrix₀ classes types bridges instances count vectors ones₀ zeros
 abbrev μ-loop : tie.MeasureT-loop
 μ-loop c matrix₀ classes types bridges instances count vectors ones₀ zeros₀ codes₀ from₀ i₀ matrix ones zeros codes from i = c .«instance_count» - i
 
--- what an array read past its end gives
-abbrev noOne : InstanceRecord
-noOne = record { «type_number» = 0; choice = 0; references = [] }
-
-abbrev noType : TypeRecord
-noType = record { highest = 0; output = 0; labels = 0; count = 0; edges = [] }
-
 -- ---- where things stand
 
+-- before the loop: the start, from where signals are asked for and from where they are put
+abbrev start-asking : tie.After-all-vectors Inv-loop μ-loop → tie.Start Inv-loop μ-loop
+start-asking c = c .before .before .before .before .before .before
+
 abbrev start-at : tie.After-put-signals Inv-loop μ-loop → tie.Start Inv-loop μ-loop
-start-at c = c .before .before .before .before .before .before .before .before .before
+start-at c = start-asking (c .before .before .before)
 
-abbrev turn-listed : tie.After-list-rows Inv-loop μ-loop → tie.In-loop Inv-loop μ-loop
-turn-listed c = c .before .before .before .before .before
+-- in a turn: what stands before its codes, its marks and its keys are asked for
+abbrev turn-listing : tie.After-codes Inv-loop μ-loop → tie.In-loop Inv-loop μ-loop
+turn-listing c = c .before .before .before .before
 
-abbrev listed-marked : tie.After-mark-instance Inv-loop μ-loop → tie.After-list-rows Inv-loop μ-loop
-listed-marked c = c .before .before .before .before .before
+abbrev listed-marking : tie.After-mark-instance-arg Inv-loop μ-loop → tie.After-list-rows Inv-loop μ-loop
+listed-marking c = c .before .before .before .before
 
-abbrev marked-keyed : tie.After-write-keys Inv-loop μ-loop → tie.After-mark-instance Inv-loop μ-loop
-marked-keyed c = c .before .before .before .before
+abbrev marked-keying : tie.After-codes3 Inv-loop μ-loop → tie.After-mark-instance Inv-loop μ-loop
+marked-keying c = c .before .before .before
+
+abbrev listed-keying : tie.After-codes3 Inv-loop μ-loop → tie.After-list-rows Inv-loop μ-loop
+listed-keying c = listed-marking (marked-keying c .before)
 
 abbrev turn-keyed : tie.After-write-keys Inv-loop μ-loop → tie.In-loop Inv-loop μ-loop
-turn-keyed c = turn-listed (listed-marked (marked-keyed c))
+turn-keyed c = turn-listing (listed-keying (c .before) .before)
 
-abbrev loop-classed : tie.After-class-rows Inv-loop μ-loop → tie.After-loop Inv-loop μ-loop
-loop-classed c = c .before .before .before .before
+-- behind the loop: its end, before the rows are classed
+abbrev loop-classing : tie.After-class-rows-arg2 Inv-loop μ-loop → tie.After-loop Inv-loop μ-loop
+loop-classing c = c .before .before .before
 
 -- the circuit is known to have few vectors
 vectors-few : (start : tie.Start Inv-loop μ-loop) → start .args .c .«vector_count» ≤ 256
@@ -109,10 +112,10 @@ module _ (c : tie.In-loop Inv-loop μ-loop) where
   place = at .loop .i
 
   abbrev one : InstanceRecord
-  one = getD (whole at .instances) place noOne
+  one = getD (whole at .instances) place pastInstance
 
   abbrev its-type : TypeRecord
-  its-type = getD (whole at .types) (one .«type_number» - 1) noType
+  its-type = getD (whole at .types) (one .«type_number» - 1) pastType
 
   here : (told : CircuitGiven (whole at)) → place < length (told .circuit .instances)
   here told = omega (arith, assembly.instances-are (told .circuit) (whole at) (told .is), c .loop-test .taken)
@@ -121,12 +124,12 @@ module _ (c : tie.In-loop Inv-loop μ-loop) where
   few = assembly.place-few (known at .circuit) (known at .good) (whole at) (known at .is) place (here (known at))
 
   type-placed : (1 ≤ one .«type_number») × (one .«type_number» ≤ 16)
-  type-placed = type-place (known at .circuit) (known at .good) (whole at) (known at .is) place noInstance (here (known at)) noOne
+  type-placed = type-place (known at .circuit) (known at .good) (whole at) (known at .is) place noInstance (here (known at)) pastInstance
 
 -- its codes are listed
 module _ (c : tie.After-list-rows Inv-loop μ-loop) where
   abbrev turn : tie.In-loop Inv-loop μ-loop
-  turn = turn-listed c
+  turn = turn-listing (c .before)
 
   abbrev codes : List ℕ
   codes = c .list-rows .last .1 .1 .1 .1 .1 .0
@@ -137,34 +140,34 @@ module _ (c : tie.After-list-rows Inv-loop μ-loop) where
   fits : TurnFits (its-type turn) (one turn) (state (at turn)) codes to
   fits =
       let l = at turn in
-      assembly.turn-fits (whole l) (known l) (matrix₀ l) (classes₀ l) (roomy l) (state l) (so-far l (known l)) (here turn (known l)) noOne noType
+      assembly.turn-fits (whole l) (known l) (matrix₀ l) (classes₀ l) (roomy l) (state l) (so-far l (known l)) (here turn (known l)) pastInstance pastType
       codes to (c .list-rows .ensures)
 
 -- and its rows marked and keyed
 turned : (c : tie.After-write-keys Inv-loop μ-loop) → let l = at (turn-keyed c) in
     (told : CircuitGiven (whole l))
     → Turned (told .circuit) (matrix₀ l) record {
-      ones = marked-keyed c .mark-instance .last .1 .1 .1 .1 .1 .1 .1 .0;
-      zeros = marked-keyed c .mark-instance .last .1 .1 .1 .1 .1 .1 .1 .1 .0;
-      matrix = marked-keyed c .mark-instance .last .1 .1 .1 .1 .1 .1 .1 .1 .1 .0;
+      ones = marked-keying (c .before) .mark-instance .last .1 .1 .1 .1 .1 .1 .1 .0;
+      zeros = marked-keying (c .before) .mark-instance .last .1 .1 .1 .1 .1 .1 .1 .1 .0;
+      matrix = marked-keying (c .before) .mark-instance .last .1 .1 .1 .1 .1 .1 .1 .1 .1 .0;
       codes = c .write-keys .last .0;
-      from = to (listed-marked (marked-keyed c));
+      from = to (listed-keying (c .before));
       place = place (turn-keyed c) + 1;
     }
 turned c told =
-    let marked = marked-keyed c in
-    let listed = listed-marked marked in
+    let marked = marked-keying (c .before) in
+    let listed = listed-keying (c .before) in
     let l = at (turn listed) in
-    assembly.turn (whole l) told (matrix₀ l) (classes₀ l) (roomy l) (state l) (so-far l told) (here (turn listed) told) noOne noType
+    assembly.turn (whole l) told (matrix₀ l) (classes₀ l) (roomy l) (state l) (so-far l told) (here (turn listed) told) pastInstance pastType
     (codes listed) (to listed) (listed .list-rows .ensures) _ _ _ (marked .mark-instance .ensures) _ (c .write-keys .ensures)
 
 -- ---- the needs
 
 add-put-signals : tie.Need-add-put-signals Inv-loop μ-loop
-add-put-signals c = omega (arith, vectors-few (c .before .before .before .before .before .before))
+add-put-signals c = omega (arith, vectors-few (start-asking c))
 
 put-signals-requires : tie.Need-put-signals-requires Inv-loop μ-loop
-put-signals-requires c κs = (omega (arith, vectors-few (c .before .before .before .before .before .before .before .before)), (refl, refl))
+put-signals-requires c κs = (omega (arith, vectors-few (start-asking (c .before .before))), (refl, refl))
 
 loop-holds : tie.Need-loop-holds Inv-loop μ-loop
 loop-holds c = λ told.
@@ -191,20 +194,20 @@ array-copy-out-t c = omega (arith, type-placed (c .before .before))
 
 list-rows-requires : tie.Need-list-rows-requires Inv-loop μ-loop
 list-rows-requires c κs =
-    let turning = c .before .before .before .before in
+    let turning = turn-listing c in
     let l = at turning in
     let k = known l in
-    let type = type-few (k .circuit) (k .good) (whole l) (k .is) (place turning) noInstance (here turning k) noOne noType in (
+    let type = type-few (k .circuit) (k .good) (whole l) (k .is) (place turning) noInstance (here turning k) pastInstance pastType in (
       (few turning, type .0, type .1, bridges-few (k .circuit) (k .good) (whole l) (k .is)),
-      assembly.codes-room (whole l) k (matrix₀ l) (classes₀ l) (roomy l) (state l) (so-far l k) (here turning k) noOne noType,
+      assembly.codes-room (whole l) k (matrix₀ l) (classes₀ l) (roomy l) (state l) (so-far l k) (here turning k) pastInstance pastType,
     )
 
 mark-instance-requires : tie.Need-mark-instance-requires Inv-loop μ-loop
-mark-instance-requires c κs = fits (c .before .before .before .before) .marks
+mark-instance-requires c κs = fits (listed-marking c) .marks
 
 write-keys-requires : tie.Need-write-keys-requires Inv-loop μ-loop
 write-keys-requires c κs =
-    let listed = listed-marked (c .before .before .before) in
+    let listed = listed-keying c in
     let marks = fits listed .marks in
     ((marks .order, marks .most), (fits listed .codes-long, marks .codes))
 
@@ -219,7 +222,7 @@ loop-again c = λ told. turned c told
 
 class-rows-requires : tie.Need-class-rows-requires Inv-loop μ-loop
 class-rows-requires c κs =
-    let l = c .before .before .before .before in
+    let l = loop-classing c .before in
     let room = roomy l in (
       (from-few l .0, so-far l (known l) .codes-long),
       (omega (arith, from-few l .1, matrix-long l, room .words), omega (arith, from-few l .1, room .entries)),
@@ -229,7 +232,7 @@ counted-requires : tie.Need-counted-requires Inv-loop μ-loop
 counted-requires c κs = search needs
 
 same-length : tie.Need-same-length Inv-loop μ-loop
-same-length c = matrix-long (loop-classed (c .before .before .before) .before)
+same-length c = let classed = c .before .before .before in matrix-long (loop-classing (classed .before) .before)
 
 same-length-2 : tie.Need-same-length-2 Inv-loop μ-loop
 same-length-2 c = search needs
@@ -237,7 +240,7 @@ same-length-2 c = search needs
 returns : tie.Need-returns Inv-loop μ-loop
 returns c = λ meant e g.
     let classed = c .before .before .before in
-    let ended = loop-classed classed in
+    let ended = loop-classing (classed .before) in
     let l = ended .before in
     let told : CircuitGiven (whole l) = record { circuit = meant; is = e; good = g } in
     rw (c .counted .ensures)

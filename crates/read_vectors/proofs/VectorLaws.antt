@@ -86,18 +86,6 @@ letter-not-0 b e = rw (ne-eqb b 48 e) (go (eqb b 49))
     go true = refl
     go false = refl
 
-pub at1-le-one : (v : Value) → isAt1 v ≤ 1
-unfolding isAt1
-at1-le-one at0 = omega arith
-at1-le-one at1 = omega arith
-at1-le-one atX = omega arith
-
-pub at0-le-one : (v : Value) → isAt0 v ≤ 1
-unfolding isAt0
-at0-le-one at0 = omega arith
-at0-le-one at1 = omega arith
-at0-le-one atX = omega arith
-
 -- ---- a plane of a vector, bit by bit
 
 -- a packed number with one place more

@@ -7,7 +7,8 @@ use native.Mathlib.Omega.{arith}
 use Rattle.switch.specs.Promises.{isAt0, isAt1}
 use Rattle.read_fields.specs.Steps.{bodyOf}
 use Rattle.read_fields.proofs.Bodies.{length-body}
-use Rattle.read_vectors.proofs.VectorLaws.{planeTo, plane-none, plane-set, plane-kept, planes-whole, letter-1, letter-0, letter-not-1, letter-not-0, at1-le-one, at0-le-one}
+use Rattle.switch.proofs.Outputs.{at1-small, at0-small}
+use Rattle.read_vectors.proofs.VectorLaws.{planeTo, plane-none, plane-set, plane-kept, planes-whole, letter-1, letter-0, letter-not-1, letter-not-0}
 use Rattle.read_vectors.proofs.vector_in.Statement.{statement}
 use Rattle.read_vectors.proofs.vector_in.Tie as tie
 
@@ -51,12 +52,12 @@ loop-again c =
       omega arith,
       rw add-one
           (⊎-elim
-          (λ w. w .1 ∙ rw (inv .1) (plane-set isAt1 body at1-le-one i (omega arith) (rw is at (letter-1 b (w .0 .taken)))))
+          (λ w. w .1 ∙ rw (inv .1) (plane-set isAt1 body at1-small i (omega arith) (rw is at (letter-1 b (w .0 .taken)))))
           (λ w. w .1 ∙ inv .1 ∙ plane-kept isAt1 body i (rw is at (letter-not-1 b (w .0 .left))))
           (c .before .if1 .came)),
       rw add-one
           (⊎-elim
-          (λ w. w .1 ∙ rw (inv .2) (plane-set isAt0 body at0-le-one i (omega arith) (rw is at (letter-0 b (w .0 .taken)))))
+          (λ w. w .1 ∙ rw (inv .2) (plane-set isAt0 body at0-small i (omega arith) (rw is at (letter-0 b (w .0 .taken)))))
           (λ w. w .1 ∙ inv .2 ∙ plane-kept isAt0 body i (rw is at (letter-not-0 b (w .0 .left))))
           (c .if2 .came)),
     )

@@ -1,8 +1,9 @@
 -- `print_report::report_piece` meets its contract. The loop's invariant: the lines passed stand at the buffer's front, and the rows are there. Assumes nothing.
-use Prim.Native.Nat.{_-_, _≤_, _<_}
+use Prim.Native.Nat.{_+_, _-_, _≤_}
 use mathlib.Core.Path.{_≡_}
 use native.Mathlib.Omega.{arith}
 use borrow.Author.Needs.{needs}
+use lib.ListN.{length}
 use Rattle.print_lines.proofs.PieceLoop.{PieceSoFar, piece-begins, piece-ends, count-fits, piece-grows, piece-full}
 use Rattle.print_report.specs.Held.{heldLine, heldCount, RowsHeld}
 use Rattle.print_report.proofs.HeldLaws.{held-some}
@@ -25,6 +26,10 @@ asked c = c .before .before
 
 abbrev turn-of : tie.After-held-line Inv-loop μ-loop → tie.At-loop Inv-loop μ-loop
 turn-of c = c .before .before .before
+
+-- what is given fits behind what stands
+fits-behind : (c : tie.After-held-line Inv-loop μ-loop) → turn-of c .loop .count + c .held-line .result ≤ length (turn-of c .loop .out)
+fits-behind c = count-fits (turn-of c .loop .inv .0) (c .held-line .ensures)
 
 -- ---- the needs
 
@@ -50,10 +55,7 @@ add-next : tie.Need-add-next Inv-loop μ-loop
 add-next c = search needs
 
 add-count : tie.Need-add-count Inv-loop μ-loop
-add-count c =
-    let line = asked (c .before) in
-    let turn = turn-of line .loop in
-    let fits = count-fits (turn .inv .0) (line .held-line .ensures) in search needs
+add-count c = let fits = fits-behind (asked (c .before)) in search needs
 
 loop-less : tie.Need-loop-less Inv-loop μ-loop
 loop-less c = search needs

@@ -21,6 +21,30 @@ Inv-loop out₀ file matrix classes answer codes handed₀ next₀ out handed ne
 abbrev μ-loop : tie.MeasureT-loop
 μ-loop out₀ file matrix classes answer codes handed₀ next₀ out handed next = lineCount (gradingOfFile file) - next
 
+-- ---- where things stand
+
+-- before the loop: the start, from the file read, that, from the file graded, and that, from its rows
+abbrev start-of : tie.After-read-stages Inv-loop μ-loop → tie.Start Inv-loop μ-loop
+start-of c = c .before .before .before .before .before
+
+abbrev read-of : tie.After-grade-read Inv-loop μ-loop → tie.After-read-stages Inv-loop μ-loop
+read-of c = c .before .before .before
+
+abbrev graded-of : tie.After-rows-read Inv-loop μ-loop → tie.After-grade-read Inv-loop μ-loop
+graded-of c = c .before .before .before .before .before
+
+-- in the loop: a piece, from what is told of it, and the turn that asks for it
+abbrev piece-of : tie.After-struct-known Inv-loop μ-loop → tie.After-report-piece Inv-loop μ-loop
+piece-of c = c .before .before .before
+
+abbrev turn-asking : tie.After-report-piece-arg3 Inv-loop μ-loop → tie.At-loop Inv-loop μ-loop
+turn-asking c = c .before .before .before .before
+
+abbrev turn-of : tie.After-report-piece Inv-loop μ-loop → tie.At-loop Inv-loop μ-loop
+turn-of c = turn-asking (c .before)
+
+-- ---- the needs
+
 read-stages-requires : tie.Need-read-stages-requires Inv-loop μ-loop
 read-stages-requires c κs = search needs
 
@@ -35,15 +59,17 @@ none-handed-requires c κs = search needs
 
 loop-holds : tie.Need-loop-holds Inv-loop μ-loop
 loop-holds c =
-    let start = c .before .before .before .before .before .before .before .before .before .before .before .before .before .before in
-    let tells = c .before .before .before .before .before .before .before .before .before .read-stages .ensures .tells in
+    let graded = graded-of (c .before) in
+    let read = read-of graded in
+    let start = start-of read in
+    let tells = read .read-stages .ensures .tells in
     let listed = c .before .rows-read .ensures in (
       record {
         before = buffersOf (start .args .matrix .now) (start .args .classes .now);
         room = ap₂ roomFor (start .pre .1 .0) (start .pre .1 .1);
         outcome = record {
           after = _;
-          promised = c .before .before .before .before .before .before .grade-read .ensures _ tells;
+          promised = graded .grade-read .ensures _ tells;
           matrix-is = refl;
           classes-are = refl;
           listed = λ m reads. listed .listed _ m tells reads;
@@ -57,24 +83,27 @@ slice-aggregate-report-piece : tie.Need-slice-aggregate-report-piece Inv-loop μ
 slice-aggregate-report-piece c = search needs
 
 report-piece-requires : tie.Need-report-piece-requires Inv-loop μ-loop
-report-piece-requires c κs = let held = c .before .before .before .before .loop .inv .0 in rows-are-held _ _ _ _ _ _ (held .outcome)
+report-piece-requires c κs = let held = turn-asking c .loop .inv .0 in rows-are-held _ _ _ _ _ _ (held .outcome)
 
 hand-out-requires : tie.Need-hand-out-requires Inv-loop μ-loop
 hand-out-requires c κs =
-    let turn = c .before .before .before .before .before .before .before .before .before .before .loop in
-    let piece = c .before .before .before .before .before .report-piece .ensures in
+    let told = piece-of (c .before .before) in
+    let turn = turn-of told .loop in
+    let piece = told .report-piece .ensures in
     hands-next (turn .inv .1) (piece-of-file (turn .inv .0) piece)
 
 loop-less : tie.Need-loop-less Inv-loop μ-loop
 loop-less c =
-    let turn = c .before .before .before .before .before .before .before .before .before .before .before .loop in
-    let piece = c .before .before .before .before .before .before .report-piece .ensures in
+    let told = piece-of (c .before .before .before) in
+    let turn = turn-of told .loop in
+    let piece = told .report-piece .ensures in
     less-left (turn .inv .1) (piece-of-file (turn .inv .0) piece) (omega arith)
 
 loop-again : tie.Need-loop-again Inv-loop μ-loop
 loop-again c =
-    let turn = c .before .before .before .before .before .before .before .before .before .before .before .loop in
-    let piece = c .before .before .before .before .before .before .report-piece .ensures in
+    let told = piece-of (c .before .before .before) in
+    let turn = turn-of told .loop in
+    let piece = told .report-piece .ensures in
     (turn .inv .0, handing-goes-on (turn .inv .1) (piece-of-file (turn .inv .0) piece) (c .hand-out .ensures), turn .inv .2)
 
 same-length : tie.Need-same-length Inv-loop μ-loop
@@ -88,8 +117,9 @@ same-length-3 c = search needs
 
 returns : tie.Need-returns Inv-loop μ-loop
 returns c =
-    let turn = c .before .before .before .before .before .before .before .before .before .loop in
-    let given = piece-of-file (turn .inv .0) (c .before .before .before .before .report-piece .ensures) in
+    let told = piece-of (c .before) in
+    let turn = turn-of told .loop in
+    let given = piece-of-file (turn .inv .0) (told .report-piece .ensures) in
     handing-ends (turn .inv .1) given (moves _ given) (omega arith)
 
 pub grade-file-spec : {M : Type 1} → statement M

@@ -1,5 +1,5 @@
--- The rows of a file, listed or refused: each keeps the promise of `togyamiru_rows`; no two outcomes keep it; and it refuses as grading does. Assumes nothing.
-use Prim.Native.Nat.{ℕ, suc, _+_, _*_, _<_, _≤_}
+-- The rows of a file, listed or refused: each keeps the promise of `togyamiru_rows`, and no two outcomes keep it. Assumes nothing.
+use Prim.Native.Nat.{ℕ, suc, _+_, _<_, _≤_}
 use mathlib.Core.Path.{_≡_, refl, sym, ap, _∙_}
 use mathlib.Core.Bool.{true, false}
 use mathlib.Core.List.{List, [], _∷_}
@@ -7,9 +7,9 @@ use native.Mathlib.Nat.{zero-add}
 use native.Mathlib.Numerals.{add-one}
 use native.Mathlib.Omega.{arith}
 use borrow.Author.Tests.{lt-ltb, le-ltb}
-use lib.ListN.{length, getD, set, take, length-map}
+use lib.ListN.{length, getD, set, take}
 use lib.Seq.{paste, paste-suc, length-take-le}
-use Rattle.circuit.specs.Reading.{Reading, accepted, refusal, readingOf}
+use Rattle.circuit.specs.Reading.{Reading, accepted, refusal}
 use Rattle.circuit.specs.Records.{padded}
 use Rattle.circuit.specs.Refusals.{verdictOf}
 use Rattle.circuit.specs.Verdicts.{isRefused}
@@ -17,14 +17,14 @@ use Rattle.circuit.specs.Answers.{Tells}
 use Rattle.circuit.specs.declared.Reading.{Reading as ReadingRecord}
 use Rattle.circuit.specs.declared.Circuit.{Circuit as CircuitRecord}
 use Rattle.circuit.proofs.TypeLaws.{take-padded}
-use Rattle.circuit.proofs.CircuitLaws.{accepted-is-good}
-use Rattle.grading.specs.Buffers.{Room, roomFor, noBuffers}
-use Rattle.grading.specs.Rows.{Row, rowsOf}
-use Rattle.grading.specs.Grading.{Counts, Grading, countsOfCircuit, gradingOfCircuit, afterReading, gradingOf, countsIn, numberIn, placeIn, over}
+use Rattle.grading.specs.Buffers.{roomFor, noBuffers}
+use Rattle.grading.specs.Rows.{rowsOf}
+use Rattle.grading.specs.Grading.{Counts, Grading, countsOfCircuit, afterReading, countsIn, numberIn, placeIn, over}
 use Rattle.grading.specs.Promise.{numberOf, placeOf, countsMeant, countsOf}
 use Rattle.grading.specs.declared.Counts.{Counts as CountsRecord}
 use Rattle.grading.specs.declared.Answer.{Answer}
 use Rattle.grading.specs.declared.Answer.the-variants.{Graded, Refused, ShortClasses}
+use Rattle.grading.proofs.CodeLaws.{length-codes}
 use Rattle.grading.proofs.RowLaws.{few-rows}
 use Rattle.grade_file.proofs.Assembly.{faults-are}
 use Rattle.grade_file.proofs.GradingLaws.{refused-answers, Accepted, good-here}
@@ -57,10 +57,6 @@ refused-rows (accepted c) r tells e rows = absurd (never (sym (ap isRefused (tel
 refused-rows (refusal number place) r tells e rows =
     let told = refused-answers (refusal number place) r tells e (roomFor 0 0) noBuffers in
     record { number = told .number; place = told .place; faults = ap (λ (counts : Counts). counts .faults) (told .counts); rows-at-exit = refl }
-
-length-codes : (rows : List Row) → length (codesOf rows) ≡ length rows
-unfolding codesOf
-length-codes rows = length-map rows _
 
 module _ (file : List ℕ) (m : CircuitRecord) (here : Accepted file m) where
   same-faults : m .faults ≡ length (rowsOf (here .circuit))
@@ -114,15 +110,3 @@ three-numbers g answer rows rows′ n p counts lists is-n is-p are = record {
 pub rows-once : (file rows answer answer′ after after′ : List ℕ) → RowsPromise file rows answer after → RowsPromise file rows answer′ after′
     → (answer ≡ answer′) × (after ≡ after′)
 rows-once file rows answer answer′ after after′ p q = (p .answer-at-exit ∙ sym (q .answer-at-exit), p .rows-at-exit ∙ sym (q .rows-at-exit))
-
--- ---- what is listed is what is graded: with a matrix for every file, the same refusals, of a row buffer as of a class buffer
-
-pub listed-as-graded : (file : List ℕ) (room : Room) → 8192 ≤ room .words → rowsAfterReading (readingOf file) (room .entries) ≡ gradingOf file room
-unfolding gradingOf afterReading rowsAfterReading gradingOfCircuit
-listed-as-graded file room enough = go (readingOf file) refl
-  where
-    go : (read : Reading) → readingOf file ≡ read → rowsAfterReading read (room .entries) ≡ afterReading read room
-    go (refusal number place) reads = refl
-    go (accepted c) reads =
-        let few = few-rows c (accepted-is-good true file c reads) in
-        rw (le-ltb (room .words) (4 * length (rowsOf c)) (omega (arith, few, enough)))

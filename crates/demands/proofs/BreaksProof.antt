@@ -313,31 +313,30 @@ filled-vectors = record { no-fewer = omega arith; agree = agrees }
     agrees zero i h = filled i
     agrees (suc v) i h = absurd (omega arith)
 
-plane-taken-back : TakenBack onePlane (inverterAt "X") (inverterAt "1") 1 0
-unfolding wrong-computing toldBy isGraded cellAt
-plane-taken-back = record {
-  grades = (refl, tt);
-  grades′ = (refl, tt);
+-- a grader that marks a row under the X and not under the 1
+taken-back : (grader : Grader) (r : ℕ) → T (isGraded (callFor grader (inverterAt "X") .answer)) → T (isGraded (callFor grader (inverterAt "1") .answer))
+    → T (ltb r (length (rowsOf (circuitOf (inverterAt "X")))))
+    → cellAt (callFor grader (inverterAt "X") .after .matrix) r 0 ≡ 1 → cellAt (callFor grader (inverterAt "1") .after .matrix) r 0 ≡ 0
+    → TakenBack grader (inverterAt "X") (inverterAt "1") r 0
+unfolding wrong-computing toldBy
+taken-back grader r graded graded′ is-row mark none = record {
+  grades = (refl, graded);
+  grades′ = (refl, graded′);
   alike = record { inputs = refl; types = refl; bridges = refl; instances = refl };
   refined = filled-vectors;
-  is-row = tt;
+  is-row = is-row;
   is-vector = tt;
-  mark = refl;
-  none = refl;
+  mark = mark;
+  none = none;
 }
+
+plane-taken-back : TakenBack onePlane (inverterAt "X") (inverterAt "1") 1 0
+unfolding wrong-computing toldBy isGraded cellAt
+plane-taken-back = taken-back onePlane 1 tt tt tt refl refl
 
 zero-taken-back : TakenBack readsXAsZero (inverterAt "X") (inverterAt "1") 0 0
 unfolding wrong-computing toldBy isGraded cellAt
-zero-taken-back = record {
-  grades = (refl, tt);
-  grades′ = (refl, tt);
-  alike = record { inputs = refl; types = refl; bridges = refl; instances = refl };
-  refined = filled-vectors;
-  is-row = tt;
-  is-vector = tt;
-  mark = refl;
-  none = refl;
-}
+zero-taken-back = taken-back readsXAsZero 0 tt tt tt refl refl
 
 is-one : at1 ≡ atX → ⊥
 unfolding isOne

@@ -13,7 +13,7 @@ use denote.Triple.Clauses.{Ended, AtExit, atExit}
 use denote.Triple.Entry.{Args, Res}
 use denote.Triple.Weaken.{weaken}
 use Rattle.grading.specs.Buffers.{Buffers, roomOf}
-use Rattle.grading.specs.Grading.{Counts, Grading, gradingOf, countsIn, numberIn, placeIn, buffersAfter}
+use Rattle.grading.specs.Grading.{Grading, gradingOf, countsIn, numberIn, placeIn, buffersAfter}
 use Rattle.grading.specs.Promise.{isGraded, numberOf, placeOf, countsOf}
 use Rattle.grading.specs.declared.Answer.{Answer}
 use Rattle.grading.specs.declared.Answer.the-variants.{Graded, Refused, ShortMatrix, ShortClasses}
@@ -24,6 +24,7 @@ use Rattle.demands.specs.Calls.{Kept, Refuses}
 use Rattle.demands.specs.One.{CanBeMet}
 use Rattle.demands.specs.Determined.{MeetsDemands}
 use Rattle.demands.specs.Contracts.{ToldBy, RoutineTells, callOf, GradeIsKept, sixOf, EntryIsCall, ofEntry, EntryIsKept}
+use Rattle.togyamiru.proofs.Numbers.{numbers}
 use Rattle.demands.proofs.Determines.{kept-meets}
 use Rattle.demands.proofs.RightProof.{promise-can-be-met}
 
@@ -48,13 +49,9 @@ grade-is-kept = record {
       (λ κs a r e. kept-meets (callOf κs a r e)) grade.Met.met;
 }
 
--- six numbers in a row, with counts that are given whole
-numbers : ℕ → ℕ → Counts → List ℕ
-numbers n p counts = n ∷ p ∷ counts .vectors ∷ counts .faults ∷ counts .classes ∷ counts .found ∷ []
-
 six-are : (g : Grading) (answer : Answer) → numberOf answer ≡ numberIn g → placeOf answer ≡ placeIn g → countsOf answer ≡ countsIn g
     → sixNumbers g ≡ sixOf answer
-unfolding sixNumbers sixOf numbers
+unfolding sixNumbers sixOf
 six-are g answer n p counts =
     ap (λ (m : ℕ). numbers m (placeIn g) (countsIn g)) (sym n)
     ∙ ap (λ (m : ℕ). numbers (numberOf answer) m (countsIn g)) (sym p)

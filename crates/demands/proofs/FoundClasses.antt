@@ -1,5 +1,5 @@
 -- A class is found exactly when some row of it has a mark under some vector. Assumes nothing.
-use Prim.Native.Nat.{ℕ, suc, _<_, _≤_}
+use Prim.Native.Nat.{ℕ, suc, _<_}
 use mathlib.Core.Path.{_≡_}
 use mathlib.Core.Bool.{true, _&&_}
 use mathlib.Core.Logic.{⊎-elim, _↔_}
@@ -9,29 +9,24 @@ use borrow.Author.Tests.{lt-ltb}
 use lib.Dec.{T, eqb, eqb→eq, ltb→lt}
 use lib.ListN.{length, getD}
 use Rattle.words.specs.Bits.{sumTo}
-use Rattle.words.proofs.Laws.{ofBool-le-one}
 use Rattle.words.proofs.Sums.{sum-part, sum-some}
 use Rattle.switch.proofs.Paths.{both}
 use Rattle.circuit.specs.Circuit.{Circuit}
 use Rattle.circuit.proofs.Tested.{holds}
-use Rattle.grading.specs.Rows.{Row, noRow, rowsOf, cell, markOf}
+use Rattle.grading.specs.Rows.{Row, noRow, rowsOf, markOf}
 use Rattle.grading.specs.Classes.{classesOf, hasMarkBy, hasMark, classFoundBy, classFound}
 use Rattle.grading.proofs.ClassNumbering.{class-numbers}
-use Rattle.grading.proofs.FoundLaws.{found-by}
+use Rattle.grading.proofs.FoundLaws.{mark-le-one, found-by}
 use Rattle.grading.proofs.SameClass.{or-cases}
 
 -- ---- a row's marks
 
 module _ (c : Circuit) (row : Row) where
-  mark-le-one : (v : ℕ) → markOf c row v ≤ 1
-  unfolding markOf
-  mark-le-one v = ofBool-le-one (cell c (getD (c .vectors) v []) row)
-
   has-mark : T (hasMark c row) → (v : ℕ) × (v < length (c .vectors)) × (markOf c row v ≡ 1)
   unfolding hasMarkBy
   has-mark t =
       let found = sum-some (length (c .vectors)) (markOf c row) (ltb→lt 0 (sumTo (length (c .vectors)) (markOf c row)) t) in
-      (found .0, found .1, omega (arith, found .2, mark-le-one (found .0)))
+      (found .0, found .1, omega (arith, found .2, mark-le-one c row (found .0)))
 
   mark-had : (v : ℕ) → v < length (c .vectors) → markOf c row v ≡ 1 → hasMark c row ≡ true
   unfolding hasMarkBy

@@ -8,7 +8,6 @@ use mathlib.Core.List.{List}
 use native.Mathlib.Omega.{arith}
 use lib.Dec.{T, ltb}
 use Rattle.words.specs.Tables.{upTo}
-use Rattle.words.proofs.Laws.{ofBool-le-one}
 use Rattle.words.proofs.Rows.{upTo-le-one}
 use Rattle.circuit.specs.Circuit.{Circuit}
 use Rattle.circuit.specs.Table.{refusedAt}
@@ -20,13 +19,14 @@ use Rattle.grading.specs.Grading.{Grading, graded, gradingOf, over}
 use Rattle.grading.specs.Grading.{refused}
 use Rattle.grading.specs.Promise.{isGraded}
 use Rattle.demands.specs.Calls.{Call, Accepts, GradedAs}
-use Rattle.demands.specs.Two.{vectorOf, CellsTell}
+use Rattle.demands.specs.Two.{CellsTell}
 use Rattle.demands.specs.Graders.{Work, outcomeOf, gradesBy, workBy, rightWork, rightly, called}
 use Rattle.demands.specs.Wrong.{marksAll, marksNever, firstWordOnly, inventsFound, countsRows, countsTwice, countsLabels}
 use Rattle.demands.specs.Breaks.{MeetsOne, MeetsCells, RightlyMeetsAll, MeetDemandOne, MeetCellClause, MeetDemandThree}
 use Rattle.demands.proofs.GradingVerdicts.{answered, answer-is}
 use Rattle.demands.proofs.OneProof.{one-by-the-table, one-holds, grading-keeps-the-rest}
 use Rattle.demands.proofs.Cells.{cell-is-path}
+use Rattle.grading.proofs.FoundLaws.{mark-le-one}
 use Rattle.demands.proofs.ClassCounts.{classes-count-once}
 use Rattle.demands.proofs.Refining.{mark-stands, three-holds}
 use Rattle.demands.proofs.RefinedMarks.{by-marks-that-stand, marks-above, marks-below}
@@ -38,10 +38,6 @@ right-as : (file : List ℕ) (before : Buffers) (c : Circuit) → Accepts file c
     → GradedAs (called rightly file before) c
 right-as file before c accepts is-graded =
     record { kept = rightly-is-right file before; accepts = accepts; graded = is-graded }
-
-mark-le-one : (c : Circuit) (row : Row) (v : ℕ) → markOf c row v ≤ 1
-unfolding markOf
-mark-le-one c row v = ofBool-le-one (cell c (vectorOf c v) row)
 
 pub rightly-meets-all : RightlyMeetsAll
 unfolding rightly rightWork

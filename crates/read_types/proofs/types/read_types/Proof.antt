@@ -61,7 +61,7 @@ use Rattle.read_fields.proofs.Step.Laws as S′
 use Rattle.read_fields.proofs.Next as N
 use Rattle.read_fields.proofs.Next.Laws as N′
 use Rattle.read_fields.proofs.Called.{called}
-use Rattle.read_fields.proofs.LocalArrays.{elements-of, array-of}
+use Rattle.words.proofs.LocalArrays.{elements-of, array-of}
 use Rattle.read_fields.proofs.Loans as Lo
 use Rattle.read_fields.proofs.Loans.{readerTy, ReaderAt, Stepping, OwnField, loanTy as loan}
 use Rattle.read_fields.proofs.Turns.{Turned}

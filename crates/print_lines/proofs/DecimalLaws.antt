@@ -61,11 +61,6 @@ unfolding digitsOf
 length-digits zero n = refl
 length-digits (suc d) n = rw (length-append, length-digits d) (omega arith)
 
-pub decimal-short : (n d : ℕ) → 1 ≤ d → n < 10 ^ d → length (decimal n) ≤ d
-unfolding decimal
-decimal-short n zero p h = absurd (omega arith)
-decimal-short n (suc d) p h = rw length-digits (length-short 20 d n h)
-
 pub decimal-some : (n : ℕ) → 1 ≤ length (decimal n)
 unfolding decimal
 decimal-some n = rw length-digits (length-some 20 n)

@@ -53,7 +53,7 @@ fn list_read(reading: Reading, rows: &mut [u32]) -> Answer
 }
 
 // Any bytes, and then either their rows or their grading; the buffers of the other are not looked at.
-// Both entries go through here, so that the compiler finds one call of `read_stages` and puts it into this frame: as a function of its own it takes 28 KB of stack more.
+// Both entries go through here, so that the compiler finds one call of `read_stages` and puts it into this frame: as a function of its own it takes 47 KB of stack more.
 pub fn answer_to(
     file: &[u8],
     lists: bool,

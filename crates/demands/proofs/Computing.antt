@@ -24,7 +24,7 @@ use Rattle.grading.specs.Classes.{sameReference, sameLabel, sameBridge, sameCla
 use Rattle.grading.specs.Grading.{countsOfCircuit, gradingOfCircuit, afterReading, gradingOf, countsIn, numberIn, placeIn, over, buffersAfter}
 use Rattle.grading.specs.Promise as promise
 use Rattle.circuit.specs.Refusals.{refusalNumber}
-use Rattle.demands.specs.Graders.{refusalOf, refusing, outcomeOf, gradesBy, workBy, marksBy, rightWork, rightly}
+use Rattle.demands.specs.Graders.{refusalOf, refusing, outcomeOf, gradesBy, workBy, marksBy, rightWork, rightly, readTesting, testing}
 
 -- to unfold a definition is to unfold what its line names
 unfoldable pub computing : Unit {0}
@@ -44,7 +44,7 @@ computing = tt
 -- and what a grader of specs/Graders does
 unfoldable pub grader-computing : Unit {0}
 unfolding computing refusalNumber promise.numberOf promise.countsOf
-    refusalOf refusing outcomeOf gradesBy workBy marksBy rightWork rightly
+    refusalOf refusing outcomeOf gradesBy workBy marksBy rightWork rightly readTesting testing
 grader-computing = tt
 
 -- buffers that hold zeros, enough for 16 rows

@@ -12,7 +12,7 @@ use Rattle.grading.specs.Promise as promise
 use Rattle.grading.specs.Promise.{isGraded}
 use Rattle.demands.specs.Files.{inverter, inverterUnder, inverterListed, nandListed, nandOfOne, oneListed, nand3Fields, splitRails}
 use Rattle.demands.specs.Graders.{Grader, MeetsPromise}
-use Rattle.demands.specs.Wrong.{refusesEvery, without, readWithout, skips, marksAll, marksNever, leavesMatrix, firstWordOnly, inventsFound}
+use Rattle.demands.specs.Wrong.{refusesEvery, without, skips, marksAll, marksNever, leavesMatrix, firstWordOnly, inventsFound}
 use Rattle.demands.specs.Wrong.{labelMarked, markedBy, lowerNode, putIn, inNodeOrder, isAmong, handedOn, swept, sweepsOnce, isOne, unlike, onePlaneMarked, onePlane}
 use Rattle.demands.specs.Wrong.{levelIn, isZero, sameLevel, unequalEnds, marksFloating, rowsFound, countsRows, packed63, spills, packedFirst, wraps, goesOn}
 use Rattle.demands.specs.Wrong.{changesOutput, watchesOutputs, held, rowValuesAt, levelAt, heldLevel, opposed, heldMarked, holdsLevels}
@@ -25,7 +25,7 @@ use Rattle.demands.proofs.Computing.{grader-computing, blank}
 -- what the wrong graders compute with
 unfoldable pub wrong-computing : Unit {0}
 unfolding grader-computing
-    refusesEvery without readWithout skips marksAll marksNever leavesMatrix firstWordOnly inventsFound
+    refusesEvery without marksAll marksNever leavesMatrix firstWordOnly inventsFound
     labelMarked markedBy lowerNode putIn inNodeOrder isAmong handedOn swept sweepsOnce isOne unlike onePlaneMarked onePlane
     levelIn isZero sameLevel unequalEnds marksFloating rowsFound countsRows packed63 spills packedFirst wraps goesOn
     changesOutput watchesOutputs held rowValuesAt levelAt heldLevel opposed heldMarked holdsLevels
@@ -43,7 +43,7 @@ Differ a b = eqb a b ≡ false
 pub apart : (a b : ℕ) → Differ a b → a ≡ b → ⊥
 apart a b differ e = subst T differ (subst (λ (n : ℕ). T (eqb a n)) e (eqb-refl a))
 
-abbrev NumberDiffers : Grader → List ℕ → Type 0
+abbrev pub NumberDiffers : Grader → List ℕ → Type 0
 NumberDiffers grader file = Differ (promise.numberOf (grader file blank .answer)) (numberIn (meant file))
 
 -- in buffers that held these numbers
@@ -60,7 +60,7 @@ ClassDiffers grader file i = Differ (getD (grader file blank .after .classes) i 
 abbrev FoundDiffers : Grader → List ℕ → Type 0
 FoundDiffers grader file = Differ (promise.countsOf (grader file blank .answer) .found) (countsIn (meant file) .found)
 
-by-number : (grader : Grader) (file : List ℕ) → NumberDiffers grader file → MeetsPromise grader → ⊥
+pub by-number : (grader : Grader) (file : List ℕ) → NumberDiffers grader file → MeetsPromise grader → ⊥
 by-number grader file differ meets = apart _ _ differ (meets file blank .number)
 
 by-word : (before : Buffers) (grader : Grader) (file : List ℕ) (i : ℕ) → WordDiffersIn before grader file i → MeetsPromise grader → ⊥

@@ -3,14 +3,19 @@
 use Prim.Native.Nat.{ℕ}
 use mathlib.Core.Bool.{Bool, cond}
 use mathlib.Core.List.{List, [], map}
-use lib.Dec.{eqb}
+use lib.Dec.{eqb, ltb}
 use lib.ListN.{length, getD}
 use Rattle.words.specs.Bits.{ofBool}
 use Rattle.words.specs.Rows.{rowOf}
 use Rattle.switch.specs.Conduction.{Value}
 use Rattle.switch.specs.Modules.{ModuleType}
 use Rattle.switch.specs.Bridges.{Bridge}
+use Rattle.circuit.specs.Limits.{mostBytes}
+use Rattle.circuit.specs.Fields.{Field, Cut, clean, broken, field, cutFrom}
 use Rattle.circuit.specs.Circuit.{Circuit, joinLists}
+use Rattle.circuit.specs.Known.{Known, start, knownAfter}
+use Rattle.circuit.specs.Table.{Test, firstOf}
+use Rattle.circuit.specs.Reading.{Reading, accepted, refusal, unless}
 use Rattle.circuit.specs.declared.refusal.Refusal.{Refusal}
 use Rattle.circuit.specs.declared.refusal.Refusal.the-variants.{TooLong, Broken, UnknownTag, Misplaced, WrongLength, TooMany, OutOfRange}
 use Rattle.circuit.specs.declared.refusal.Refusal.the-variants.{BadEnds, NotComplementary, BadReference, BridgeUnsuited, EmptyList}
@@ -18,7 +23,7 @@ use Rattle.circuit.specs.declared.refusal.Refusal.the-variants.{TooManyFaults, 
 use Rattle.grading.specs.Buffers.{Buffers, roomOf}
 use Rattle.grading.specs.Rows.{Row, rowsOf, rowValues, markOf}
 use Rattle.grading.specs.Classes.{sameClass, largest, classesBy, foundBy}
-use Rattle.grading.specs.Grading.{Grading, graded, refused, gradingOf, over}
+use Rattle.grading.specs.Grading.{Grading, graded, refused, gradingOf, afterReading, over}
 use Rattle.grading.specs.declared.Answer.{Answer}
 use Rattle.grading.specs.declared.Answer.the-variants.{Graded, Refused, ShortMatrix, ShortClasses}
 use Rattle.demands.specs.Calls.{Call, Kept}
@@ -105,3 +110,16 @@ rightly file before = gradesBy rightWork file before
 -- the promise can be met, and a grader that differs from this one in one place is right in all others
 abbrev pub RightlyIsRight : Type 0
 RightlyIsRight = MeetsPromise rightly
+
+-- ---- a grader by the tests that it makes of a field and of the end of a file; it is right in all else
+
+unfoldable pub readTesting : (Known → Field → List Test) → (Known → ℕ → List Test) → ℕ → Known → Cut → Reading
+readTesting fields end size known clean = unless (firstOf (end known size)) (accepted (known .circuit))
+readTesting fields end size known (broken at) = refusal 2 at
+readTesting fields end size known (field f rest) =
+    let later = readTesting fields end size (knownAfter known f) rest in unless (firstOf (fields known f)) later
+
+unfoldable pub testing : (Known → Field → List Test) → (Known → ℕ → List Test) → Grader
+testing fields end file before =
+    let whole = readTesting fields end (length file) start (cutFrom file 0) in
+    outcomeOf rightWork (afterReading (cond (ltb mostBytes (length file)) (refusal 1 0) whole) (roomOf before)) before

@@ -15,19 +15,17 @@ use Rattle.switch.specs.Modules.{ModuleType, linksOf}
 use Rattle.switch.specs.Bridges.{Bridge, nodes, input, closing}
 use Rattle.switch.specs.Deciding as deciding
 use Rattle.switch.specs.Deciding.{joins, isMarked}
-use Rattle.circuit.specs.Limits.{mostBytes}
-use Rattle.circuit.specs.Fields.{Cut, clean, broken, field, cutFrom}
+use Rattle.circuit.specs.Fields.{Field}
 use Rattle.circuit.specs.Circuit.{Circuit}
-use Rattle.circuit.specs.Known.{Known, start, knownAfter}
-use Rattle.circuit.specs.Table.{Test, firstOf, fieldTests, endTests}
-use Rattle.circuit.specs.Reading.{Reading, accepted, refusal, unless}
+use Rattle.circuit.specs.Known.{Known}
+use Rattle.circuit.specs.Table.{Test, fieldTests, endTests}
 use Rattle.grading.specs.Buffers.{roomOf}
 use Rattle.grading.specs.Rows.{Row, rowsOf, rowValues, markOf}
 use Rattle.grading.specs.Classes.{sameClass, hasMarkBy}
-use Rattle.grading.specs.Grading.{Grading, graded, refused, gradingOf, afterReading}
+use Rattle.grading.specs.Grading.{Grading, graded, refused, gradingOf}
 use Rattle.grading.specs.declared.Answer.{Answer}
 use Rattle.grading.specs.Promise.{isGraded}
-use Rattle.demands.specs.Graders.{Grader, MeetsPromise, refusing, Work, outcomeOf, gradesBy, Packing, workBy, marksBy, rightWork}
+use Rattle.demands.specs.Graders.{Grader, MeetsPromise, refusing, testing, Work, gradesBy, Packing, workBy, marksBy, rightWork}
 use Rattle.demands.specs.Graders.{rightly}
 
 -- only the marks are wrong
@@ -52,16 +50,11 @@ unfoldable pub without : ℕ → List Test → List Test
 without n [] = []
 without n (t ∷ ts) = let rest = without n ts in cond (eqb (t .number) n) rest (t ∷ rest)
 
-unfoldable pub readWithout : ℕ → ℕ → Known → Cut → Reading
-readWithout n size known clean = unless (firstOf (without n (endTests true known size))) (accepted (known .circuit))
-readWithout n size known (broken at) = refusal 2 at
-readWithout n size known (field f rest) =
-    let later = readWithout n size (knownAfter known f) rest in unless (firstOf (without n (fieldTests known f))) later
-
-unfoldable pub skips : ℕ → Grader
-skips n file before =
-    let whole = readWithout n (length file) start (cutFrom file 0) in
-    outcomeOf rightWork (afterReading (cond (ltb mostBytes (length file)) (refusal 1 0) whole) (roomOf before)) before
+abbrev pub skips : ℕ → Grader
+skips n =
+    testing
+    (λ (known : Known) (f : Field). without n (fieldTests known f))
+    (λ (known : Known) (size : ℕ). without n (endTests true known size))
 
 -- it takes types that are not complementary
 abbrev pub SkipsNineIsWrong : Type 0

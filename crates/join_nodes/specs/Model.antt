@@ -1,19 +1,18 @@
 -- What the code computes on the way, as lists: on words, rounds of joining, planes of 64 settings. Only the code's own proofs use it.
 -- A word has a bit for each of 64 vectors, or of 64 settings.
 use Prim.Native.Nat.{ℕ, zero, suc, _+_, _-_, _*_, _^_, _<_, _≤_}
-use mathlib.Core.Bool.{Bool, true, false, cond}
+use mathlib.Core.Bool.{Bool, cond}
 use mathlib.Core.List.{List, [], _∷_, _++_}
 use mathlib.Core.Logic.{_↔_}
 use lib.Bits.{bitAnd, bitOr}
 use mathlib.Core.Path.{_≡_}
-use lib.Dec.{T}
 use lib.ListN.{length, getD, set, take, drop}
 use Rattle.words.specs.Bits.{bit, ofBool, word}
 use Rattle.words.specs.Each.{wordOfEach}
 use Rattle.words.specs.Tables.{table, upTo}
 use Rattle.switch.specs.Conduction.{Edge, Link, ground, supply, edgeOn}
-use Rattle.switch.specs.Modules.{ModuleType, mostEdges, mostNodes, mostLabels, settingOf}
-use Rattle.switch.specs.Deciding.{joins, oneRail}
+use Rattle.switch.specs.Modules.{ModuleType, mostEdges, mostNodes, mostLabels}
+use Rattle.switch.specs.Deciding.{joins}
 use Rattle.switch.specs.Records.{edgeOf, noEdge, byPlanes}
 use Rattle.switch.specs.declared.Edge.{Edge as EdgeRecord}
 use Rattle.switch.specs.Promises.{railWords}
@@ -148,8 +147,3 @@ outputWords t ones zeros =
       supply = getD (railWords t ones zeros supply) (t .output) 0;
       ground = getD (railWords t ones zeros ground) (t .output) 0;
     }
-
--- under each of the 64 settings of a block that are below `settings`, the output is joined to exactly one rail
-pub record BlockVerdict (t : ModuleType) (block settings : ℕ) (holds : Bool) : Type 0 where
-  pub each : holds ≡ true → (v : ℕ) → v < 64 → 64 * block + v < settings → T (oneRail t (settingOf (64 * block + v)))
-  pub some : holds ≡ false → (v : ℕ) × (v < 64) × (64 * block + v < settings) × (T (oneRail t (settingOf (64 * block + v))) → ⊥)

@@ -12,11 +12,12 @@ use switch::MOST_NODES;
 use switch::ModuleType;
 use words::first_ones;
 ghost use mathlib.Core.Path.{_≡_};
-ghost use Prim.Native.Nat.{_<_, _≤_, _*_};
+ghost use Prim.Native.Nat.{_<_, _*_, _^_};
 ghost use Rattle.switch.specs.Records.{TypeGiven, EdgesGiven, typeOf, typeWith};
 ghost use Rattle.switch.specs.Deciding.{isComplementary};
+ghost use Rattle.switch.specs.Blocks.{blockHolds, byBlocks};
 ghost use Rattle.switch.specs.Modules.{mostLabels};
-ghost use Rattle.join_nodes.specs.Model.{outputWords, BlockVerdict};
+ghost use Rattle.join_nodes.specs.Model.{outputWords};
 ghost use lib.ListN.{length};
 
 // The words of a type's output for each rail, under 64 settings of its labels.
@@ -51,11 +52,11 @@ fn output_words(t: ModuleType, ones: &[u64; MOST_LABELS], zeros: &[u64; MOST_LAB
     }
 }
 
-// Whether the output is joined to exactly one rail under each setting of a block that is below `settings`.
+// Whether the output is joined to exactly one rail under each setting of a block; the type has `settings` of them.
 fn block_holds(t: ModuleType, block: usize, settings: usize) -> bool
     requires { ⌜ TypeGiven t ⌝ }
-    requires { ⌜ (64 * block < settings) × (settings ≤ 4096) ⌝ }
-    ensures { λ r. ⌜ BlockVerdict (typeOf t) block settings r ⌝ }
+    requires { ⌜ (64 * block < settings) × (settings ≡ 2 ^ (t .labels)) ⌝ }
+    ensures { λ r. ⌜ r ≡ blockHolds (typeOf t) block ⌝ }
 {
     let ones = setting_ones(block);
     let zeros = setting_zeros(block);
@@ -65,10 +66,10 @@ fn block_holds(t: ModuleType, block: usize, settings: usize) -> bool
     one & counted == counted
 }
 
-// Whether a type is complementary: the work, on a type by value.
+// Whether a type is complementary, block by block: the work, on a type by value.
 fn complementary_of(t: ModuleType) -> bool
     requires { ⌜ TypeGiven t ⌝ }
-    ensures { λ r. ⌜ r ≡ isComplementary (typeOf t) ⌝ }
+    ensures { λ r. ⌜ r ≡ byBlocks (typeOf t) ⌝ }
 {
     let settings = 1usize << (t.labels as usize);
     let mut block: usize = 0;

@@ -1,12 +1,14 @@
 -- The laws of conduction, from paths to values in planes.
 --   Paths, Channels, Deciding, MoreOn, Transistors,
 --   Apart, Marks, Refinement, KnownOutputs            the statements of specs/Statements on paths
+--   Blocks                                            blocks of settings tell what all of them do
 --   Ranges                                            what a record tells that a file can give
 --   Outputs                                           the statements on planes
 --   Examples                                          a type that is accepted, and a record that the code takes
 pub mod Paths
 pub mod Channels
 pub mod Deciding
+pub mod Blocks
 pub mod MoreOn
 pub mod Transistors
 pub mod Apart

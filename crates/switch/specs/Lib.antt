@@ -1,6 +1,7 @@
 -- What holds inside one module, from meaning to statements; the code that computes it is in the crate `join_nodes`:
 --   Conduction, Modules, Bridges   the words of 01; a reader needs these three
 --   Deciding                       Boolean tests that compute what the three say of paths
+--   Blocks                         a type judged over its settings 64 at a time
 --   Records, Promises              the code's records in those words, and the words that a caller is promised
 --   Statements                     the theorems that all later crates rest on
 --   Examples                       the NAND: a type that is accepted, and a record that the code takes
@@ -8,6 +9,7 @@ pub mod Conduction
 pub mod Modules
 pub mod Bridges
 pub mod Deciding
+pub mod Blocks
 pub mod Records
 pub mod Promises
 pub mod Statements

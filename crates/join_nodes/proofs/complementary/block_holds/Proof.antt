@@ -37,6 +37,7 @@ returns c =
     (ones .setting-ones .result)
     (zeros .setting-zeros .result)
     (told .output-words .result)
+    (start .pre .1 .1)
     (ones .setting-ones .ensures)
     (zeros .setting-zeros .ensures)
     (told .output-words .ensures)

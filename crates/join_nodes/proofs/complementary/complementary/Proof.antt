@@ -40,6 +40,8 @@ use Rattle.switch.specs.Deciding.{isComplementary}
 use Rattle.switch.proofs.Edge as T
 use Rattle.switch.proofs.ModuleType as R
 use Rattle.switch.proofs.ModuleType.Laws as R′
+use Rattle.switch.specs.Blocks.{byBlocks}
+use Rattle.switch.proofs.Blocks.{blocks-tell}
 use Rattle.join_nodes.proofs.Walks.{calls-told}
 use Rattle.join_nodes.proofs.Spreading.{spread-type, spread-given, Spreads, calls-spread}
 use Rattle.join_nodes.proofs.edges.spread.Symbol as spread-def
@@ -94,8 +96,8 @@ module _ {M : Type 1} (𝓤 : URA M) (H : Heap 𝓤) (A : Atoms 𝓤) (W : Model
   abbrev Said : ModuleType → Bool → SProp 𝓤
   Said t r = ensured 𝓤 H A work.ended (work.clauses 𝓤 H A mem run) tt (t, tt) tt r
 
-  told : (t : ModuleType) (r : Bool) → ent 𝓤 (Said t r) (fact 𝓤 (r ≡ isComplementary (typeOf t)))
-  told t r = exE 𝓤 _ (λ ws. snd∗ 𝓤 (sem 𝓤 H A (lasts work.ended tt (t, tt) ws)) (fact 𝓤 (r ≡ isComplementary (typeOf t))))
+  told : (t : ModuleType) (r : Bool) → ent 𝓤 (Said t r) (fact 𝓤 (r ≡ byBlocks (typeOf t)))
+  told t r = exE 𝓤 _ (λ ws. snd∗ 𝓤 (sem 𝓤 H A (lasts work.ended tt (t, tt) ws)) (fact 𝓤 (r ≡ byBlocks (typeOf t))))
 
   exits : (r : Bool) (u : Val) → r ≡ isComplementary (typeWith hi ou la (s .now)) → ent 𝓤 (⋆ 𝓤 H A (Token ∷ ‵ Owns ∷ ‵ (bool .own r (u ∷ [])) ∷ [])) (Post u)
   exits r u e =
@@ -115,12 +117,12 @@ module _ {M : Type 1} (𝓤 : URA M) (H : Heap 𝓤) (A : Atoms 𝓤) (W : Model
         (and-then ! (load ! (from ! (stop !)) (look ! 10 refl)) (and-then ! (load ! (from ! (stop !)) (look ! 8 refl)) (and-then ! (load ! (from ! (stop !)) (look ! 6 refl)) (and-then ! (load ! (from ! (stop !)) (look ! 4 refl)) (no-more !))))) (λ u t sp is.
         land ! (from ! (stop !)) (init ! 3 refl (LL.lawful R.the-type R′.the-laws 𝓤 H A W .typed t _ is .0)) $
         use1 W (raw (Work 𝓤 H A mem run .pre (to t u))) (asked t u (spread-given sp g)) $
-        calls-told ! fm (Work 𝓤 H A mem run) known-work (to t u) (and-then ! (load ! (from ! (stop !)) (look ! 3 refl)) (no-more !)) bool (‵ ftrue) (Said t) (λ r. r ≡ isComplementary (typeOf t)) (λ w. id⊢ 𝓤 _) (told t) (λ w r e isr.
+        calls-told ! fm (Work 𝓤 H A mem run) known-work (to t u) (and-then ! (load ! (from ! (stop !)) (look ! 3 refl)) (no-more !)) bool (‵ ftrue) (Said t) (λ r. r ≡ byBlocks (typeOf t)) (λ w. id⊢ 𝓤 _) (told t) (λ w r e isr.
         -- [the result; true; the token; what the parameters own; _5; …]
         land ! (from ! (stop !)) (init ! 14 refl (bool-lawful 𝓤 H A W .typed r _ isr .0)) $
         returns ! (look ! 14 refl) $ forget ! 4 refl $ forget ! 6 refl $ forget ! 8 refl $ forget ! 10 refl $ forget ! 12 refl $ forget ! 14 refl $
         move ! (14 ∷ 15 ∷ []) $ free1 ! $ move ! (12 ∷ 13 ∷ []) $ free1 ! $ move ! (10 ∷ 11 ∷ []) $ free1 ! $ move ! (8 ∷ 9 ∷ []) $ free1 ! $ move ! (6 ∷ 7 ∷ []) $ free1 ! $ move ! (4 ∷ 5 ∷ []) $ free1 ! $ free0 ! $
-        keep ! (2 ∷ 3 ∷ 0 ∷ []) $ by ! (exits r w (e ∙ ap isComplementary (spread-type sp)))))))))))
+        keep ! (2 ∷ 3 ∷ 0 ∷ []) $ by ! (exits r w (e ∙ blocks-tell .same-verdict (typeOf t) ∙ ap isComplementary (spread-type sp)))))))))))
 
 module _ {M : Type 1} (𝓤 : URA M) (H : Heap 𝓤) (A : Atoms 𝓤) (W : Model 𝓤 H A) (mem : Memory → SProp 𝓤) (run : Routine → Fun 𝓤) where
   walks : (𝓣 : Tables 𝓤 H) → Triple 𝓤 (𝓣 .C #spread) (Spreads 𝓤 H A mem run) → Triple 𝓤 (𝓣 .C #complementary-of) (Work 𝓤 H A mem run) → Walks 𝓤 H A f.ended stayed (WpFn 𝓤 H (𝓣 .C) (𝓣 .Λ) code.function) (f.clauses 𝓤 H A mem run)

@@ -29,6 +29,8 @@ use Rattle.demands.proofs.CircuitCallsProof.{circuits-meet-two, circuit
 use Rattle.demands.proofs.UniqueProof.{unique}
 use Rattle.demands.proofs.MetProof.{met-by-every-file}
 use Rattle.demands.proofs.KnownProof.{all-known}
+use Rattle.switch.proofs.Blocks.{blocks-tell}
+use Rattle.demands.proofs.ModuleCheckProof.{nine-as-before, wrong-checks-are-wrong}
 use Rattle.demands.proofs.WrongProof.{refuses-every-is-wrong, skips-nine-is-wrong, skips-fourteen-is-wrong, marks-all-is-wrong, marks-never-is-wrong, leaves-matrix-is-wrong}
 use Rattle.demands.proofs.WrongProof.{first-word-only-is-wrong, invents-found-is-wrong, sweeps-once-is-wrong, one-plane-is-wrong, marks-floating-is-wrong, counts-rows-is-wrong}
 use Rattle.demands.proofs.WrongProof.{spills-is-wrong, wraps-is-wrong, goes-on-is-wrong, watches-outputs-is-wrong, holds-levels-is-wrong, counts-twice-is-wrong}
@@ -68,6 +70,9 @@ all-proved = record {
   nand-refined = nand-refined;
   demands-leave-one-outcome = demands-leave-one-outcome;
   demands-are-the-promise = demands-are-the-promise;
+  blocks-tell = blocks-tell;
+  nine-as-before = nine-as-before;
+  wrong-checks-are-wrong = wrong-checks-are-wrong;
   grade-is-kept = grade-is-kept;
   entry-is-kept = entry-is-kept;
   grade-circuit-is-kept = grade-circuit-is-kept;

@@ -5,6 +5,7 @@
 --   demand 3      Refining, RefinedMarks, NoConverseProof
 --   of two files  WholeFields, AlikeFilesProof, FileSplits, OtherVectors, Fillings, AlikeFilesExamples
 --   one outcome   CellsAgree, ClassesAgree, Determines
+--   number 9      ModuleCheckProof
 --   contracts     ContractsProof, CircuitCallsProof, KindsOnce, StepsOnce, CanBeMet, UniqueProof, MetProof
 --   all of them   AllProofs
 --   by computing  KnownProof, WrongProof, BreaksProof; MeetsProof, what the demands do not break
@@ -38,6 +39,7 @@ pub mod NoConverseProof
 pub mod WrongProof
 pub mod BreaksProof
 pub mod MeetsProof
+pub mod ModuleCheckProof
 pub mod CellsAgree
 pub mod ClassesAgree
 pub mod Determines

@@ -4,6 +4,7 @@
 --   AlikeFiles, SplitFiles  demand 3 and the column clause of two files, byte by byte; why files are split as they are there
 --   NoConverse              demand 3 has no converse
 --   Determined              the demands leave one outcome only, which is the promise's
+--   ModuleCheck             number 9 by another check of types: by blocks of settings, and by wrong ones
 --   Contracts               contracts as terms; those of `grade` and of the entry for C
 --   CircuitCalls            grading a circuit in place of its file
 --   Unique                  contracts of public functions that leave one outcome only
@@ -24,6 +25,7 @@ pub mod Determined
 pub mod Graders
 pub mod Wrong
 pub mod Breaks
+pub mod ModuleCheck
 pub mod Contracts
 pub mod CircuitCalls
 pub mod Unique

@@ -1,5 +1,6 @@
 -- All that is stated of the grader, in one record: a field for each statement that docs/TRUST.md cites. `all-proved` (proofs/AllProofs) has
 -- this type, so a statement whose proof is gone, or proves something else, is refused; .ci/parts/8-trust holds docs/TRUST.md to the fields.
+use Rattle.switch.specs.Blocks.{BlocksTell}
 use Rattle.circuit.specs.Laws.{GatheredIsBefore, BeforeIsCircuit}
 use Rattle.print_lines.specs.Pieces.{OnePiece, PiecesJoin, PieceMoves}
 use Rattle.print_report.specs.Promise.{ReportIsLines, LinesFit, RowsAreHeld}
@@ -15,6 +16,7 @@ use Rattle.demands.specs.AlikeFiles.{ThreeHoldsOfFiles, MarksHoldInEvery
 use Rattle.demands.specs.AlikeFiles.{NandRefined}
 use Rattle.demands.specs.SplitFiles.{AcceptedIsSplit, SplitOnce, OtherVectorsAreAccepted, FillingsAreAccepted, NotAnyHead}
 use Rattle.demands.specs.Determined.{DemandsLeaveOneOutcome, DemandsAreThePromise}
+use Rattle.demands.specs.ModuleCheck.{NineAsBefore, WrongChecksAreWrong}
 use Rattle.demands.specs.Contracts.{GradeIsKept, EntryIsKept}
 use Rattle.demands.specs.CircuitCalls.{CircuitIsGradedAsFile, CircuitAnswersAsFile, GradeCircuitIsKept}
 use Rattle.demands.specs.CircuitCalls.{CircuitsMeetTwo, CircuitColumnIsOfItsVector, CircuitsMeetThree}
@@ -66,6 +68,10 @@ pub record AllProved : Type 2 where
   -- the demands and the promise
   pub demands-leave-one-outcome : DemandsLeaveOneOutcome
   pub demands-are-the-promise : DemandsAreThePromise
+  -- types judged by blocks of settings
+  pub blocks-tell : BlocksTell
+  pub nine-as-before : NineAsBefore
+  pub wrong-checks-are-wrong : WrongChecksAreWrong
   -- the code
   pub grade-is-kept : GradeIsKept
   pub entry-is-kept : EntryIsKept

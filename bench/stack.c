@@ -1,10 +1,14 @@
-/* The stack that the library's functions use: a call runs on a painted stack of its own, and what is no longer painted was used. The status is 1 where that is more than the header says. */
+/* The stack that the library's functions use, and that the check of a type takes by itself: a call runs on a painted stack of its own, and what is no longer painted was used.
+   The status is 1 where a call takes more than the header says, or the check more than it may. */
 #include "inputs.h"
 #include "togyamiru.h"
 #include <stdio.h>
 #include <string.h>
 
-enum { STACK = 8 << 20, PAINT = 0x5C };
+enum { STACK = 8 << 20, PAINT = 0x5C, MOST_OF_A_CHECK = 4096 };
+
+/* crates/bench_check: the check of the type that six numbers tell; these tell one of 32 nodes, 12 labels and the most edges */
+uint64_t bench_check(uint8_t h, uint8_t o, uint8_t k, uint8_t node, uint8_t label, uint8_t count);
 
 static _Alignas(16) uint8_t stack[STACK];
 static uint64_t matrix[TOGYAMIRU_WORDS_A_FAULT * TOGYAMIRU_MOST_FAULTS];
@@ -16,6 +20,11 @@ static struct input input;
 static void grade(void)
 {
     togyamiru_grade(input.file, input.length, matrix, sizeof matrix / sizeof *matrix, classes, TOGYAMIRU_MOST_FAULTS, answer);
+}
+
+static void check(void)
+{
+    answer[0] = bench_check(7, 0, 11, 2, 1, 64);
 }
 
 static void list_rows(void)
@@ -73,5 +82,7 @@ int main(void)
         input = make_input(i);
         within &= measure();
     }
-    return !within;
+    size_t checked = depth_of(check);
+    printf("and by the check of a type by itself\n%-14s %8zu   12 labels and the most edges\n", "check", checked);
+    return !(within && checked < MOST_OF_A_CHECK);
 }

@@ -230,6 +230,7 @@ unique = record {
     asks-nothing = λ κs a. tt;
     one-outcome = λ κs a asked one other p q. let same = entry-once p q in both refl (λ i. (tt, (same .1 i .matrix, (same .1 i .classes, (same .0 i, tt)))));
   };
+  bench-check = record { asks-nothing = λ κs a. tt; one-outcome = λ κs a asked one other p q. both (p ∙ sym q) refl };
   togyamiru-rows = record {
     asks-nothing = λ κs a. tt;
     one-outcome = λ κs a asked one other p q. let same = rows-once _ _ _ _ _ _ p q in both refl (λ i. (tt, (same .1 i, (same .0 i, tt))));

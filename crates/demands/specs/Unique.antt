@@ -76,6 +76,7 @@ use Rattle.program_io.proofs.input.unread as program-io-unread
 use Rattle.program_io.proofs.output.nothing as program-io-nothing
 use Rattle.togyamiru.proofs.togyamiru_grade as togyamiru-grade
 use Rattle.togyamiru.proofs.togyamiru_rows as togyamiru-rows
+use Rattle.bench_check.proofs.bench_check as bench-check
 
 abbrev pub OneOutcome : (F : Ended) → AskedBy F → ToldBy F → Type 0
 OneOutcome F Asked Told =
@@ -187,3 +188,4 @@ pub record Unique : Type 2 where
   pub program-io-nothing : Sole program-io-nothing.ended program-io-nothing.Reads.Asked program-io-nothing.Reads.Learnt
   pub togyamiru-grade : Sole togyamiru-grade.ended togyamiru-grade.Reads.Asked togyamiru-grade.Reads.Learnt
   pub togyamiru-rows : Sole togyamiru-rows.ended togyamiru-rows.Reads.Asked togyamiru-rows.Reads.Learnt
+  pub bench-check : Sole bench-check.ended bench-check.Reads.Asked bench-check.Reads.Learnt

@@ -1,0 +1,2 @@
+-- The types that the bench judges.
+pub mod Judged

@@ -1,5 +1,6 @@
-//! Files made by hand at every limit and one past it, around every range end, and
-//! with faults that meet in one field, so that two programs can be compared there.
+//! Files made by hand at every limit and one past it, around every range end, with
+//! types that fail under some settings only, and with faults that meet in one field,
+//! so that two programs can be compared there.
 //! The numbers stand as in the paper and are not taken from the reader.
 
 use std::fmt::Display;
@@ -17,6 +18,7 @@ mod inputs;
 mod lengths;
 mod orders;
 mod references;
+mod settings;
 mod tags;
 mod type_numbers;
 mod types;
@@ -37,6 +39,7 @@ pub fn limit_files() -> Vec<NamedFile> {
         inputs::files(),
         types::files(),
         edges::files(),
+        settings::files(),
         bridges::files(),
         type_numbers::files(),
         choices::files(),

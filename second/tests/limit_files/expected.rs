@@ -112,6 +112,32 @@ const TYPES_AND_EDGES: &[Expected] = &[
     ("edge-labels-0-0-0-12-of-k12", Some((7, 23))),
 ];
 
+const SETTINGS: &[Expected] = &[
+    ("setting-0-of-k1-neither", Some((9, 5))),
+    ("setting-0-of-k1-supply", None),
+    ("setting-1-of-k1-neither", Some((9, 5))),
+    ("setting-1-of-k2-both", Some((9, 5))),
+    ("setting-31-of-k5-neither", Some((9, 5))),
+    ("setting-0-of-k6-neither", Some((9, 5))),
+    ("setting-62-of-k6-both", Some((9, 5))),
+    ("setting-63-of-k6-neither", Some((9, 5))),
+    ("setting-63-of-k6-ground", None),
+    ("setting-63-of-k7-both", Some((9, 5))),
+    ("setting-64-of-k7-both", Some((9, 5))),
+    ("setting-64-of-k7-supply", None),
+    ("setting-2047-of-k12-both", Some((9, 5))),
+    ("setting-2047-of-k12-ground", None),
+    ("setting-4095-of-k12-neither", Some((9, 5))),
+    ("setting-4095-of-k12-ground", None),
+    ("settings-0-to-63-of-k7-neither", Some((9, 5))),
+    ("settings-0-to-63-of-k12-neither", Some((9, 5))),
+    ("settings-1984-to-2047-of-k12-both", Some((9, 5))),
+    ("settings-4032-to-4095-of-k12-neither", Some((9, 5))),
+    ("settings-4032-to-4095-of-k12-ground", None),
+    ("settings-1-of-each-64-of-k12-both", Some((9, 5))),
+    ("settings-63-of-each-64-of-k12-ground", None),
+];
+
 const BRIDGES_AND_CHOICES: &[Expected] = &[
     ("bridge-list-0", Some((7, 23))),
     ("bridge-list-1", None),
@@ -206,6 +232,11 @@ fn lengths() {
 #[test]
 fn types_and_edges() {
     check(TYPES_AND_EDGES);
+}
+
+#[test]
+fn settings() {
+    check(SETTINGS);
 }
 
 #[test]

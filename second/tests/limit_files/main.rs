@@ -4,6 +4,7 @@
 mod expected;
 mod families;
 mod meetings;
+mod settings;
 #[path = "../support/mod.rs"]
 mod support;
 
@@ -34,6 +35,6 @@ fn every_number_is_reached() {
         tally[usize::from(number)] += 1;
     }
     // As the README says.
-    assert_eq!((files.len(), tally[0]), (3_616, 600));
+    assert_eq!((files.len(), tally[0]), (3_780, 682));
     assert!(tally.iter().all(|&count| count >= 17), "{tally:?}");
 }

@@ -1,4 +1,5 @@
 -- The three demands on the grader. Calls says what they speak of; One, Two and Three state them; their proofs are in proofs/.
+--   OneWire                 what a wire is, and that rows of one class are equal; the counts are of the shorts listed
 --   Files                   small circuit files, put together field by field
 --   Claims, KnownResults    the table of known results, and what its lines claim
 --   AlikeFiles, SplitFiles  demand 3 and the column clause of two files, byte by byte; why files are split as they are there
@@ -14,6 +15,7 @@
 pub mod Calls
 pub mod One
 pub mod Two
+pub mod OneWire
 pub mod Three
 pub mod Files
 pub mod Claims

@@ -10,9 +10,10 @@ use Rattle.words.specs.Bits.{sumTo}
 use Rattle.switch.specs.Conduction.{Value, atX, Link, Joined, ground, supply}
 use Rattle.switch.specs.Modules.{linksOf, OutputIs}
 use Rattle.switch.specs.Bridges.{Bridge, nodes, input, MarkedByEnds}
-use Rattle.circuit.specs.Circuit.{Circuit, Listed, Instance, Reference, list, typeOfInstance}
+use Rattle.circuit.specs.Circuit.{Circuit, Listed, Instance, list, numbered, typeOfInstance}
 use Rattle.grading.specs.Values.{labelValues, outputsOf}
-use Rattle.grading.specs.Rows.{Row, noRow, rowsOf, rowValues, CellMarked}
+use Rattle.grading.specs.Rows.{Row, rowWith, noInstance, noRow, rowsOf, rowValues, CellMarked}
+use Rattle.grading.specs.Wires.{first-end, second-end, wireOf}
 use Rattle.grading.specs.Promise.{countsOf}
 use Rattle.demands.specs.Calls.{Call, Accepts, GradedAs, cellAt, classAt}
 
@@ -114,16 +115,11 @@ ColumnIsOfItsVector =
 
 -- ---- classes
 
--- 01: two rows are in one class when they are of the same instance and kind, with the same nodes in either order for kind 0, or the same
--- node and labels with equal references for kind 1
-unfoldable pub EqualBridges : Instance → Bridge → Bridge → Type 0
-EqualBridges i (nodes a b) (nodes c d) = ((a ≡ c) × (b ≡ d)) ⊎ ((a ≡ d) × (b ≡ c))
-EqualBridges i (nodes a b) (input m l) = ⊥
-EqualBridges i (input m l) (nodes a b) = ⊥
-EqualBridges i (input m l) (input n k) = (m ≡ n) × ((none : Reference) → getD (i .references) l none ≡ getD (i .references) k none)
-
+-- 02, "One wire, one short": two rows are in one class exactly when their bridges join the same two wires, either way round
 unfoldable pub OneClass : Row → Row → Type 0
-OneClass r s = (r .number ≡ s .number) × EqualBridges (r .instance) (r .bridge) (s .bridge)
+OneClass r s =
+    ((wireOf r first-end ≡ wireOf s first-end) × (wireOf r second-end ≡ wireOf s second-end))
+    ⊎ ((wireOf r first-end ≡ wireOf s second-end) × (wireOf r second-end ≡ wireOf s first-end))
 
 -- some row of class n has a mark under some vector
 pub record Found (call : Call) (c : Circuit) (n : ℕ) : Type 0 where
@@ -131,7 +127,7 @@ pub record Found (call : Call) (c : Circuit) (n : ℕ) : Type 0 where
   pub of-class : classAt (call .after .classes) (cell .row) ≡ n
   pub mark : markIn call cell ≡ 1
 
--- two rows have one class number exactly when 01 calls them one class. The numbers are 1 to the count of classes; each is a row's, and
+-- two rows have one class number exactly when they are one class. The numbers are 1 to the count of classes; each is a row's, and
 -- comes first after those below it. The found count is the sum of f, which is 1 for each class that is found and 0 for each other: each
 -- class counts once
 pub record ClassesTell (call : Call) (c : Circuit) : Type 0 where
@@ -153,8 +149,8 @@ ClassesCountOnce = (call : Call) (c : Circuit) → GradedAs call c → ClassesTe
 
 -- ---- a bridge named once more
 
--- the second circuit has one bridge field more, anywhere among the others: a list that has the bridge `named` has `again` too
-pub record OneBridgeMore (c d : Circuit) (named again : Bridge) : Type 0 where
+-- the second circuit has one bridge field more, anywhere among the others
+pub record OneBridgeMore (c d : Circuit) (again : Bridge) : Type 0 where
   pub inputs : c .inputs ≡ d .inputs
   pub types : c .types ≡ d .types
   pub instances : c .instances ≡ d .instances
@@ -163,15 +159,18 @@ pub record OneBridgeMore (c d : Circuit) (named again : Bridge) : Type 0 where
   pub before : List Listed
   pub after : List Listed
   pub bridges : c .bridges ≡ before ++ after
-  pub is-named : List·Memᴰ (record { list = number; bridge = named }) (before ++ after)
   pub named-again : d .bridges ≡ before ++ (record { list = number; bridge = again } ∷ after)
 
--- and for each instance that chose the list both are equal, for instance the same node with labels of equal reference
+-- the instance with a number, from 1
+abbrev pub instanceOf : Circuit → ℕ → Instance
+instanceOf c n = numbered (c .instances) n noInstance
+
+-- and in each instance that chose its list the new bridge joins the two wires of a row that was there, of that instance or of any other
 pub record NamedAgain (c d : Circuit) : Type 0 where
-  pub named : Bridge
   pub again : Bridge
-  pub more : OneBridgeMore c d named again
-  pub equal : (i : Instance) → List·Memᴰ i (c .instances) → i .choice ≡ list (more .number) → EqualBridges i named again
+  pub more : OneBridgeMore c d again
+  pub named : (n : ℕ) → 1 ≤ n → n ≤ length (c .instances) → instanceOf c n .choice ≡ list (more .number)
+      → (r : ℕ) × (r < length (rowsOf c)) × OneClass (rowWith (c .types) n (instanceOf c n) again) (rowAt c r)
 
 pub record CountsAgree (one other : Call) : Type 0 where
   pub classes : countsOf (one .answer) .classes ≡ countsOf (other .answer) .classes
@@ -180,11 +179,12 @@ pub record CountsAgree (one other : Call) : Type 0 where
 abbrev pub NamingAgainAddsNothing : Type 0
 NamingAgainAddsNothing = (one other : Call) (c d : Circuit) → GradedAs one c → GradedAs other d → NamedAgain c d → CountsAgree one other
 
--- so a bridge between two nodes, named once more from its other end
+-- so a bridge between two nodes of a list, named once more there from its other end
 pub record NamedFromTheOtherEnd (c d : Circuit) : Type 0 where
   pub first : ℕ
   pub second : ℕ
-  pub more : OneBridgeMore c d (nodes first second) (nodes second first)
+  pub more : OneBridgeMore c d (nodes second first)
+  pub is-named : List·Memᴰ (record { list = more .number; bridge = nodes first second }) (c .bridges)
 
 abbrev pub OtherEndAddsNothing : Type 0
 OtherEndAddsNothing =

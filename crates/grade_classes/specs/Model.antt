@@ -1,6 +1,6 @@
 -- What the code computes: keys, class numbers by key, and the count of the found ones.
 use Prim.Native.Nat.{ℕ, zero, suc, _+_, _-_, _*_, _%_, min, max}
-use mathlib.Core.Bool.{Bool, cond, _&&_, Bool·beq}
+use mathlib.Core.Bool.{cond}
 use mathlib.Core.List.{List}
 use lib.Bits.{bitOr}
 use lib.Dec.{eqb, ltb}
@@ -10,35 +10,41 @@ use Rattle.words.specs.Tables.{table}
 use Rattle.words.specs.Written.{written}
 use Rattle.circuit.specs.Records.{unusedReference}
 use Rattle.circuit.specs.declared.Reference.{Reference as ReferenceRecord}
+use Rattle.grading.specs.Wires.{Wire, groundWire, supplyWire, inputWire, outputWire, innerWire, nodeWire}
 use Rattle.grading.specs.Classes.{largest, classesBy}
 use Rattle.grading.specs.Codes.{instanceIn, kindIn, firstIn, secondIn}
 use Rattle.grade_classes.specs.declared.Classed.{Classed}
 
--- ---- class keys
+-- ---- wires as numbers, and class keys
 
-unfoldable pub sameRecord : ReferenceRecord → ReferenceRecord → Bool
-sameRecord r s = eqb (r .number) (s .number) && Bool·beq (r .earlier) (s .earlier)
+-- each wire of a circuit has its own: ground and supply 0 and 1, the inputs from 2, the outputs from 66, the inner nodes from 290, 32 for an
+-- instance
+unfoldable pub wireNumber : Wire → ℕ
+wireNumber groundWire = 0
+wireNumber supplyWire = 1
+wireNumber (inputWire n) = 1 + n
+wireNumber (outputWire n) = 65 + n
+wireNumber (innerWire n m) = 256 + (32 * n + m)
 
--- the first of the labels from m on, down to l, whose reference is that of l
-unfoldable pub firstLabelFrom : List ReferenceRecord → ℕ → ℕ → ℕ → ℕ
-firstLabelFrom references l zero m = l
-firstLabelFrom references l (suc left) m =
-    let later = firstLabelFrom references l left (suc m) in
-    cond (sameRecord (getD references m unusedReference) (getD references l unusedReference)) m later
+-- the number of the wire that a reference tells
+unfoldable pub referenceNumber : ReferenceRecord → ℕ
+referenceNumber r = r .number + cond (r .earlier) 65 1
 
--- for each label the first label with an equal reference
-unfoldable pub firstLabels : List ReferenceRecord → List ℕ
-firstLabels references = table 12 (λ (l : ℕ). firstLabelFrom references l l 0)
+unfoldable pub labelNumbers : List ReferenceRecord → List ℕ
+labelNumbers references = table 12 (λ (l : ℕ). referenceNumber (getD references l unusedReference))
 
--- the instance; of kind 0 both nodes, the lower one first; of kind 1 the node, and the first label with its reference
-unfoldable pub keyOf : List ℕ → ℕ → ℕ
-keyOf firsts code =
-    2048 * instanceIn code
-    + cond (eqb (kindIn code) 0) (32 * min (firstIn code) (secondIn code) + max (firstIn code) (secondIn code))
-    (1024 + 16 * firstIn code + getD firsts (secondIn code) 0)
+-- two numbers, the lower first
+unfoldable pub pairKey : ℕ → ℕ → ℕ
+pairKey a b = 8192 * min a b + max a b
 
-unfoldable pub keysOf : List ℕ → List ℕ → ℕ → ℕ → List ℕ
-keysOf codes firsts from to = table (to - from) (λ (i : ℕ). keyOf firsts (getD codes (from + i) 0))
+-- of a row, by its type's output and the numbers of its instance's labels
+unfoldable pub keyOf : ℕ → List ℕ → ℕ → ℕ
+keyOf output labels code =
+    let node = λ (m : ℕ). wireNumber (nodeWire (instanceIn code) output m) in
+    pairKey (node (firstIn code)) (cond (eqb (kindIn code) 0) (node (secondIn code)) (getD labels (secondIn code) 0))
+
+unfoldable pub keysOf : List ℕ → ℕ → List ℕ → ℕ → ℕ → List ℕ
+keysOf codes output labels from to = table (to - from) (λ (i : ℕ). keyOf output labels (getD codes (from + i) 0))
 
 -- where the search for a key begins
 abbrev pub bucketOf : ℕ → ℕ

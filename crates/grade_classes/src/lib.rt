@@ -1,4 +1,5 @@
-// Classes: a key for each row, which two rows share exactly when they are one class; one search for the class of each row; and the found classes.
+// Classes: a key for each row, the numbers of the two wires that its bridge joins, which two rows share exactly when they are one class; one search for
+// the class of each row; and the found classes.
 use circuit::Instance;
 use circuit::limits::MOST_FAULTS;
 use grading::codes::first_in;
@@ -6,69 +7,70 @@ use grading::codes::instance_in;
 use grading::codes::kind_in;
 use grading::codes::second_in;
 ghost use mathlib.Core.Path.{_≡_};
-ghost use Prim.Native.Nat.{_*_, _≤_};
+ghost use Prim.Native.Nat.{_*_, _<_, _≤_};
 ghost use lib.Dec.{eqb};
 ghost use lib.ListN.{length, take};
 ghost use Rattle.words.specs.Written.{written};
 ghost use Rattle.grading.specs.Classes.{largest, classesBy};
 ghost use Rattle.grading.specs.Codes.{CodeFits, CodesFit};
-ghost use Rattle.grade_classes.specs.Model.{firstLabels, keyOf, keysOf, bucketOf, foundFrom, RowsClassed};
+ghost use Rattle.grading.specs.Wires.{nodeWire};
+ghost use Rattle.grade_classes.specs.Model.{wireNumber, labelNumbers, keyOf, keysOf, bucketOf, foundFrom, RowsClassed};
 
-// For each label the first label with an equal reference.
-fn first_labels(one: Instance) -> [u8; 12]
-    ensures { λ r. ⌜ r ≡ firstLabels (one .references) ⌝ }
+// The number of a node's wire, of an instance with this number and this output node.
+fn node_wire(instance: u32, output: u32, node: u32) -> u32
+    requires { ⌜ (instance < 256) × (node < 256) ⌝ }
+    ensures { λ r. ⌜ r ≡ wireNumber (nodeWire instance output node) ⌝ }
+{
+    if node < 2 {
+        return node;
+    }
+    if node == output {
+        return 65 + instance;
+    }
+    256 + (32 * instance + node)
+}
+
+// The numbers of the labels' wires, those of their references.
+fn label_wires(one: Instance) -> [u16; 12]
+    ensures { λ r. ⌜ r ≡ labelNumbers (one .references) ⌝ }
 {
     let references = one.references;
-    let mut firsts = [0u8; 12];
+    let mut wires = [0u16; 12];
     let mut l: usize = 0;
     while l < 12 {
         let r = references[l];
-        let mut m: usize = 0;
-        let first = loop {
-            if m == l {
-                break l;
-            }
-            let s = references[m];
-            if s.earlier == r.earlier && s.number == r.number {
-                break m;
-            }
-            m += 1;
-        };
-        firsts[l] = first as u8;
+        wires[l] = (r.number as u16) + (if r.earlier { 65u16 } else { 1u16 });
         l += 1;
     }
-    firsts
+    wires
 }
 
-// The instance, and of kind 0 both nodes, the lower one first; of kind 1 the node, and the first label with its reference.
-fn key_of(code: u32, firsts: [u8; 12]) -> u32
+// The wires that a row's bridge joins, the lower number first. A label's wire stands in `labels`.
+fn key_of(code: u32, output: u32, labels: [u16; 12]) -> u32
     requires { ⌜ CodeFits code ⌝ }
-    ensures { λ r. ⌜ r ≡ keyOf firsts code ⌝ }
+    ensures { λ r. ⌜ r ≡ keyOf output labels code ⌝ }
 {
-    let own = 2048 * instance_in(code);
-    let a = first_in(code);
-    let b = second_in(code);
-    let kind = kind_in(code);
-    if kind == 0 {
-        if a < b {
-            return own + (32 * a + b);
-        }
-        return own + (32 * b + a);
+    let n = instance_in(code);
+    let a = node_wire(n, output, first_in(code));
+    let second = second_in(code);
+    let b = if kind_in(code) == 0 { node_wire(n, output, second) } else { labels[second as usize] as u32 };
+    if a < b {
+        return 8192 * a + b;
     }
-    own + (1024 + 16 * a + (firsts[b as usize] as u32))
+    8192 * b + a
 }
 
 // Writes the key of each row of an instance over its code, which is not read again.
-pub fn write_keys(codes: &mut [u32; MOST_FAULTS], from: usize, to: usize, one: Instance)
+pub fn write_keys(codes: &mut [u32; MOST_FAULTS], from: usize, to: usize, one: Instance, output: u8)
     requires { ⌜ (from ≤ to) × (to ≤ 2048) ⌝ }
     requires { ⌜ length (now codes) ≡ 2048 ⌝ }
     requires { ⌜ CodesFit (now codes) from to ⌝ }
-    ensures { λ _. ⌜ now (codes .exit) ≡ written (now (codes .entry)) from (keysOf (now (codes .entry)) (firstLabels (one .references)) from to) ⌝ }
+    ensures { λ _. ⌜ now (codes .exit) ≡ written (now (codes .entry)) from (keysOf (now (codes .entry)) output (labelNumbers (one .references)) from to) ⌝ }
 {
-    let firsts = first_labels(one);
+    let labels = label_wires(one);
     let mut r = from;
     while r < to {
-        codes[r] = key_of(codes[r], firsts);
+        codes[r] = key_of(codes[r], output as u32, labels);
         r += 1;
     }
 }

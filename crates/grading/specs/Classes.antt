@@ -1,35 +1,47 @@
--- 01, "Faults, marks and classes": two rows are in one class when they are of the same instance and kind, with the same nodes in either
--- order for kind 0, or the same node and labels with equal references for kind 1. Classes are numbered from 1 at their first row; the
--- search for a row's class stops at the first earlier row that matches. A class is found when a row of it has a mark.
+-- 02, "One wire, one short": two rows are in one class exactly when their bridges join the same two wires, either way round, whichever
+-- instances list them. 01, "Faults, marks and classes": classes are numbered from 1 at their first row; the search for a row's class stops at
+-- the first earlier row that matches. A class is found when a row of it has a mark.
 use Prim.Native.Nat.{ℕ, suc, max}
 use mathlib.Core.Bool.{Bool, false, cond, _&&_, _||_}
 use mathlib.Core.List.{List, [], _∷_, _++_}
 use lib.Dec.{eqb, ltb}
-use lib.ListN.{length, getD}
+use lib.ListN.{length}
 use Rattle.words.specs.Bits.{ofBool, sumTo}
-use Rattle.switch.specs.Bridges.{Bridge, nodes, input}
-use Rattle.circuit.specs.Circuit.{Circuit, Reference, primary, outputOf, Instance}
+use Rattle.circuit.specs.Circuit.{Circuit}
 use Rattle.grading.specs.Rows.{Row, rowsOf, markOf}
+use Rattle.grading.specs.Wires.{Wire, groundWire, supplyWire, inputWire, outputWire, innerWire, first-end, second-end, wireOf}
 
-unfoldable pub sameReference : Reference → Reference → Bool
-sameReference (primary n) (primary m) = eqb n m
-sameReference (primary n) (outputOf j) = false
-sameReference (outputOf i) (primary m) = false
-sameReference (outputOf i) (outputOf j) = eqb i j
+-- are two wires one: of one kind, with the same numbers
+unfoldable pub wireKind : Wire → ℕ
+wireKind groundWire = 0
+wireKind supplyWire = 1
+wireKind (inputWire n) = 2
+wireKind (outputWire n) = 3
+wireKind (innerWire n m) = 4
 
--- labels of one instance with equal references
-unfoldable pub sameLabel : Instance → ℕ → ℕ → Bool
-sameLabel i l m = sameReference (getD (i .references) l (primary 0)) (getD (i .references) m (primary 0))
+unfoldable pub wirePlace : Wire → ℕ
+wirePlace groundWire = 0
+wirePlace supplyWire = 0
+wirePlace (inputWire n) = n
+wirePlace (outputWire n) = n
+wirePlace (innerWire n m) = n
 
--- bridges of one instance that are one class
-unfoldable pub sameBridge : Instance → Bridge → Bridge → Bool
-sameBridge i (nodes a b) (nodes c d) = eqb a c && eqb b d || eqb a d && eqb b c
-sameBridge i (nodes a b) (input m l) = false
-sameBridge i (input m l) (nodes a b) = false
-sameBridge i (input m l) (input n k) = eqb m n && sameLabel i l k
+unfoldable pub wireNode : Wire → ℕ
+wireNode groundWire = 0
+wireNode supplyWire = 0
+wireNode (inputWire n) = 0
+wireNode (outputWire n) = 0
+wireNode (innerWire n m) = m
+
+unfoldable pub sameWire : Wire → Wire → Bool
+sameWire v w = eqb (wireKind v) (wireKind w) && eqb (wirePlace v) (wirePlace w) && eqb (wireNode v) (wireNode w)
+
+-- do two wires join what two others join, either way round
+unfoldable pub samePair : Wire → Wire → Wire → Wire → Bool
+samePair a b c d = sameWire a c && sameWire b d || sameWire a d && sameWire b c
 
 unfoldable pub sameClass : Row → Row → Bool
-sameClass r s = eqb (r .number) (s .number) && sameBridge (r .instance) (r .bridge) (s .bridge)
+sameClass r s = samePair (wireOf r first-end) (wireOf r second-end) (wireOf s first-end) (wireOf s second-end)
 
 -- ---- class numbers of any things, here called rows, by a test for one class
 
@@ -69,7 +81,7 @@ classFoundBy vectors marks n (r ∷ rs) (m ∷ ms) = eqb m n && hasMarkBy vector
 unfoldable pub foundBy : {A : Type 0} → ℕ → (A → ℕ → ℕ) → List A → List ℕ → ℕ → ℕ
 foundBy vectors marks rows classes count = sumTo count (λ (n : ℕ). ofBool (classFoundBy vectors marks (suc n) rows classes))
 
--- ---- 01's: by `sameClass`, and by the marks under the circuit's vectors
+-- ---- a circuit's: by `sameClass`, and by the marks under its vectors
 
 abbrev pub classesOf : List Row → List ℕ
 classesOf = classesBy sameClass

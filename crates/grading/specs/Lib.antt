@@ -1,6 +1,7 @@
--- What grading means: the words of 01, "Faults, marks and classes".
+-- What grading means: the words of 01, "Faults, marks and classes", and of 02, "One wire, one short".
 --   Values    label values by reference, outputs in file order
 --   Rows      the faults of all instances, and when a row is marked under a vector
+--   Wires     the wires that a bridge joins, what a wire carries, and when two leak
 --   Classes   which rows are one class, class numbers, found classes
 --   Buffers   what a caller lends, and the room in it
 --   Grading   the answer for given bytes and given room, and what it leaves in the buffers
@@ -9,6 +10,7 @@
 -- And what the crates that grade share: a row as a number, and what they ask of a circuit.
 pub mod Values
 pub mod Rows
+pub mod Wires
 pub mod Classes
 pub mod Buffers
 pub mod Grading

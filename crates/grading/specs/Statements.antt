@@ -11,8 +11,10 @@ use Rattle.switch.specs.Conduction.{Value}
 use Rattle.circuit.specs.Circuit.{Circuit}
 use Rattle.circuit.specs.Reading.{accepted, readingOf}
 use Rattle.circuit.specs.Records.{circuitRecord}
+use Rattle.circuit.specs.Laws.{CircuitGood}
 use Rattle.grading.specs.Buffers.{Buffers}
 use Rattle.grading.specs.Rows.{Row, rowsOf, cell}
+use Rattle.grading.specs.Wires.{wireOf, first-end, second-end, carried, leaks}
 use Rattle.grading.specs.Classes.{sameClass, largest, classesBy, classesOf}
 use Rattle.grading.specs.Promise.{Promise}
 use Rattle.grading.specs.CircuitPromise.{PromiseOfCircuit}
@@ -43,24 +45,27 @@ NumberingTells =
     (A : Type 0) (P : A → Type 0) (same : A → A → Bool) → Equivalence P same
     → (rows : List A) → ((row : A) → List·Memᴰ row rows → P row) → NumbersTell same rows (classesBy same rows)
 
--- ---- 01's
+-- ---- a circuit's
 
 -- a row of a circuit
 abbrev pub RowOf : Circuit → Row → Type 0
 RowOf c row = List·Memᴰ row (rowsOf c)
 
--- rows of a circuit with equal numbers are of one instance
-abbrev pub OneInstance : Type 0
-OneInstance = (c : Circuit) (r s : Row) → RowOf c r → RowOf c s → r .number ≡ s .number → r .instance ≡ s .instance
+-- on any rows, to be of one class is an equivalence
+abbrev pub SameClassIsEquivalence : Type 1
+SameClassIsEquivalence = (P : Row → Type 0) → Equivalence P sameClass
 
--- on the rows of a circuit, to be of one class is an equivalence
-abbrev pub SameClassIsEquivalence : Type 0
-SameClassIsEquivalence = (c : Circuit) → Equivalence (RowOf c) sameClass
+-- a cell is a function of what the two wires carry, and the same function from either end
+pub record CellsAreOfWires : Type 0 where
+  pub cell-is : (c : Circuit) → CircuitGood c → (row : Row) → RowOf c row → (vector : List Value)
+      → cell c vector row ≡ leaks (carried c vector (wireOf row first-end)) (carried c vector (wireOf row second-end))
+  pub either-way : (a b : Value) → leaks a b ≡ leaks b a
 
--- rows of one class have equal cells under every vector
+-- so rows of one class have equal cells under every vector
 abbrev pub ClassesHaveEqualMarks : Type 0
 ClassesHaveEqualMarks =
-    (c : Circuit) (r s : Row) → RowOf c r → RowOf c s → T (sameClass r s) → (vector : List Value) → cell c vector r ≡ cell c vector s
+    (c : Circuit) → CircuitGood c → (r s : Row) → RowOf c r → RowOf c s → T (sameClass r s)
+    → (vector : List Value) → cell c vector r ≡ cell c vector s
 
 -- the class of the row at a place, from 0
 abbrev pub classNumber : Circuit → ℕ → ℕ

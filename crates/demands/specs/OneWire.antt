@@ -1,0 +1,125 @@
+-- 02, "One wire, one short", on files: what a wire is, said once more by what a circuit ties together; that a wire carries one level, and a mark
+-- is a symmetric function of what its two wires carry; so rows of one class are equal; and that the counts are of the shorts, however they are
+-- listed. The proofs are in proofs/OneWireProof and proofs/NamedAgain.
+use Prim.Native.Nat.{ℕ, _≤_, _<_}
+use mathlib.Core.Path.{_≡_}
+use mathlib.Core.Logic.{_⊎_, _↔_}
+use mathlib.Core.List.{List}
+use lib.ListN.{length, getD}
+use Rattle.switch.specs.Conduction.{Value, at0, at1, atX, Joined, ground, supply}
+use Rattle.switch.specs.Modules.{ModuleType, linksOf}
+use Rattle.switch.specs.Bridges.{Bridge, nodes, input}
+use Rattle.circuit.specs.Circuit.{Circuit, Reference, primary, outputOf, typeOfInstance}
+use Rattle.grading.specs.Rows.{Row, rowsOf, rowValues}
+use Rattle.grading.specs.Wires.{Wire, End, first-end, second-end, wireOf, carried}
+use Rattle.grading.specs.Promise.{countsOf}
+use Rattle.demands.specs.Calls.{Call, Accepts, GradedAs, cellAt, classAt}
+use Rattle.demands.specs.Two.{rowAt, MatrixCell, rowOfCell, vectorOfCell, markIn, instanceOf, OneClass, CountsAgree}
+
+-- ---- wires, by ties
+
+-- a point of a circuit: a node, or a label, of the instance with a number
+pub data Point : Type 0 where
+  node : ℕ → ℕ → Point
+  label : ℕ → ℕ → Point
+
+-- what a label refers to. Where there is no such label, nothing: no primary input is numbered 0
+abbrev pub referenceOf : Circuit → ℕ → ℕ → Reference
+referenceOf c n l = getD (instanceOf c n .references) l (primary 0)
+
+abbrev pub outputNode : Circuit → ℕ → ℕ
+outputNode c n = typeOfInstance (c .types) (instanceOf c n) .output
+
+-- points are tied when they are one piece of metal: ground runs to node 0 of every instance, supply to node 1, a primary input to every
+-- label that refers to it, the output of an instance to every label that refers to that instance
+pub data Tied (c : Circuit) : Point → Point → Type 0 where
+  grounds : (n k : ℕ) → Tied c (node n ground) (node k ground)
+  supplies : (n k : ℕ) → Tied c (node n supply) (node k supply)
+  inputs : (n l k m p : ℕ) → referenceOf c n l ≡ primary p → referenceOf c k m ≡ primary p → Tied c (label n l) (label k m)
+  outputs : (n l k : ℕ) → referenceOf c n l ≡ outputOf k → Tied c (node k (outputNode c k)) (label n l)
+  itself : (p : Point) → Tied c p p
+  turned : (p q : Point) → Tied c p q → Tied c q p
+  through : (p q r : Point) → Tied c p q → Tied c q r → Tied c p r
+
+-- the point at an end of a row's bridge
+unfoldable pub pointAt : ℕ → Bridge → End → Point
+pointAt n (nodes a b) first-end = node n a
+pointAt n (nodes a b) second-end = node n b
+pointAt n (input m l) first-end = node n m
+pointAt n (input m l) second-end = label n l
+
+abbrev pub pointOf : Row → End → Point
+pointOf row end = pointAt (row .number) (row .bridge) end
+
+-- two ends are one wire exactly when the circuit ties them
+abbrev pub WiresAreTies : Type 0
+WiresAreTies =
+    (file : List ℕ) (c : Circuit) → Accepts file c → (r s : ℕ) → r < length (rowsOf c) → s < length (rowsOf c) → (d e : End)
+    → (wireOf (rowAt c r) d ≡ wireOf (rowAt c s) e) ↔ Tied c (pointOf (rowAt c r) d) (pointOf (rowAt c s) e)
+
+-- ---- levels
+
+-- what a node of a module is joined to
+pub data LevelIs (t : ModuleType) (values : ℕ → Value) (m : ℕ) : Value → Type 0 where
+  level-1 : Joined (linksOf t values) m supply → LevelIs t values m at1
+  level-0 : Joined (linksOf t values) m ground → LevelIs t values m at0
+  level-X : (Joined (linksOf t values) m supply → ⊥) → (Joined (linksOf t values) m ground → ⊥) → LevelIs t values m atX
+
+-- an end of a row's bridge is at this level under a vector: a node by paths in the row's own instance, a label by its value there
+unfoldable pub EndIs : Circuit → List Value → Row → Bridge → End → Value → Type 0
+EndIs c vector row (nodes a b) first-end level = LevelIs (row .type) (rowValues c vector row) a level
+EndIs c vector row (nodes a b) second-end level = LevelIs (row .type) (rowValues c vector row) b level
+EndIs c vector row (input m l) first-end level = LevelIs (row .type) (rowValues c vector row) m level
+EndIs c vector row (input m l) second-end level = rowValues c vector row l ≡ level
+
+-- the level of a wire is that of each end on it, whichever instance the end is of
+abbrev pub OneWireOneLevel : Type 0
+OneWireOneLevel =
+    (file : List ℕ) (c : Circuit) → Accepts file c → (r : ℕ) → r < length (rowsOf c) → (vector : List Value) (end : End) (level : Value)
+    → EndIs c vector (rowAt c r) (rowAt c r .bridge) end level ↔ (carried c vector (wireOf (rowAt c r) end) ≡ level)
+
+-- a cell is marked exactly when one of its two wires carries 1 and the other 0
+abbrev pub MarksAreOfWires : Type 0
+MarksAreOfWires =
+    (call : Call) (c : Circuit) → GradedAs call c → (cell : MatrixCell c)
+    → let level = λ (end : End). carried c (vectorOfCell cell) (wireOf (rowOfCell cell) end) in
+    (markIn call cell ≡ 1) ↔ (((level first-end ≡ at1) × (level second-end ≡ at0)) ⊎ ((level first-end ≡ at0) × (level second-end ≡ at1)))
+
+-- ---- rows of one class
+
+-- rows with one class number are equal, bit for bit
+abbrev pub RowsOfOneClassAreEqual : Type 0
+RowsOfOneClassAreEqual =
+    (call : Call) (c : Circuit) → GradedAs call c → (r s : ℕ) → r < length (rowsOf c) → s < length (rowsOf c)
+    → classAt (call .after .classes) r ≡ classAt (call .after .classes) s
+    → (v : ℕ) → v < 256 → cellAt (call .after .matrix) r v ≡ cellAt (call .after .matrix) s v
+
+-- ---- the shorts listed
+
+-- alike but for the fault lists: the instances have the same types and references, whatever they chose
+pub record AlikeButLists (c d : Circuit) : Type 0 where
+  pub inputs : c .inputs ≡ d .inputs
+  pub types : c .types ≡ d .types
+  pub vectors : c .vectors ≡ d .vectors
+  pub as-many : length (c .instances) ≡ length (d .instances)
+  pub modules : (n : ℕ) → instanceOf c n .type ≡ instanceOf d n .type
+  pub references : (n : ℕ) → instanceOf c n .references ≡ instanceOf d n .references
+
+-- each short that the first lists the second lists too, perhaps in another instance, from its other end, or as a bridge of the other kind
+abbrev pub ShortsAmong : Circuit → Circuit → Type 0
+ShortsAmong c d = (r : ℕ) → r < length (rowsOf c) → (s : ℕ) × (s < length (rowsOf d)) × OneClass (rowAt c r) (rowAt d s)
+
+-- then it counts no fewer classes, and finds no fewer
+pub record CountsGrow (one other : Call) : Type 0 where
+  pub classes : countsOf (one .answer) .classes ≤ countsOf (other .answer) .classes
+  pub found : countsOf (one .answer) .found ≤ countsOf (other .answer) .found
+
+abbrev pub MoreShortsCountNoLess : Type 0
+MoreShortsCountNoLess =
+    (one other : Call) (c d : Circuit) → GradedAs one c → GradedAs other d → AlikeButLists c d → ShortsAmong c d → CountsGrow one other
+
+-- so of the same shorts, however they are listed, the counts are the same
+abbrev pub SameShortsCountAlike : Type 0
+SameShortsCountAlike =
+    (one other : Call) (c d : Circuit) → GradedAs one c → GradedAs other d → AlikeButLists c d → ShortsAmong c d → ShortsAmong d c
+    → CountsAgree one other

@@ -280,4 +280,4 @@ numbering-tells A P test laws rows ours =
 -- ---- 01's
 
 pub class-numbers : (c : Circuit) → ClassNumbers c
-class-numbers c = numbering-tells Row (RowOf c) sameClass (same-class-is-equivalence c) (rowsOf c) (λ row m. m)
+class-numbers c = numbering-tells Row (RowOf c) sameClass (same-class-is-equivalence (RowOf c)) (rowsOf c) (λ row m. m)

@@ -13,6 +13,7 @@ use Rattle.words.specs.Bits.{ofBool, sumTo}
 use Rattle.words.proofs.Laws.{ofBool-le-one}
 use Rattle.words.proofs.Counting.{sum-cong, sum-snoc}
 use Rattle.circuit.specs.Circuit.{Circuit}
+use Rattle.circuit.specs.Laws.{CircuitGood}
 use Rattle.grading.specs.Rows.{Row, cell, markOf}
 use Rattle.grading.specs.Classes.{sameClass, largest, hasMarkBy, hasMark, classFoundBy, foundBy}
 use Rattle.grading.specs.Statements.{RowOf}
@@ -123,8 +124,8 @@ module _ {A : Type 0} (vectors : ℕ) (marks : A → ℕ → ℕ) where
 
 -- ---- in a circuit
 
-pub same-mark : (c : Circuit) (r s : Row) → RowOf c r → RowOf c s → T (sameClass r s) → hasMark c r ≡ hasMark c s
+pub same-mark : (c : Circuit) → CircuitGood c → (r s : Row) → RowOf c r → RowOf c s → T (sameClass r s) → hasMark c r ≡ hasMark c s
 unfolding hasMarkBy markOf
-same-mark c r s p q t =
+same-mark c good r s p q t =
     ap (ltb 0)
-    (sum-cong (length (c .vectors)) (markOf c r) (markOf c s) (λ v h. ap ofBool (classes-have-equal-marks c r s p q t (getD (c .vectors) v []))))
+    (sum-cong (length (c .vectors)) (markOf c r) (markOf c s) (λ v h. ap ofBool (classes-have-equal-marks c good r s p q t (getD (c .vectors) v []))))

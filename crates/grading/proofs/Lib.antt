@@ -7,6 +7,10 @@ pub mod RecordReads
 pub mod CodeLaws
 pub mod RowLaws
 pub mod MatrixLaws
+pub mod RowsPlaced
+pub mod SettledOutputs
+pub mod WireLaws
+pub mod WireLevels
 pub mod SameClass
 pub mod ClassLists
 pub mod ClassNumbering

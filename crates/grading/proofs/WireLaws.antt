@@ -1,0 +1,98 @@
+-- Wires: the test for one wire tells equal wires, and the test for one pair tells pairs that are equal either way round. Assumes nothing.
+use Prim.Native.Nat.{ℕ, zero, suc}
+use mathlib.Core.Path.{_≡_, refl, sym, ap, ap₂, _∙_}
+use mathlib.Core.Bool.{Bool, true, false, _&&_, _||_}
+use mathlib.Core.Logic.{_⊎_, inl, inr, ⊎-elim, _↔_}
+use lib.Dec.{T, eqb, eqb→eq, eqb-refl}
+use Rattle.switch.proofs.Paths.{both}
+use Rattle.switch.proofs.Deciding.{and-both}
+use Rattle.grading.specs.Wires.{Wire, groundWire, supplyWire, inputWire, outputWire, innerWire}
+use Rattle.grading.specs.Classes.{wireKind, wirePlace, wireNode, sameWire, samePair}
+
+-- ---- tests joined by or
+
+pub in-first : (x y : Bool) → T x → T (x || y)
+in-first true y t = tt
+in-first false y t = absurd t
+
+pub in-second : (x y : Bool) → T y → T (x || y)
+in-second true y t = tt
+in-second false y t = t
+
+pub or-cases : (x y : Bool) → T (x || y) → T x ⊎ T y
+or-cases true y t = inl tt
+or-cases false y t = inr t
+
+-- ---- one wire
+
+-- the wire of a kind with these numbers
+ofKind : ℕ → ℕ → ℕ → Wire
+ofKind zero n m = groundWire
+ofKind (suc zero) n m = supplyWire
+ofKind (suc (suc zero)) n m = inputWire n
+ofKind (suc (suc (suc zero))) n m = outputWire n
+ofKind (suc (suc (suc (suc k)))) n m = innerWire n m
+
+of-kind : (w : Wire) → ofKind (wireKind w) (wirePlace w) (wireNode w) ≡ w
+unfolding ofKind wireKind wirePlace wireNode
+of-kind groundWire = refl
+of-kind supplyWire = refl
+of-kind (inputWire n) = refl
+of-kind (outputWire n) = refl
+of-kind (innerWire n m) = refl
+
+pub wire-eq : (v w : Wire) → T (sameWire v w) → v ≡ w
+unfolding sameWire
+wire-eq v w t =
+    let outer = both (eqb (wireKind v) (wireKind w) && eqb (wirePlace v) (wirePlace w)) (eqb (wireNode v) (wireNode w)) t in
+    let inner = both (eqb (wireKind v) (wireKind w)) (eqb (wirePlace v) (wirePlace w)) (outer .0) in
+    sym (of-kind v)
+    ∙ rw (
+      eqb→eq (wireKind v) (wireKind w) (inner .0),
+      eqb→eq (wirePlace v) (wirePlace w) (inner .1),
+      eqb→eq (wireNode v) (wireNode w) (outer .1),
+    )
+    (of-kind w)
+
+pub wire-same : (v w : Wire) → v ≡ w → T (sameWire v w)
+unfolding sameWire
+wire-same v w e =
+    rw e
+    (and-both (eqb (wireKind w) (wireKind w) && eqb (wirePlace w) (wirePlace w)) (eqb (wireNode w) (wireNode w))
+    (and-both (eqb (wireKind w) (wireKind w)) (eqb (wirePlace w) (wirePlace w)) (eqb-refl (wireKind w)) (eqb-refl (wirePlace w)))
+    (eqb-refl (wireNode w)))
+
+-- ---- one pair
+
+module _ (a b c d : Wire) where
+  abbrev pub EqualPairs : Type 0
+  EqualPairs = ((a ≡ c) × (b ≡ d)) ⊎ ((a ≡ d) × (b ≡ c))
+
+  pub pair-eq : T (samePair a b c d) → EqualPairs
+  unfolding samePair
+  pair-eq t = ⊎-elim straight crossed (or-cases (sameWire a c && sameWire b d) (sameWire a d && sameWire b c) t)
+    where
+      straight : T (sameWire a c && sameWire b d) → EqualPairs
+      straight s = let parts = both (sameWire a c) (sameWire b d) s in inl (wire-eq a c (parts .0), wire-eq b d (parts .1))
+
+      crossed : T (sameWire a d && sameWire b c) → EqualPairs
+      crossed s = let parts = both (sameWire a d) (sameWire b c) s in inr (wire-eq a d (parts .0), wire-eq b c (parts .1))
+
+  pub pair-same : EqualPairs → T (samePair a b c d)
+  unfolding samePair
+  pair-same (inl e) =
+      in-first (sameWire a c && sameWire b d) (sameWire a d && sameWire b c)
+      (and-both (sameWire a c) (sameWire b d) (wire-same a c (e .0)) (wire-same b d (e .1)))
+  pair-same (inr e) =
+      in-second (sameWire a c && sameWire b d) (sameWire a d && sameWire b c)
+      (and-both (sameWire a d) (sameWire b c) (wire-same a d (e .0)) (wire-same b c (e .1)))
+
+pub pair-turned : (a b c d : Wire) → EqualPairs a b c d → EqualPairs c d a b
+pair-turned a b c d (inl e) = inl (sym (e .0), sym (e .1))
+pair-turned a b c d (inr e) = inr (sym (e .1), sym (e .0))
+
+pub pair-through : (a b c d x y : Wire) → EqualPairs a b c d → EqualPairs c d x y → EqualPairs a b x y
+pair-through a b c d x y (inl e) (inl f) = inl (e .0 ∙ f .0, e .1 ∙ f .1)
+pair-through a b c d x y (inl e) (inr f) = inr (e .0 ∙ f .0, e .1 ∙ f .1)
+pair-through a b c d x y (inr e) (inl f) = inr (e .0 ∙ f .1, e .1 ∙ f .0)
+pair-through a b c d x y (inr e) (inr f) = inl (e .0 ∙ f .1, e .1 ∙ f .0)

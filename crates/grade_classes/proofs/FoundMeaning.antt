@@ -51,7 +51,7 @@ sum-later false unmarked later = omega arith
 abbrev pub ClassesOf : List Row → List ℕ → Type 0
 ClassesOf rows classes = (r : ℕ) → r < length rows → getD classes r 0 ≡ getD (classesOf rows) r 0
 
-module _ (c : Circuit) (few : length (c .vectors) ≤ 256) (rows : List Row) (ours : Every (RowOf c) rows) (none : Row) where
+module _ (c : Circuit) (good : CircuitGood c) (rows : List Row) (ours : Every (RowOf c) rows) (none : Row) where
   module _ (matrix classes : List ℕ) (words : WordsOf c rows matrix) (numbered : ClassesOf rows classes) where
     countIn : ℕ → ℕ
     countIn n = largest (classesOf (take n rows))
@@ -86,14 +86,14 @@ module _ (c : Circuit) (few : length (c .vectors) ≤ 256) (rows : List Row) (ou
 
       marked : ofBool (not (eqb (rowMarked matrix n) 0)) ≡ ofBool (hasMark c row)
       unfolding row
-      marked = rw (row-marked c few rows matrix words n none h) (ap ofBool (not-not (hasMark c row)))
+      marked = rw (row-marked c (good .few-vectors) rows matrix words n none h) (ap ofBool (not-not (hasMark c row)))
 
       found-one : foundIn (suc n) ≡ foundIn n + cond (ltb (countIn n) (getD classes n 0)) (ofBool (not (eqb (rowMarked matrix n) 0))) 0
       unfolding foundIn countIn row number
       found-one =
           ap (λ (l : List Row). foundAmong c l (classesOf (take (suc n) rows)) (countIn (suc n))) (take-suc rows n none h)
           ∙ ap₂ (foundAmong c (take n rows ++ (row ∷ []))) classes-are (count-more ∙ ap (max (countIn n)) class-is)
-          ∙ found-more (length (c .vectors)) (markOf c) (RowOf c) sameClass (same-mark c) (take n rows) (classesOf (take n rows)) (length-classes sameClass (take n rows))
+          ∙ found-more (length (c .vectors)) (markOf c) (RowOf c) sameClass (same-mark c good) (take n rows) (classesOf (take n rows)) (length-classes sameClass (take n rows))
           (first-ours n) row (every-at (RowOf c) rows ours n none h)
           ∙ ap₂ (λ (k x : ℕ). foundIn n + cond (ltb (countIn n) k) x 0) (sym class-is) (sym marked)
 
@@ -122,7 +122,7 @@ found-all c good matrix classes words numbered =
     let found : List Row → ℕ = λ (l : List Row). foundAmong c l (classesOf l) (largest (classesOf l)) in
     ap found (sym (take-length rows))
     ∙ ap (λ (n : ℕ). found (take n rows)) (sym (zero-add (length rows)))
-    ∙ found-on c (good .few-vectors) rows (λ row m. m) noRow matrix classes words numbered (length rows) 0 (omega arith)
+    ∙ found-on c good rows (λ row m. m) noRow matrix classes words numbered (length rows) 0 (omega arith)
     ∙ zero-add (foundFrom matrix classes 0 (length rows) 0)
 
 -- ---- buffers that begin with the rows' words, and with their numbers

@@ -17,18 +17,17 @@ use Rattle.grade_classes.specs.declared.Classed.{Classed}
 
 -- ---- wires as numbers, and class keys
 
--- each wire of a circuit has its own: ground and supply 0 and 1, the inputs from 2, the outputs from 66, the inner nodes from 290, 32 for an
--- instance
+-- each wire of a circuit has its own: rails 0 and 1, inputs from 3, outputs from 68, inner nodes from 290, 32 numbers for each instance
 unfoldable pub wireNumber : Wire → ℕ
 wireNumber groundWire = 0
 wireNumber supplyWire = 1
-wireNumber (inputWire n) = 1 + n
-wireNumber (outputWire n) = 65 + n
+wireNumber (inputWire n) = 2 + n
+wireNumber (outputWire n) = 67 + n
 wireNumber (innerWire n m) = 256 + (32 * n + m)
 
--- the number of the wire that a reference tells
+-- that of the wire that a reference tells
 unfoldable pub referenceNumber : ReferenceRecord → ℕ
-referenceNumber r = r .number + cond (r .earlier) 65 1
+referenceNumber r = cond (r .earlier) (67 + r .number) (2 + r .number)
 
 unfoldable pub labelNumbers : List ReferenceRecord → List ℕ
 labelNumbers references = table 12 (λ (l : ℕ). referenceNumber (getD references l unusedReference))
@@ -37,10 +36,10 @@ labelNumbers references = table 12 (λ (l : ℕ). referenceNumber (getD referenc
 unfoldable pub pairKey : ℕ → ℕ → ℕ
 pairKey a b = 8192 * min a b + max a b
 
--- of a row, by its type's output and the numbers of its instance's labels
+-- a row's key, by its type's output and the wires of its instance's labels
 unfoldable pub keyOf : ℕ → List ℕ → ℕ → ℕ
 keyOf output labels code =
-    let node = λ (m : ℕ). wireNumber (nodeWire (instanceIn code) output m) in
+    let node : ℕ → ℕ = λ m. wireNumber (nodeWire (instanceIn code) output m) in
     pairKey (node (firstIn code)) (cond (eqb (kindIn code) 0) (node (secondIn code)) (getD labels (secondIn code) 0))
 
 unfoldable pub keysOf : List ℕ → ℕ → List ℕ → ℕ → ℕ → List ℕ

@@ -1,6 +1,7 @@
 // Classes: a key for each row, the numbers of the two wires that its bridge joins, which two rows share exactly when they are one class; one search for
 // the class of each row; and the found classes.
 use circuit::Instance;
+use circuit::Reference;
 use circuit::limits::MOST_FAULTS;
 use grading::codes::first_in;
 use grading::codes::instance_in;
@@ -14,9 +15,9 @@ ghost use Rattle.words.specs.Written.{written};
 ghost use Rattle.grading.specs.Classes.{largest, classesBy};
 ghost use Rattle.grading.specs.Codes.{CodeFits, CodesFit};
 ghost use Rattle.grading.specs.Wires.{nodeWire};
-ghost use Rattle.grade_classes.specs.Model.{wireNumber, labelNumbers, keyOf, keysOf, bucketOf, foundFrom, RowsClassed};
+ghost use Rattle.grade_classes.specs.Model.{wireNumber, referenceNumber, labelNumbers, pairKey, keyOf, keysOf, bucketOf, foundFrom, RowsClassed};
 
-// The number of a node's wire, of an instance with this number and this output node.
+// The number of a node's wire, of the instance with this number, whose type has this output node.
 fn node_wire(instance: u32, output: u32, node: u32) -> u32
     requires { ⌜ (instance < 256) × (node < 256) ⌝ }
     ensures { λ r. ⌜ r ≡ wireNumber (nodeWire instance output node) ⌝ }
@@ -25,12 +26,21 @@ fn node_wire(instance: u32, output: u32, node: u32) -> u32
         return node;
     }
     if node == output {
-        return 65 + instance;
+        return 67 + instance;
     }
     256 + (32 * instance + node)
 }
 
-// The numbers of the labels' wires, those of their references.
+// The number of a label's wire, which is that of its reference.
+fn reference_wire(reference: Reference) -> u16
+    ensures { λ r. ⌜ r ≡ referenceNumber reference ⌝ }
+{
+    if reference.earlier {
+        return 67 + (reference.number as u16);
+    }
+    2 + (reference.number as u16)
+}
+
 fn label_wires(one: Instance) -> [u16; 12]
     ensures { λ r. ⌜ r ≡ labelNumbers (one .references) ⌝ }
 {
@@ -38,26 +48,36 @@ fn label_wires(one: Instance) -> [u16; 12]
     let mut wires = [0u16; 12];
     let mut l: usize = 0;
     while l < 12 {
-        let r = references[l];
-        wires[l] = (r.number as u16) + (if r.earlier { 65u16 } else { 1u16 });
+        wires[l] = reference_wire(references[l]);
         l += 1;
     }
     wires
 }
 
-// The wires that a row's bridge joins, the lower number first. A label's wire stands in `labels`.
-fn key_of(code: u32, output: u32, labels: [u16; 12]) -> u32
-    requires { ⌜ CodeFits code ⌝ }
-    ensures { λ r. ⌜ r ≡ keyOf output labels code ⌝ }
+// One number for two wires, whichever comes first.
+fn pair_key(a: u32, b: u32) -> u32
+    requires { ⌜ (a < 65536) × (b < 65536) ⌝ }
+    ensures { λ r. ⌜ r ≡ pairKey a b ⌝ }
 {
-    let n = instance_in(code);
-    let a = node_wire(n, output, first_in(code));
-    let second = second_in(code);
-    let b = if kind_in(code) == 0 { node_wire(n, output, second) } else { labels[second as usize] as u32 };
     if a < b {
         return 8192 * a + b;
     }
     8192 * b + a
+}
+
+// The key of a row: the two wires that its bridge joins. `labels` has the wires of its instance's labels.
+fn key_of(code: u32, output: u32, labels: [u16; 12]) -> u32
+    requires { ⌜ CodeFits code ⌝ }
+    ensures { λ r. ⌜ r ≡ keyOf output labels code ⌝ }
+{
+    let instance = instance_in(code);
+    let first = node_wire(instance, output, first_in(code));
+    let second = second_in(code);
+    let kind = kind_in(code);
+    if kind == 0 {
+        return pair_key(first, node_wire(instance, output, second));
+    }
+    pair_key(first, labels[second as usize] as u32)
 }
 
 // Writes the key of each row of an instance over its code, which is not read again.

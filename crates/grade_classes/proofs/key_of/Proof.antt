@@ -1,22 +1,25 @@
 -- `grade_classes::key_of` meets its contract. Assumes nothing.
-use Prim.Native.Nat.{_<_}
+use Prim.Native.Nat.{ℕ}
+use mathlib.Core.Path.{ap, ap₂, _∙_}
 use native.Mathlib.Omega.{arith}
-use mir.Syntax.{w8}
+use mir.Syntax.{w16}
 use mir.Val.{Fits}
 use lib.ListN.{getD}
 use borrow.Author.Needs.{needs}
-use Rattle.grade_classes.proofs.ClassLaws.{key-rising, key-falling, key-labelled, label-there}
+use Rattle.grade_classes.specs.Model.{pairKey}
+use Rattle.grade_classes.proofs.WireNumbers.{node-few}
+use Rattle.grade_classes.proofs.ClassLaws.{key-nodes, key-labelled, label-there}
 use Rattle.grade_classes.proofs.key_of.Statement.{statement}
 use Rattle.grade_classes.proofs.key_of.Tie as tie
 
 instance-in-requires : tie.Need-instance-in-requires
 instance-in-requires c κs = search needs
 
-mul-own : tie.Need-mul-own
-mul-own c = search needs
-
 first-in-requires : tie.Need-first-in-requires
 first-in-requires c κs = search needs
+
+node-wire-requires : tie.Need-node-wire-requires
+node-wire-requires c κs = search needs
 
 second-in-requires : tie.Need-second-in-requires
 second-in-requires c κs = search needs
@@ -24,102 +27,89 @@ second-in-requires c κs = search needs
 kind-in-requires : tie.Need-kind-in-requires
 kind-in-requires c κs = search needs
 
-mul-result : tie.Need-mul-result
-mul-result c = search needs
+node-wire-requires-2 : tie.Need-node-wire-requires-2
+node-wire-requires-2 c κs = search needs
 
-add-result : tie.Need-add-result
-add-result c = search needs
-
-add-result-2 : tie.Need-add-result-2
-add-result-2 c = search needs
+pair-key-requires : tie.Need-pair-key-requires
+pair-key-requires c κs =
+    let wired = c .before .before .before .before in
+    let firsts = wired .before in
+    let instances = firsts .before in
+    let seconds = c .before .before .before in
+    (
+      rw (wired .node-wire .ensures) (node-few _ _ _ (omega (arith, instances .instance-in .ensures)) (omega (arith, firsts .first-in .ensures))),
+      rw (c .node-wire2 .ensures) (node-few _ _ _ (omega (arith, instances .instance-in .ensures)) (omega (arith, seconds .second-in .ensures))),
+    )
 
 returns : tie.Need-returns
 returns c =
-    let kinds = c .before .before in
+    let nodes = c .before .before in
+    let kinds = nodes .before in
     let seconds = kinds .before in
-    let firsts = seconds .before in
-    key-rising _ _ _ _ _ _ (firsts .before .instance-in .ensures) (firsts .first-in .ensures) (seconds .second-in .ensures) (kinds .kind-in .ensures)
-    (c .before .if1 .taken) (c .if2 .taken)
+    let wired = seconds .before in
+    let firsts = wired .before in
+    c .pair-key .ensures
+    ∙ ap₂ pairKey (wired .node-wire .ensures) (c .before .node-wire2 .ensures)
+    ∙ key-nodes _ _ _ _ _ _ _ (firsts .before .instance-in .ensures) (firsts .first-in .ensures) (seconds .second-in .ensures) (kinds .kind-in .ensures)
+    (nodes .if1 .taken)
 
-mul-result-2 : tie.Need-mul-result-2
-mul-result-2 c = search needs
+cast-pair-key : tie.Need-cast-pair-key
+cast-pair-key c = search needs
 
-add-result-3 : tie.Need-add-result-3
-add-result-3 c = search needs
+mul-pair-key : tie.Need-mul-pair-key
+mul-pair-key c = search needs
 
-add-result-4 : tie.Need-add-result-4
-add-result-4 c = search needs
+array-read-pair-key : tie.Need-array-read-pair-key
+array-read-pair-key c =
+    let kinds = c .before in
+    let seconds = kinds .before in
+    let wired = seconds .before in
+    let firsts = wired .before in
+    let start = firsts .before .before in
+    label-there (start .args .output) (start .args .t3) _ _ _ _ _ (firsts .before .instance-in .ensures) (firsts .first-in .ensures)
+    (seconds .second-in .ensures) (kinds .kind-in .ensures) (start .pre) (c .if1 .left)
+
+cast-pair-key-2 : tie.Need-cast-pair-key-2
+cast-pair-key-2 c = search needs
+
+pair-key-requires-2 : tie.Need-pair-key-requires-2
+pair-key-requires-2 c κs =
+    let wired = c .before .before .before in
+    let firsts = wired .before in
+    let few : Fits w16 (getD (firsts .before .before .args .t3) (c .before .before .second-in .result) 0) = search needs in
+    (
+      rw (wired .node-wire .ensures) (node-few _ _ _ (omega (arith, firsts .before .instance-in .ensures)) (omega (arith, firsts .first-in .ensures))),
+      omega arith,
+    )
 
 returns-2 : tie.Need-returns-2
 returns-2 c =
-    let kinds = c .before .before in
+    let labelled = c .before in
+    let kinds = labelled .before in
     let seconds = kinds .before in
-    let firsts = seconds .before in
-    key-falling _ _ _ _ _ _ (firsts .before .instance-in .ensures) (firsts .first-in .ensures) (seconds .second-in .ensures) (kinds .kind-in .ensures)
-    (c .before .if1 .taken) (c .if2 .left)
-
-mul-result-3 : tie.Need-mul-result-3
-mul-result-3 c = search needs
-
-add-result-5 : tie.Need-add-result-5
-add-result-5 c = search needs
-
-cast-result : tie.Need-cast-result
-cast-result c = search needs
-
-array-read-result : tie.Need-array-read-result
-array-read-result c =
-    let kinds = c .before in
-    let seconds = kinds .before in
-    let firsts = seconds .before in
-    let start = firsts .before .before in
-    label-there (start .args .t2) _ _ _ _ _ (firsts .before .instance-in .ensures) (firsts .first-in .ensures) (seconds .second-in .ensures)
-    (kinds .kind-in .ensures) (start .pre) (c .if1 .left)
-
-cast-result-2 : tie.Need-cast-result-2
-cast-result-2 c = search needs
-
--- a first label is a byte
-first-few : (c : tie.Else1) → getD (c .before .before .before .before .before .args .t2) (c .before .before .second-in .result) 0 < 256
-first-few c =
-    let fits : Fits w8 (getD (c .before .before .before .before .before .args .t2) (c .before .before .second-in .result) 0) = search needs in omega arith
-
-add-result-6 : tie.Need-add-result-6
-add-result-6 c = omega (arith, first-few c, c .before .before .before .first-in .ensures)
-
-add-result-7 : tie.Need-add-result-7
-add-result-7 c = omega (arith, first-few c, c .before .before .before .first-in .ensures, c .before .before .before .before .instance-in .ensures)
-
-returns-3 : tie.Need-returns-3
-returns-3 c =
-    let kinds = c .before in
-    let seconds = kinds .before in
-    let firsts = seconds .before in
-    key-labelled _ _ _ _ _ _ (firsts .before .instance-in .ensures) (firsts .first-in .ensures) (seconds .second-in .ensures) (kinds .kind-in .ensures)
-    (c .if1 .left)
+    let wired = seconds .before in
+    let firsts = wired .before in
+    let labels = firsts .before .before .args .t3 in
+    c .pair-key2 .ensures
+    ∙ ap (λ (n : ℕ). pairKey n (getD labels (seconds .second-in .result) 0)) (wired .node-wire .ensures)
+    ∙ key-labelled _ _ _ _ _ _ _ (firsts .before .instance-in .ensures) (firsts .first-in .ensures) (seconds .second-in .ensures) (kinds .kind-in .ensures)
+    (labelled .if1 .left)
 
 pub key-of-spec : {M : Type 1} → statement M
 key-of-spec =
     tie.close
     (tie.spec
     instance-in-requires
-    mul-own
     first-in-requires
+    node-wire-requires
     second-in-requires
     kind-in-requires
-    mul-result
-    add-result
-    add-result-2
+    node-wire-requires-2
+    pair-key-requires
     returns
-    mul-result-2
-    add-result-3
-    add-result-4
-    returns-2
-    mul-result-3
-    add-result-5
-    cast-result
-    array-read-result
-    cast-result-2
-    add-result-6
-    add-result-7
-    returns-3)
+    cast-pair-key
+    mul-pair-key
+    array-read-pair-key
+    cast-pair-key-2
+    pair-key-requires-2
+    returns-2)

@@ -13,16 +13,16 @@ use Rattle.grade_classes.proofs.write_keys.Statement.{statement}
 use Rattle.grade_classes.proofs.write_keys.Tie as tie
 
 abbrev Inv-loop : tie.InvT-loop
-Inv-loop codes₀ from to firsts r₀ codes r = (from ≤ r) × (r ≤ to) × (codes ≡ written codes₀ from (keysOf codes₀ firsts from r))
+Inv-loop codes₀ from to output labels r₀ codes r = (from ≤ r) × (r ≤ to) × (codes ≡ written codes₀ from (keysOf codes₀ output labels from r))
 
 abbrev μ-loop : tie.MeasureT-loop
-μ-loop codes₀ from to firsts r₀ codes r = to - r
+μ-loop codes₀ from to output labels r₀ codes r = to - r
 
-first-labels-requires : tie.Need-first-labels-requires Inv-loop μ-loop
-first-labels-requires c κs = search needs
+label-wires-requires : tie.Need-label-wires-requires Inv-loop μ-loop
+label-wires-requires c κs = search needs
 
 loop-holds : tie.Need-loop-holds Inv-loop μ-loop
-loop-holds c = (omega arith, omega arith, sym (keyed-none _ _ _))
+loop-holds c = (omega arith, omega arith, sym (keyed-none _ _ _ _))
 
 mul-key-of : tie.Need-mul-key-of Inv-loop μ-loop
 mul-key-of c = search needs
@@ -35,7 +35,7 @@ unfolding CodesFit
 key-of-requires c κs =
     let h = c .before .before in
     let start = h .before .before in
-    rw (code-kept (now (start .args .codes)) _ (start .args .from) (h .loop .r) (omega arith) (omega arith) (h .loop .inv .2))
+    rw (code-kept (now (start .args .codes)) _ _ (start .args .from) (h .loop .r) (omega arith) (omega arith) (h .loop .inv .2))
     (start .pre .1 .1 (h .loop .r) (omega arith) (omega arith))
 
 mul-codes : tie.Need-mul-codes Inv-loop μ-loop
@@ -56,14 +56,14 @@ loop-again c =
     let x = h .before .before .args in (
       omega arith,
       omega arith,
-      rw (c .key-of .ensures) (keyed-more (now (x .codes)) _ (x .from) (h .loop .r) (omega arith) (omega arith) (h .loop .inv .2)),
+      rw (c .key-of .ensures) (keyed-more (now (x .codes)) _ _ (x .from) (h .loop .r) (omega arith) (omega arith) (h .loop .inv .2)),
     )
 
 returns : tie.Need-returns Inv-loop μ-loop
 returns c =
     let h = c .before in
     let last : h .loop .r ≡ h .before .before .args .to = omega arith in
-    rw (← last, ← h .before .first-labels .ensures) (h .loop .inv .2)
+    rw (← last, ← h .before .label-wires .ensures) (h .loop .inv .2)
 
 pub write-keys-spec : {M : Type 1} → statement M
 write-keys-spec =
@@ -71,7 +71,7 @@ write-keys-spec =
     (tie.spec
     Inv-loop
     μ-loop
-    first-labels-requires
+    label-wires-requires
     loop-holds
     mul-key-of
     element-copy-out-key-of

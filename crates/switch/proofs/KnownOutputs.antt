@@ -8,7 +8,7 @@ use mathlib.Core.List.{List}
 use lib.Dec.{T}
 use Rattle.switch.specs.Conduction.{Value, at0, at1, atX, Link, Joined, ground, supply}
 use Rattle.switch.specs.Modules.{linksOf, settingOf, ExactlyOne, only-first, only-second, Complementary}
-use Rattle.switch.specs.Deciding.{joins, outputValue}
+use Rattle.switch.specs.Deciding.{joins, levelIn, outputValue}
 use Rattle.switch.specs.Statements.{KnownOutput}
 use Rattle.switch.proofs.Paths.{linksOf-cong}
 use Rattle.switch.proofs.Deciding.{joins-decides}
@@ -32,7 +32,7 @@ kept v w (inl e) known = absurd (known e)
 kept v w (inr e) known = sym e
 
 pub known-output : KnownOutput
-unfolding outputValue Complementary
+unfolding levelIn Complementary
 known-output t acc values known =
     let s : ℕ = filling (t .labels) values in
     let same : linksOf t values ≡ linksOf t (settingOf s) =

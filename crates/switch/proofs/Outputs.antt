@@ -11,7 +11,7 @@ use Rattle.words.proofs.Laws.{ofBool-le-one, pack-cong, bit-word}
 use Rattle.words.proofs.Tables.{getD-table}
 use Rattle.switch.specs.Conduction.{Value, at0, at1, atX, Channel, p-channel, n-channel, transistorOn, Switching, links, supply, ground}
 use Rattle.switch.specs.Modules.{ModuleType, linksOf}
-use Rattle.switch.specs.Deciding.{joins, outputValue}
+use Rattle.switch.specs.Deciding.{joins, levelIn, outputValue}
 use Rattle.switch.specs.Records.{valueOf, isSet, byPlanes}
 use Rattle.switch.specs.Promises.{railWords, isAt1, isAt0, PlanesHold, planes}
 use Rattle.switch.specs.Statements.{PlanesAreValues, PlanesSwitch, OutputPlanes}
@@ -114,7 +114,7 @@ bit-of-values t ones zeros rail m v values h l hold =
     ∙ ap (λ (on : Switching). ofBool (joins (links on (t .edges)) m rail)) (planes-switch ones zeros v values hold)
 
 pub output-planes : OutputPlanes
-unfolding outputValue
+unfolding levelIn
 output-planes t ones zeros values h hold =
     let s : ℕ = getD (railWords t ones zeros supply) (t .output) 0 in
     let g : ℕ = getD (railWords t ones zeros ground) (t .output) 0 in

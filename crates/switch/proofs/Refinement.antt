@@ -1,6 +1,6 @@
 -- (b) Refined values keep every on edge, every joining, every known output and every mark, since they turn no transistor off (proofs/MoreOn) and the
 -- rails are apart.
--- And `outputValue` is the one value that 01 gives the output. Assumes nothing.
+-- And a node has one level, so the output has one value. Assumes nothing.
 use Prim.Native.Nat.{ℕ}
 use mathlib.Core.Path.{_≡_, refl}
 use mathlib.Core.Bool.{Bool, true, false, cond}
@@ -8,10 +8,11 @@ use mathlib.Core.Logic.{_⊎_, inl, inr, _↔_}
 use mathlib.Core.List.{List, List·Memᴰ·not-nil}
 use lib.Dec.{T}
 use Rattle.switch.specs.Conduction.{Value, at0, at1, atX, byValues, Link, Among, Joined, ground, supply}
-use Rattle.switch.specs.Modules.{ModuleType, linksOf, OutputIs, output-0, output-1, output-X}
+use Rattle.switch.specs.Modules.{ModuleType, linksOf, LevelIs, level-0, level-1, level-X}
 use Rattle.switch.specs.Bridges.{Bridge, nodes, input, toLabel, closing, Marked}
-use Rattle.switch.specs.Deciding.{joins, outputValue}
-use Rattle.switch.specs.Statements.{Accepted, Refines, MoreJoined, RefinementKeeps, OutputIsOne}
+use Rattle.switch.specs.Deciding.{joins, levelIn, outputValue}
+use Rattle.switch.specs.Statements.{Accepted, Refines, MoreJoined, RefinementKeeps, LevelIsOne}
+use Rattle.switch.proofs.Paths.{turned, through}
 use Rattle.switch.proofs.MoreOn.{more-on-more-joined}
 use Rattle.switch.proofs.Deciding.{joins-decides}
 use Rattle.switch.proofs.Apart.{refined-within, refined-joined, rails-apart}
@@ -30,7 +31,7 @@ known-stays false true false true f h n = inr refl
 
 output-stays : (t : ModuleType) → Accepted t → (values finer : ℕ → Value) → Refines values finer
     → (outputValue t values ≡ atX) ⊎ (outputValue t finer ≡ outputValue t values)
-unfolding outputValue
+unfolding levelIn
 output-stays t acc values finer refines =
     let ws : List Link = linksOf t values in
     let ws′ : List Link = linksOf t finer in
@@ -44,53 +45,51 @@ output-stays t acc values finer refines =
     (λ b. (joins-decides ws′ o ground) .0 (refined-joined values finer refines t o ground ((joins-decides ws o ground) .1 b)))
     (λ b c. rails-apart .output t acc finer ((joins-decides ws′ o supply) .1 b) ((joins-decides ws′ o ground) .1 c))
 
-module _ (t : ModuleType) (values : ℕ → Value) where
+module _ (ws : List Link) (m : ℕ) where
   abbrev Supplied : Type 0
-  Supplied = Joined (linksOf t values) (t .output) supply
+  Supplied = Joined ws m supply
 
   abbrev Grounded : Type 0
-  Grounded = Joined (linksOf t values) (t .output) ground
+  Grounded = Joined ws m ground
 
-  given-by : (s g : Bool) → Supplied ↔ T s → Grounded ↔ T g → OutputIs t values (cond s at1 (cond g at0 atX))
-  given-by true g es eg = output-1 (es .1 tt)
-  given-by false true es eg = output-0 (eg .1 tt)
-  given-by false false es eg = output-X (es .0) (eg .0)
+  given-by : (s g : Bool) → Supplied ↔ T s → Grounded ↔ T g → LevelIs ws m (cond s at1 (cond g at0 atX))
+  given-by true g es eg = level-1 (es .1 tt)
+  given-by false true es eg = level-0 (eg .1 tt)
+  given-by false false es eg = level-X (es .0) (eg .0)
 
   only-by : (s g : Bool) → Supplied ↔ T s → Grounded ↔ T g → (Supplied → Grounded → ⊥)
-      → (value : Value) → OutputIs t values value → value ≡ cond s at1 (cond g at0 atX)
-  only-by true g es eg apart value (output-1 p) = refl
-  only-by true g es eg apart value (output-0 p) = absurd (apart (es .1 tt) p)
-  only-by true g es eg apart value (output-X p q) = absurd (p (es .1 tt))
-  only-by false true es eg apart value (output-1 p) = absurd (es .0 p)
-  only-by false true es eg apart value (output-0 p) = refl
-  only-by false true es eg apart value (output-X p q) = absurd (q (eg .1 tt))
-  only-by false false es eg apart value (output-1 p) = absurd (es .0 p)
-  only-by false false es eg apart value (output-0 p) = absurd (eg .0 p)
-  only-by false false es eg apart value (output-X p q) = refl
+      → (value : Value) → LevelIs ws m value → value ≡ cond s at1 (cond g at0 atX)
+  only-by true g es eg apart value (level-1 p) = refl
+  only-by true g es eg apart value (level-0 p) = absurd (apart (es .1 tt) p)
+  only-by true g es eg apart value (level-X p q) = absurd (p (es .1 tt))
+  only-by false true es eg apart value (level-1 p) = absurd (es .0 p)
+  only-by false true es eg apart value (level-0 p) = refl
+  only-by false true es eg apart value (level-X p q) = absurd (q (eg .1 tt))
+  only-by false false es eg apart value (level-1 p) = absurd (es .0 p)
+  only-by false false es eg apart value (level-0 p) = absurd (eg .0 p)
+  only-by false false es eg apart value (level-X p q) = refl
 
-  output-given : OutputIs t values (outputValue t values)
-  unfolding outputValue
-  output-given =
-      let ws : List Link = linksOf t values in
-      let o : ℕ = t .output in
-      given-by (joins ws o supply) (joins ws o ground) (joins-decides ws o supply) (joins-decides ws o ground)
+  level-given : LevelIs ws m (levelIn ws m)
+  unfolding levelIn
+  level-given = given-by (joins ws m supply) (joins ws m ground) (joins-decides ws m supply) (joins-decides ws m ground)
 
-  output-only : Accepted t → (value : Value) → OutputIs t values value → value ≡ outputValue t values
-  unfolding outputValue
-  output-only acc value is =
-      let ws : List Link = linksOf t values in
-      let o : ℕ = t .output in
+  level-only : (Joined ws supply ground → ⊥) → (value : Value) → LevelIs ws m value → value ≡ levelIn ws m
+  unfolding levelIn
+  level-only apart value is =
       only-by
-      (joins ws o supply)
-      (joins ws o ground)
-      (joins-decides ws o supply)
-      (joins-decides ws o ground)
-      (rails-apart .output t acc values)
+      (joins ws m supply)
+      (joins ws m ground)
+      (joins-decides ws m supply)
+      (joins-decides ws m ground)
+      (λ p q. apart (through (turned p) q))
       value
       is
 
-pub output-is-one : OutputIsOne
-output-is-one = record { given = output-given; only = λ t acc values value is. output-only t values acc value is }
+pub level-is-one : LevelIsOne
+level-is-one = record {
+  given = level-given;
+  only = λ t acc values m value is. level-only (linksOf t values) m (rails-apart .rails t acc values) value is;
+}
 
 -- ---- marks
 

@@ -1,5 +1,5 @@
--- Boolean tests that compute: joined, complementary, the output's value, a mark. That they decide what Conduction, Modules and Bridges say
--- is proved in proofs/Deciding and, of the output's value, in proofs/Refinement.
+-- Boolean tests that compute: joined, complementary, a mark; and a node's level. That they decide what Conduction, Modules and Bridges say
+-- is proved in proofs/Deciding and, of levels, in proofs/Refinement.
 use Prim.Native.Nat.{ℕ, zero, suc, _^_}
 use mathlib.Core.Bool.{Bool, true, cond, _&&_, not, Bool·beq}
 use mathlib.Core.List.{List, [], _∷_, _++_}
@@ -42,8 +42,12 @@ oneRail t values =
 unfoldable pub isComplementary : ModuleType → Bool
 isComplementary t = allBelow (2 ^ (t .labels)) (λ (s : ℕ). oneRail t (settingOf s))
 
-unfoldable pub outputValue : ModuleType → (ℕ → Value) → Value
-outputValue t values = let ws = linksOf t values in cond (joins ws (t .output) supply) at1 (cond (joins ws (t .output) ground) at0 atX)
+-- the level of a node over links
+unfoldable pub levelIn : List Link → ℕ → Value
+levelIn ws m = cond (joins ws m supply) at1 (cond (joins ws m ground) at0 atX)
+
+abbrev pub outputValue : ModuleType → (ℕ → Value) → Value
+outputValue t values = levelIn (linksOf t values) (t .output)
 
 -- is a bridge marked: with it closed, does a path run from supply to ground
 unfoldable pub isMarked : ModuleType → (ℕ → Value) → Bridge → Bool

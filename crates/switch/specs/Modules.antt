@@ -64,9 +64,12 @@ Complementary t =
     (s : ℕ) → s < 2 ^ (t .labels)
     → ExactlyOne (Joined (linksOf t (settingOf s)) (t .output) ground) (Joined (linksOf t (settingOf s)) (t .output) supply)
 
--- a type's output under values: 1 where joined to node 1, 0 where joined to node 0, X where joined to neither
-pub data OutputIs (t : ModuleType) (values : ℕ → Value) : Value → Type 0 where
-  output-1 : Joined (linksOf t values) (t .output) supply → OutputIs t values at1
-  output-0 : Joined (linksOf t values) (t .output) ground → OutputIs t values at0
-  output-X : (Joined (linksOf t values) (t .output) supply → ⊥) → (Joined (linksOf t values) (t .output) ground → ⊥)
-      → OutputIs t values atX
+-- the level of a node over links: 1 where it is joined to supply, 0 where it is joined to ground, X where it is joined to neither
+pub data LevelIs (ws : List Link) (m : ℕ) : Value → Type 0 where
+  level-1 : Joined ws m supply → LevelIs ws m at1
+  level-0 : Joined ws m ground → LevelIs ws m at0
+  level-X : (Joined ws m supply → ⊥) → (Joined ws m ground → ⊥) → LevelIs ws m atX
+
+-- a type's output under values
+abbrev pub OutputIs : ModuleType → (ℕ → Value) → Value → Type 0
+OutputIs t values = LevelIs (linksOf t values) (t .output)

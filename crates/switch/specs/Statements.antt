@@ -9,9 +9,9 @@ use lib.ListN.{length, getD}
 use Rattle.words.specs.Bits.{bit}
 use Rattle.switch.specs.Conduction.{Value, atX, Channel, p-channel, n-channel, Edge, Switching, byValues, edgeOn, links}
 use Rattle.switch.specs.Conduction.{Link, Among, Joined, pEnds, nEnds, badEnds, ground, supply}
-use Rattle.switch.specs.Modules.{ModuleType, mostNodes, inRange, linksOf, Complementary, OutputIs}
+use Rattle.switch.specs.Modules.{ModuleType, mostNodes, inRange, linksOf, Complementary, LevelIs}
 use Rattle.switch.specs.Bridges.{Bridge, Marked, MarkedByEnds}
-use Rattle.switch.specs.Deciding.{joins, isComplementary, outputValue, isMarked}
+use Rattle.switch.specs.Deciding.{joins, isComplementary, levelIn, outputValue, isMarked}
 use Rattle.switch.specs.Records.{valueOf, complement, byPlanes}
 use Rattle.switch.specs.Promises.{railWords, PlanesHold, planes, planesOf}
 
@@ -120,10 +120,11 @@ pub record KeptByRefining (t : ModuleType) (values finer : ℕ → Value) : Type
 abbrev pub RefinementKeeps : Type 0
 RefinementKeeps = (t : ModuleType) → Accepted t → (values finer : ℕ → Value) → Refines values finer → KeptByRefining t values finer
 
--- `outputValue` is the one value that 01 gives the output
-pub record OutputIsOne : Type 0 where
-  pub given : (t : ModuleType) (values : ℕ → Value) → OutputIs t values (outputValue t values)
-  pub only : (t : ModuleType) → Accepted t → (values : ℕ → Value) (value : Value) → OutputIs t values value → value ≡ outputValue t values
+-- in an accepted type a node has one level, which is `levelIn`; so the output has one value
+pub record LevelIsOne : Type 0 where
+  pub given : (ws : List Link) (m : ℕ) → LevelIs ws m (levelIn ws m)
+  pub only : (t : ModuleType) → Accepted t → (values : ℕ → Value) (m : ℕ) (value : Value)
+      → LevelIs (linksOf t values) m value → value ≡ levelIn (linksOf t values) m
 
 -- where every label is known, so is the output
 abbrev pub KnownOutput : Type 0

@@ -9,10 +9,10 @@ use native.Mathlib.Omega.{arith}
 use lib.ListN.{length, getD}
 use lib.Seq.{ext-getD}
 use Rattle.switch.specs.Conduction.{Value, atX}
-use Rattle.switch.specs.Modules.{OutputIs}
+use Rattle.switch.specs.Modules.{linksOf, OutputIs}
 use Rattle.switch.specs.Deciding as deciding
 use Rattle.switch.specs.Statements.{Accepted}
-use Rattle.switch.proofs.Refinement.{output-is-one}
+use Rattle.switch.proofs.Refinement.{level-is-one}
 use Rattle.circuit.specs.Circuit.{Circuit, Instance, typeOfInstance}
 use Rattle.circuit.specs.Laws.{CircuitGood}
 use Rattle.circuit.proofs.CircuitLaws.{accepted-is-good}
@@ -38,7 +38,7 @@ module _ (c : Circuit) (good : CircuitGood c) (vector : List Value) where
         let inst = getD (c .instances) k none in
         let values = labelValues vector theirs inst in
         subst (OutputIs (typeOfInstance (c .types) inst) values) (sym (output-at c good vector none k h))
-        (output-is-one .given (typeOfInstance (c .types) inst) values);
+        (level-is-one .given (linksOf (typeOfInstance (c .types) inst) values) (typeOfInstance (c .types) inst .output));
   }
 
   -- settled lists agree, place by place
@@ -47,9 +47,9 @@ module _ (c : Circuit) (good : CircuitGood c) (vector : List Value) where
     agree-next n h before =
         let inst = getD (c .instances) n none in
         let type = typeOfInstance (c .types) inst in
-        output-is-one .only type (accepted none n h) (labelValues vector outputs inst) (getD outputs n atX) (one .by-paths none n h)
+        level-is-one .only type (accepted none n h) (labelValues vector outputs inst) (type .output) (getD outputs n atX) (one .by-paths none n h)
         ∙ ap (deciding.outputValue type) (same-labels (c .inputs) n vector outputs others before inst (earlier c good vector none n h))
-        ∙ sym (output-is-one .only type (accepted none n h) (labelValues vector others inst) (getD others n atX) (other .by-paths none n h))
+        ∙ sym (level-is-one .only type (accepted none n h) (labelValues vector others inst) (type .output) (getD others n atX) (other .by-paths none n h))
 
     agree : (n : ℕ) → n ≤ length (c .instances) → Agree n outputs others
     agree zero h j k = absurd (not-suc-le-zero k)

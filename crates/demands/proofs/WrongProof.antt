@@ -14,8 +14,8 @@ use Rattle.demands.specs.Files.{inverter, inverterUnder, inverterListed,
 use Rattle.demands.specs.Graders.{Grader, MeetsPromise}
 use Rattle.demands.specs.Wrong.{refusesEvery, without, skips, marksAll, marksNever, leavesMatrix, firstWordOnly, inventsFound}
 use Rattle.demands.specs.Wrong.{labelMarked, markedBy, lowerNode, putIn, inNodeOrder, isAmong, handedOn, swept, sweepsOnce, isOne, unlike, onePlaneMarked, onePlane}
-use Rattle.demands.specs.Wrong.{levelIn, isZero, sameLevel, unequalEnds, marksFloating, rowsFound, countsRows, packed63, spills, packedFirst, wraps, goesOn}
-use Rattle.demands.specs.Wrong.{changesOutput, watchesOutputs, held, rowValuesAt, levelAt, heldLevel, opposed, heldMarked, holdsLevels}
+use Rattle.demands.specs.Wrong.{isZero, sameLevel, unequalEnds, marksFloating, rowsFound, countsRows, packed63, spills, packedFirst, wraps, goesOn}
+use Rattle.demands.specs.Wrong.{changesOutput, watchesOutputs, held, rowValuesAt, levelAt, heldLevel, heldMarked, holdsLevels}
 use Rattle.demands.specs.Wrong.{sameAsWritten, countsTwice, sameLabelToo, countsLabels, zeroForX, zeroed, readsXAsZero, clearingNext, writesPast, clearsFirst}
 use Rattle.demands.specs.Wrong.{RefusesEveryIsWrong, SkipsNineIsWrong, SkipsFourteenIsWrong, MarksAllIsWrong, MarksNeverIsWrong, LeavesMatrixIsWrong, FirstWordOnlyIsWrong, InventsFoundIsWrong}
 use Rattle.demands.specs.Wrong.{SweepsOnceIsWrong, OnePlaneIsWrong, MarksFloatingIsWrong, CountsRowsIsWrong, SpillsIsWrong, WrapsIsWrong, GoesOnIsWrong}
@@ -27,8 +27,8 @@ unfoldable pub wrong-computing : Unit {0}
 unfolding grader-computing
     refusesEvery without marksAll marksNever leavesMatrix firstWordOnly inventsFound
     labelMarked markedBy lowerNode putIn inNodeOrder isAmong handedOn swept sweepsOnce isOne unlike onePlaneMarked onePlane
-    levelIn isZero sameLevel unequalEnds marksFloating rowsFound countsRows packed63 spills packedFirst wraps goesOn
-    changesOutput watchesOutputs held rowValuesAt levelAt heldLevel opposed heldMarked holdsLevels
+    isZero sameLevel unequalEnds marksFloating rowsFound countsRows packed63 spills packedFirst wraps goesOn
+    changesOutput watchesOutputs held rowValuesAt levelAt heldLevel heldMarked holdsLevels
     sameAsWritten countsTwice sameLabelToo countsLabels zeroForX zeroed readsXAsZero isGraded clearingNext writesPast clearsFirst
 wrong-computing = tt
 

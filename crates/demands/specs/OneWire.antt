@@ -1,17 +1,17 @@
--- 02, "One wire, one short", on files: what a wire is, said once more by what a circuit ties together; that a wire carries one level, and a mark
--- is a symmetric function of what its two wires carry; so rows of one class are equal; and that the counts are of the shorts, however they are
--- listed. The proofs are in proofs/OneWireProof and proofs/NamedAgain.
+-- 02, "One wire, one short", on files: what a wire is, said once more by what a circuit ties together; that a wire carries one level, and
+-- a mark is a symmetric function of what its two wires carry; so rows of one class are equal; and that the counts are of the shorts,
+-- however they are listed. The proofs are in proofs/OneWireProof and proofs/NamedAgain.
 use Prim.Native.Nat.{ℕ, _≤_, _<_}
 use mathlib.Core.Path.{_≡_}
 use mathlib.Core.Logic.{_⊎_, _↔_}
 use mathlib.Core.List.{List}
 use lib.ListN.{length, getD}
-use Rattle.switch.specs.Conduction.{Value, at0, at1, atX, Joined, ground, supply}
-use Rattle.switch.specs.Modules.{ModuleType, linksOf}
+use Rattle.switch.specs.Conduction.{Value, at0, at1, ground, supply}
+use Rattle.switch.specs.Modules.{linksOf, LevelIs}
 use Rattle.switch.specs.Bridges.{Bridge, nodes, input}
 use Rattle.circuit.specs.Circuit.{Circuit, Reference, primary, outputOf, typeOfInstance}
-use Rattle.grading.specs.Rows.{Row, rowsOf, rowValues}
-use Rattle.grading.specs.Wires.{Wire, End, first-end, second-end, wireOf, carried}
+use Rattle.grading.specs.Rows.{Row, rowsOf, rowValues, CellMarked}
+use Rattle.grading.specs.Wires.{End, one-end, other-end, wireOf, carried}
 use Rattle.grading.specs.Promise.{countsOf}
 use Rattle.demands.specs.Calls.{Call, Accepts, GradedAs, cellAt, classAt}
 use Rattle.demands.specs.Two.{rowAt, MatrixCell, rowOfCell, vectorOfCell, markIn, instanceOf, OneClass, CountsAgree}
@@ -23,9 +23,9 @@ pub data Point : Type 0 where
   node : ℕ → ℕ → Point
   label : ℕ → ℕ → Point
 
--- what a label refers to. Where there is no such label, nothing: no primary input is numbered 0
-abbrev pub referenceOf : Circuit → ℕ → ℕ → Reference
-referenceOf c n l = getD (instanceOf c n .references) l (primary 0)
+-- what a label refers to. Where there is no such label, input 0 stands, which no circuit has
+abbrev pub referenceAt : Circuit → ℕ → ℕ → Reference
+referenceAt c n l = getD (instanceOf c n .references) l (primary 0)
 
 abbrev pub outputNode : Circuit → ℕ → ℕ
 outputNode c n = typeOfInstance (c .types) (instanceOf c n) .output
@@ -35,18 +35,18 @@ outputNode c n = typeOfInstance (c .types) (instanceOf c n) .output
 pub data Tied (c : Circuit) : Point → Point → Type 0 where
   grounds : (n k : ℕ) → Tied c (node n ground) (node k ground)
   supplies : (n k : ℕ) → Tied c (node n supply) (node k supply)
-  inputs : (n l k m p : ℕ) → referenceOf c n l ≡ primary p → referenceOf c k m ≡ primary p → Tied c (label n l) (label k m)
-  outputs : (n l k : ℕ) → referenceOf c n l ≡ outputOf k → Tied c (node k (outputNode c k)) (label n l)
+  inputs : (n l k m p : ℕ) → referenceAt c n l ≡ primary p → referenceAt c k m ≡ primary p → Tied c (label n l) (label k m)
+  outputs : (n l k : ℕ) → referenceAt c n l ≡ outputOf k → Tied c (node k (outputNode c k)) (label n l)
   itself : (p : Point) → Tied c p p
   turned : (p q : Point) → Tied c p q → Tied c q p
   through : (p q r : Point) → Tied c p q → Tied c q r → Tied c p r
 
 -- the point at an end of a row's bridge
 unfoldable pub pointAt : ℕ → Bridge → End → Point
-pointAt n (nodes a b) first-end = node n a
-pointAt n (nodes a b) second-end = node n b
-pointAt n (input m l) first-end = node n m
-pointAt n (input m l) second-end = label n l
+pointAt n (nodes a b) one-end = node n a
+pointAt n (nodes a b) other-end = node n b
+pointAt n (input m l) one-end = node n m
+pointAt n (input m l) other-end = label n l
 
 abbrev pub pointOf : Row → End → Point
 pointOf row end = pointAt (row .number) (row .bridge) end
@@ -57,20 +57,22 @@ WiresAreTies =
     (file : List ℕ) (c : Circuit) → Accepts file c → (r s : ℕ) → r < length (rowsOf c) → s < length (rowsOf c) → (d e : End)
     → (wireOf (rowAt c r) d ≡ wireOf (rowAt c s) e) ↔ Tied c (pointOf (rowAt c r) d) (pointOf (rowAt c s) e)
 
--- ---- levels
+-- so two rows have one class number exactly when the circuit ties the ends of one to those of the other, either way round
+abbrev pub ClassesAreTies : Type 0
+ClassesAreTies =
+    (call : Call) (c : Circuit) → GradedAs call c → (r s : ℕ) → r < length (rowsOf c) → s < length (rowsOf c)
+    → let tied : End → End → Type 0 = λ d e. Tied c (pointOf (rowAt c r) d) (pointOf (rowAt c s) e) in
+    (classAt (call .after .classes) r ≡ classAt (call .after .classes) s)
+    ↔ ((tied one-end one-end × tied other-end other-end) ⊎ (tied one-end other-end × tied other-end one-end))
 
--- what a node of a module is joined to
-pub data LevelIs (t : ModuleType) (values : ℕ → Value) (m : ℕ) : Value → Type 0 where
-  level-1 : Joined (linksOf t values) m supply → LevelIs t values m at1
-  level-0 : Joined (linksOf t values) m ground → LevelIs t values m at0
-  level-X : (Joined (linksOf t values) m supply → ⊥) → (Joined (linksOf t values) m ground → ⊥) → LevelIs t values m atX
+-- ---- levels
 
 -- an end of a row's bridge is at this level under a vector: a node by paths in the row's own instance, a label by its value there
 unfoldable pub EndIs : Circuit → List Value → Row → Bridge → End → Value → Type 0
-EndIs c vector row (nodes a b) first-end level = LevelIs (row .type) (rowValues c vector row) a level
-EndIs c vector row (nodes a b) second-end level = LevelIs (row .type) (rowValues c vector row) b level
-EndIs c vector row (input m l) first-end level = LevelIs (row .type) (rowValues c vector row) m level
-EndIs c vector row (input m l) second-end level = rowValues c vector row l ≡ level
+EndIs c vector row (nodes a b) one-end level = LevelIs (linksOf (row .type) (rowValues c vector row)) a level
+EndIs c vector row (nodes a b) other-end level = LevelIs (linksOf (row .type) (rowValues c vector row)) b level
+EndIs c vector row (input m l) one-end level = LevelIs (linksOf (row .type) (rowValues c vector row)) m level
+EndIs c vector row (input m l) other-end level = rowValues c vector row l ≡ level
 
 -- the level of a wire is that of each end on it, whichever instance the end is of
 abbrev pub OneWireOneLevel : Type 0
@@ -82,12 +84,18 @@ OneWireOneLevel =
 abbrev pub MarksAreOfWires : Type 0
 MarksAreOfWires =
     (call : Call) (c : Circuit) → GradedAs call c → (cell : MatrixCell c)
-    → let level = λ (end : End). carried c (vectorOfCell cell) (wireOf (rowOfCell cell) end) in
-    (markIn call cell ≡ 1) ↔ (((level first-end ≡ at1) × (level second-end ≡ at0)) ⊎ ((level first-end ≡ at0) × (level second-end ≡ at1)))
+    → let level : End → Value = λ end. carried c (vectorOfCell cell) (wireOf (rowOfCell cell) end) in
+    (markIn call cell ≡ 1) ↔ (((level one-end ≡ at1) × (level other-end ≡ at0)) ⊎ ((level one-end ≡ at0) × (level other-end ≡ at1)))
 
 -- ---- rows of one class
 
--- rows with one class number are equal, bit for bit
+-- what joins the same two wires is marked under the same vectors, whatever vectors there are
+abbrev pub OneShortOneMark : Type 0
+OneShortOneMark =
+    (file : List ℕ) (c : Circuit) → Accepts file c → (r s : ℕ) → r < length (rowsOf c) → s < length (rowsOf c)
+    → OneClass (rowAt c r) (rowAt c s) → (vector : List Value) → CellMarked c vector (rowAt c r) ↔ CellMarked c vector (rowAt c s)
+
+-- so rows with one class number are equal, bit for bit
 abbrev pub RowsOfOneClassAreEqual : Type 0
 RowsOfOneClassAreEqual =
     (call : Call) (c : Circuit) → GradedAs call c → (r s : ℕ) → r < length (rowsOf c) → s < length (rowsOf c)
@@ -109,13 +117,13 @@ pub record AlikeButLists (c d : Circuit) : Type 0 where
 abbrev pub ShortsAmong : Circuit → Circuit → Type 0
 ShortsAmong c d = (r : ℕ) → r < length (rowsOf c) → (s : ℕ) × (s < length (rowsOf d)) × OneClass (rowAt c r) (rowAt d s)
 
--- then it counts no fewer classes, and finds no fewer
+-- then the second counts no fewer classes, and finds no fewer
 pub record CountsGrow (one other : Call) : Type 0 where
   pub classes : countsOf (one .answer) .classes ≤ countsOf (other .answer) .classes
   pub found : countsOf (one .answer) .found ≤ countsOf (other .answer) .found
 
-abbrev pub MoreShortsCountNoLess : Type 0
-MoreShortsCountNoLess =
+abbrev pub MoreShortsCountNoFewer : Type 0
+MoreShortsCountNoFewer =
     (one other : Call) (c d : Circuit) → GradedAs one c → GradedAs other d → AlikeButLists c d → ShortsAmong c d → CountsGrow one other
 
 -- so of the same shorts, however they are listed, the counts are the same

@@ -1,6 +1,7 @@
 -- Demand 2. A cell is marked exactly when, with the bridge closed, a path of switched-on transistors and the bridge runs from supply
 -- to ground. A bridged input counts as supply at 1, as ground at 0; an X switches nothing on. In accepted files a column depends on
--- circuit, fault list and its own vector only. Each class of equal bridges counts once.
+-- circuit, fault list and its own vector only. Each class of equal bridges counts once; which bridges are one class, 02 says ("One wire, one
+-- short").
 use Prim.Native.Nat.{ℕ, suc, _≤_, _<_}
 use mathlib.Core.Path.{_≡_}
 use mathlib.Core.Logic.{_⊎_, _↔_}
@@ -13,7 +14,7 @@ use Rattle.switch.specs.Bridges.{Bridge, nodes, input, MarkedByEnds}
 use Rattle.circuit.specs.Circuit.{Circuit, Listed, Instance, list, numbered, typeOfInstance}
 use Rattle.grading.specs.Values.{labelValues, outputsOf}
 use Rattle.grading.specs.Rows.{Row, rowWith, noInstance, noRow, rowsOf, rowValues, CellMarked}
-use Rattle.grading.specs.Wires.{first-end, second-end, wireOf}
+use Rattle.grading.specs.Wires.{one-end, other-end, wireOf}
 use Rattle.grading.specs.Promise.{countsOf}
 use Rattle.demands.specs.Calls.{Call, Accepts, GradedAs, cellAt, classAt}
 
@@ -118,8 +119,8 @@ ColumnIsOfItsVector =
 -- 02, "One wire, one short": two rows are in one class exactly when their bridges join the same two wires, either way round
 unfoldable pub OneClass : Row → Row → Type 0
 OneClass r s =
-    ((wireOf r first-end ≡ wireOf s first-end) × (wireOf r second-end ≡ wireOf s second-end))
-    ⊎ ((wireOf r first-end ≡ wireOf s second-end) × (wireOf r second-end ≡ wireOf s first-end))
+    ((wireOf r one-end ≡ wireOf s one-end) × (wireOf r other-end ≡ wireOf s other-end))
+    ⊎ ((wireOf r one-end ≡ wireOf s other-end) × (wireOf r other-end ≡ wireOf s one-end))
 
 -- some row of class n has a mark under some vector
 pub record Found (call : Call) (c : Circuit) (n : ℕ) : Type 0 where
@@ -127,7 +128,7 @@ pub record Found (call : Call) (c : Circuit) (n : ℕ) : Type 0 where
   pub of-class : classAt (call .after .classes) (cell .row) ≡ n
   pub mark : markIn call cell ≡ 1
 
--- two rows have one class number exactly when they are one class. The numbers are 1 to the count of classes; each is a row's, and
+-- two rows have one class number exactly when they join the same two wires. The numbers are 1 to the count of classes; each is a row's, and
 -- comes first after those below it. The found count is the sum of f, which is 1 for each class that is found and 0 for each other: each
 -- class counts once
 pub record ClassesTell (call : Call) (c : Circuit) : Type 0 where
@@ -149,7 +150,11 @@ ClassesCountOnce = (call : Call) (c : Circuit) → GradedAs call c → ClassesTe
 
 -- ---- a bridge named once more
 
--- the second circuit has one bridge field more, anywhere among the others
+-- the instance with a number, from 1
+abbrev pub instanceOf : Circuit → ℕ → Instance
+instanceOf c n = numbered (c .instances) n noInstance
+
+-- the second circuit has one bridge field more, `again` in the list `number`, anywhere among the others
 pub record OneBridgeMore (c d : Circuit) (again : Bridge) : Type 0 where
   pub inputs : c .inputs ≡ d .inputs
   pub types : c .types ≡ d .types
@@ -160,10 +165,6 @@ pub record OneBridgeMore (c d : Circuit) (again : Bridge) : Type 0 where
   pub after : List Listed
   pub bridges : c .bridges ≡ before ++ after
   pub named-again : d .bridges ≡ before ++ (record { list = number; bridge = again } ∷ after)
-
--- the instance with a number, from 1
-abbrev pub instanceOf : Circuit → ℕ → Instance
-instanceOf c n = numbered (c .instances) n noInstance
 
 -- and in each instance that chose its list the new bridge joins the two wires of a row that was there, of that instance or of any other
 pub record NamedAgain (c d : Circuit) : Type 0 where
@@ -179,7 +180,7 @@ pub record CountsAgree (one other : Call) : Type 0 where
 abbrev pub NamingAgainAddsNothing : Type 0
 NamingAgainAddsNothing = (one other : Call) (c d : Circuit) → GradedAs one c → GradedAs other d → NamedAgain c d → CountsAgree one other
 
--- so a bridge between two nodes of a list, named once more there from its other end
+-- so a bridge of a list that joins two nodes, named once more in that list from its other end
 pub record NamedFromTheOtherEnd (c d : Circuit) : Type 0 where
   pub first : ℕ
   pub second : ℕ

@@ -14,7 +14,7 @@ use Rattle.switch.specs.Conduction.{Value, at0, at1, atX, Link, anyOf, ground, 
 use Rattle.switch.specs.Modules.{ModuleType, linksOf}
 use Rattle.switch.specs.Bridges.{Bridge, nodes, input, closing}
 use Rattle.switch.specs.Deciding as deciding
-use Rattle.switch.specs.Deciding.{joins, isMarked}
+use Rattle.switch.specs.Deciding.{joins, levelIn, isMarked}
 use Rattle.circuit.specs.Fields.{Field}
 use Rattle.circuit.specs.Circuit.{Circuit}
 use Rattle.circuit.specs.Known.{Known}
@@ -167,9 +167,6 @@ abbrev pub OnePlaneIsWrong : Type 0
 OnePlaneIsWrong = MeetsPromise onePlane → ⊥
 
 -- slip 3: a mark from one joined end and one floating end: it marks where the ends' levels differ, and a floating node has level X
-unfoldable pub levelIn : List Link → ℕ → Value
-levelIn ws m = cond (joins ws m supply) at1 (cond (joins ws m ground) at0 atX)
-
 unfoldable pub isZero : Value → Bool
 isZero at0 = true
 isZero at1 = false
@@ -263,12 +260,9 @@ unfoldable pub heldLevel : Circuit → Row → ℕ → ℕ → Value
 heldLevel c row zero m = levelAt c row zero m
 heldLevel c row (suc v) m = held (levelAt c row (suc v) m) (heldLevel c row v m)
 
-unfoldable pub opposed : Value → Value → Bool
-opposed a b = isOne a && isZero b || isZero a && isOne b
-
 unfoldable pub heldMarked : Circuit → Row → ℕ → Bridge → Bool
-heldMarked c row v (nodes a b) = opposed (heldLevel c row v a) (heldLevel c row v b)
-heldMarked c row v (input m l) = opposed (rowValuesAt c row v l) (heldLevel c row v m)
+heldMarked c row v (nodes a b) = leaks (heldLevel c row v a) (heldLevel c row v b)
+heldMarked c row v (input m l) = leaks (rowValuesAt c row v l) (heldLevel c row v m)
 
 unfoldable pub holdsLevels : Grader
 holdsLevels = marking λ (c : Circuit) (row : Row) (v : ℕ). ofBool (heldMarked c row v (row .bridge))

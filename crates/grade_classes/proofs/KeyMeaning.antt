@@ -18,7 +18,7 @@ use Rattle.circuit.specs.Numbers.{referenceGood}
 use Rattle.circuit.specs.Records.{unusedReference}
 use Rattle.circuit.specs.Laws.{CircuitGood, InstanceGood}
 use Rattle.grading.specs.Rows.{Row, noInstance, rowsOf}
-use Rattle.grading.specs.Wires.{Wire, nodeWire, referenceWire, labelWire, first-end, second-end, wireAt, wireOf}
+use Rattle.grading.specs.Wires.{Wire, nodeWire, referenceWire, labelWire, one-end, other-end, wireAt, wireOf}
 use Rattle.grading.specs.Classes.{sameWire, samePair, sameClass}
 use Rattle.grading.specs.Statements.{RowOf}
 use Rattle.grading.specs.Codes.{kindOf, firstEnd, secondEnd, codeOf}
@@ -63,7 +63,7 @@ wires-key a b c d p q r s =
 -- ---- the key of a row
 
 abbrev pub rowKey : Row → ℕ
-rowKey r = pairKey (wireNumber (wireOf r first-end)) (wireNumber (wireOf r second-end))
+rowKey r = pairKey (wireNumber (wireOf r one-end)) (wireNumber (wireOf r other-end))
 
 label-at : (i : Instance) (l : ℕ) → l < 12 → getD (labelNumbers (referencesOf i)) l 0 ≡ referenceNumber (getD (referencesOf i) l unusedReference)
 unfolding labelNumbers
@@ -89,7 +89,7 @@ key-is r fits = go (r .bridge) fits
 
     go : (b : Bridge) → BridgeFits b
         → keyOf o (labelNumbers (referencesOf (r .instance))) (codeOf n b)
-        ≡ pairKey (wireNumber (wireAt r b first-end)) (wireNumber (wireAt r b second-end))
+        ≡ pairKey (wireNumber (wireAt r b one-end)) (wireNumber (wireAt r b other-end))
     go (nodes a b) f =
         let d : Bridge = nodes a b in rw (code-instance n d f, code-kind n d f, code-first n d f, code-second n d f)
     go (input m l) f =
@@ -109,7 +109,7 @@ none-fits = omega arith
 
 module _ (c : Circuit) (good : CircuitGood c) (row : Row) (is-row : RowOf c row) where
   abbrev RowWired : Type 0
-  RowWired = WireFits (wireOf row first-end) × WireFits (wireOf row second-end)
+  RowWired = WireFits (wireOf row one-end) × WireFits (wireOf row other-end)
 
   placed : Placed (c .types) 1 (c .instances) noInstance row
   unfolding rowsOf
@@ -138,7 +138,7 @@ module _ (c : Circuit) (good : CircuitGood c) (row : Row) (is-row : RowOf c row)
   unfolding wireAt
   row-wired = go (row .bridge) (rows-fit c good row is-row .1)
     where
-      go : (b : Bridge) → BridgeFits b → WireFits (wireAt row b first-end) × WireFits (wireAt row b second-end)
+      go : (b : Bridge) → BridgeFits b → WireFits (wireAt row b one-end) × WireFits (wireAt row b other-end)
       go (nodes a b) fits =
           (node-fits (row .number) (row .type .output) a few (fits .0), node-fits (row .number) (row .type .output) b few (fits .1))
       go (input m l) fits = (node-fits (row .number) (row .type .output) m few (fits .0), label-fits l)
@@ -148,4 +148,4 @@ unfolding sameClass
 same-key c good r s p q =
     let one = row-wired c good r p in
     let other = row-wired c good s q in
-    wires-key (wireOf r first-end) (wireOf r second-end) (wireOf s first-end) (wireOf s second-end) (one .0) (one .1) (other .0) (other .1)
+    wires-key (wireOf r one-end) (wireOf r other-end) (wireOf s one-end) (wireOf s other-end) (one .0) (one .1) (other .0) (other .1)

@@ -25,9 +25,9 @@ wireNumber (inputWire n) = 2 + n
 wireNumber (outputWire n) = 67 + n
 wireNumber (innerWire n m) = 256 + (32 * n + m)
 
--- that of the wire that a reference tells
+-- that of a reference's wire
 unfoldable pub referenceNumber : ReferenceRecord → ℕ
-referenceNumber r = cond (r .earlier) (67 + r .number) (2 + r .number)
+referenceNumber r = wireNumber (cond (r .earlier) (outputWire (r .number)) (inputWire (r .number)))
 
 unfoldable pub labelNumbers : List ReferenceRecord → List ℕ
 labelNumbers references = table 12 (λ (l : ℕ). referenceNumber (getD references l unusedReference))

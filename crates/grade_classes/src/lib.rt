@@ -41,6 +41,7 @@ fn reference_wire(reference: Reference) -> u16
     2 + (reference.number as u16)
 }
 
+// The numbers of the wires of an instance's labels.
 fn label_wires(one: Instance) -> [u16; 12]
     ensures { λ r. ⌜ r ≡ labelNumbers (one .references) ⌝ }
 {

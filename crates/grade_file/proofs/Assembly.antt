@@ -36,6 +36,7 @@ use Rattle.grading.proofs.ValueLaws.{InstanceAt, good-at, type-at, type-ranges}
 use Rattle.grading.proofs.RecordReads.{referencesOf, instance-is, type-read}
 use Rattle.grading.proofs.RowLaws.{rowsBefore, grown as rows-grown, rows-all, length-rows, rows-grow, rows-few, rows-within, few-rows, faultsAt}
 use Rattle.grading.proofs.Lists.{getD-map}
+use Rattle.grading.proofs.FaultRanges.{faults-fit}
 use Rattle.grading.proofs.MatrixLaws.{length-matrix, matrix-append}
 use Rattle.grade_rows.specs.Model.{instanceCodes, RowsListed}
 use Rattle.grade_rows.proofs.InstanceCodes.{codes-long as length-codes, listed-to, listed-long, listed-at, listed-fit}
@@ -44,7 +45,7 @@ use Rattle.grade_marks.specs.Model.{InstanceGiven}
 use Rattle.grade_inputs.specs.Inputs.{onesOf, zerosOf, inputWords}
 use Rattle.grade_marks.proofs.SignalMeaning.{wordsOf, signals-start, signals-more}
 use Rattle.grade_marks.proofs.RowMeaning.{rows-words}
-use Rattle.grade_classes.specs.Model.{firstLabels, keysOf, foundFrom, RowsClassed}
+use Rattle.grade_classes.specs.Model.{labelNumbers, keysOf, foundFrom, RowsClassed}
 use Rattle.grade_classes.specs.declared.Classed.{Classed}
 use Rattle.grade_classes.proofs.ClassLaws.{keyed-long, keyed-take}
 use Rattle.grade_classes.proofs.KeyMeaning.{rowKey}
@@ -343,7 +344,7 @@ module _ (m : CircuitRecord) (told : CircuitGiven m) (matrix₀ classes₀ : Lis
     -- what the calls of a turn answer
     module _ (ones′ zeros′ matrix′ : List ℕ)
         (marked : InstanceMarked type′ (its .references) i (m .«vector_count») codes (s .from) to (s .ones) (s .zeros) (s .matrix) ones′ zeros′ matrix′)
-        (codes′ : List ℕ) (keyed : codes′ ≡ written codes (s .from) (keysOf codes (firstLabels (its .references)) (s .from) to)) where
+        (codes′ : List ℕ) (keyed : codes′ ≡ written codes (s .from) (keysOf codes (type′ .output) (labelNumbers (its .references)) (s .from) to)) where
       stand : Bridge
       stand = nodes 0 0
 
@@ -383,15 +384,16 @@ module _ (m : CircuitRecord) (told : CircuitGiven m) (matrix₀ classes₀ : Lis
           (written-written matrix₀ 0 (matrixTo d i) added fits ∙ ap (written matrix₀ 0) (sym whole))
 
       -- the keys
-      abbrev firsts : List ℕ
-      firsts = firstLabels (its .references)
+      abbrev labels : List ℕ
+      labels = labelNumbers (its .references)
 
       inside : (s .from ≤ to) × (to ≤ length codes)
       inside = (order .0, omega (arith, order .1, turn-fits .codes-long))
 
-      keys-here : keysOf codes firsts (s .from) to ≡ map rowKey new
+      keys-here : keysOf codes (type′ .output) labels (s .from) to ≡ map rowKey new
       keys-here =
-          rw (references-are d good m is i h e) (keys-are d (suc i) (inst d good m is i h) codes (s .from) to stand (omega (arith, long)) codes-here)
+          rw (references-are d good m is i h e, output-is d good m is i h e u)
+          (keys-are d (suc i) (inst d good m is i h) codes (s .from) to stand (faults-fit d good i noInstance h) (omega (arith, long)) codes-here)
 
       old-here : take (s .from) codes ≡ map rowKey (rowsBefore d i)
       old-here =
@@ -402,7 +404,7 @@ module _ (m : CircuitRecord) (told : CircuitGiven m) (matrix₀ classes₀ : Lis
       keys-next : take to codes′ ≡ map rowKey (rowsBefore d (suc i))
       keys-next =
           ap (take to) keyed
-          ∙ keyed-take codes firsts (s .from) to inside
+          ∙ keyed-take codes (type′ .output) labels (s .from) to inside
           ∙ rw (old-here, keys-here)
           (sym (map-append rowKey (rowsBefore d i) new) ∙ ap (map rowKey) (sym grown))
 
@@ -419,7 +421,7 @@ module _ (m : CircuitRecord) (told : CircuitGiven m) (matrix₀ classes₀ : Lis
                 ∙ rw (so-far .zeros-are, output-is d good m is i h e u) (signals .1);
             from-is = to-is;
             matrix-is = matrix-next;
-            codes-long = ap length keyed ∙ keyed-long codes firsts (s .from) to inside ∙ turn-fits .codes-long;
+            codes-long = ap length keyed ∙ keyed-long codes (type′ .output) labels (s .from) to inside ∙ turn-fits .codes-long;
             keys-are = keys-next;
           }
 

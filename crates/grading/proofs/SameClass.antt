@@ -8,7 +8,7 @@ use Rattle.switch.specs.Conduction.{Value}
 use Rattle.circuit.specs.Circuit.{Circuit}
 use Rattle.circuit.specs.Laws.{CircuitGood}
 use Rattle.grading.specs.Rows.{Row, cell}
-use Rattle.grading.specs.Wires.{Wire, first-end, second-end, wireOf, carried, leaks}
+use Rattle.grading.specs.Wires.{Wire, one-end, other-end, wireOf, carried, leaks}
 use Rattle.grading.specs.Classes.{sameClass}
 use Rattle.grading.specs.Statements.{RowOf, SameClassIsEquivalence, ClassesHaveEqualMarks}
 use Rattle.grading.proofs.WireLaws.{EqualPairs, pair-eq, pair-same, pair-turned, pair-through}
@@ -16,15 +16,15 @@ use Rattle.grading.proofs.WireLevels.{cells-are-of-wires}
 
 -- two rows whose wires are equal, either way round
 abbrev pub EqualEnds : Row → Row → Type 0
-EqualEnds r s = EqualPairs (wireOf r first-end) (wireOf r second-end) (wireOf s first-end) (wireOf s second-end)
+EqualEnds r s = EqualPairs (wireOf r one-end) (wireOf r other-end) (wireOf s one-end) (wireOf s other-end)
 
 pub same-ends : (r s : Row) → T (sameClass r s) → EqualEnds r s
 unfolding sameClass
-same-ends r s = pair-eq (wireOf r first-end) (wireOf r second-end) (wireOf s first-end) (wireOf s second-end)
+same-ends r s = pair-eq (wireOf r one-end) (wireOf r other-end) (wireOf s one-end) (wireOf s other-end)
 
 pub ends-same : (r s : Row) → EqualEnds r s → T (sameClass r s)
 unfolding sameClass
-ends-same r s = pair-same (wireOf r first-end) (wireOf r second-end) (wireOf s first-end) (wireOf s second-end)
+ends-same r s = pair-same (wireOf r one-end) (wireOf r other-end) (wireOf s one-end) (wireOf s other-end)
 
 pub same-class-is-equivalence : SameClassIsEquivalence
 same-class-is-equivalence P = record {

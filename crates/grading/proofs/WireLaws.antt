@@ -7,7 +7,7 @@ use lib.Dec.{T, eqb, eqb→eq, eqb-refl}
 use Rattle.switch.proofs.Paths.{both}
 use Rattle.switch.proofs.Deciding.{and-both}
 use Rattle.grading.specs.Wires.{Wire, groundWire, supplyWire, inputWire, outputWire, innerWire}
-use Rattle.grading.specs.Classes.{wireKind, wirePlace, wireNode, sameWire, samePair}
+use Rattle.grading.specs.Classes.{wireSort, wireOwner, wireNode, sameWire, samePair}
 
 -- ---- tests joined by or
 
@@ -33,8 +33,8 @@ ofKind (suc (suc zero)) n m = inputWire n
 ofKind (suc (suc (suc zero))) n m = outputWire n
 ofKind (suc (suc (suc (suc k)))) n m = innerWire n m
 
-of-kind : (w : Wire) → ofKind (wireKind w) (wirePlace w) (wireNode w) ≡ w
-unfolding ofKind wireKind wirePlace wireNode
+of-kind : (w : Wire) → ofKind (wireSort w) (wireOwner w) (wireNode w) ≡ w
+unfolding ofKind wireSort wireOwner wireNode
 of-kind groundWire = refl
 of-kind supplyWire = refl
 of-kind (inputWire n) = refl
@@ -44,12 +44,12 @@ of-kind (innerWire n m) = refl
 pub wire-eq : (v w : Wire) → T (sameWire v w) → v ≡ w
 unfolding sameWire
 wire-eq v w t =
-    let outer = both (eqb (wireKind v) (wireKind w) && eqb (wirePlace v) (wirePlace w)) (eqb (wireNode v) (wireNode w)) t in
-    let inner = both (eqb (wireKind v) (wireKind w)) (eqb (wirePlace v) (wirePlace w)) (outer .0) in
+    let outer = both (eqb (wireSort v) (wireSort w) && eqb (wireOwner v) (wireOwner w)) (eqb (wireNode v) (wireNode w)) t in
+    let inner = both (eqb (wireSort v) (wireSort w)) (eqb (wireOwner v) (wireOwner w)) (outer .0) in
     sym (of-kind v)
     ∙ rw (
-      eqb→eq (wireKind v) (wireKind w) (inner .0),
-      eqb→eq (wirePlace v) (wirePlace w) (inner .1),
+      eqb→eq (wireSort v) (wireSort w) (inner .0),
+      eqb→eq (wireOwner v) (wireOwner w) (inner .1),
       eqb→eq (wireNode v) (wireNode w) (outer .1),
     )
     (of-kind w)
@@ -58,8 +58,8 @@ pub wire-same : (v w : Wire) → v ≡ w → T (sameWire v w)
 unfolding sameWire
 wire-same v w e =
     rw e
-    (and-both (eqb (wireKind w) (wireKind w) && eqb (wirePlace w) (wirePlace w)) (eqb (wireNode w) (wireNode w))
-    (and-both (eqb (wireKind w) (wireKind w)) (eqb (wirePlace w) (wirePlace w)) (eqb-refl (wireKind w)) (eqb-refl (wirePlace w)))
+    (and-both (eqb (wireSort w) (wireSort w) && eqb (wireOwner w) (wireOwner w)) (eqb (wireNode w) (wireNode w))
+    (and-both (eqb (wireSort w) (wireSort w)) (eqb (wireOwner w) (wireOwner w)) (eqb-refl (wireSort w)) (eqb-refl (wireOwner w)))
     (eqb-refl (wireNode w)))
 
 -- ---- one pair

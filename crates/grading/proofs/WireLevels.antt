@@ -13,7 +13,7 @@ use lib.ListN.{length, getD}
 use Rattle.switch.specs.Conduction.{Value, at0, at1, atX, Link, Joined, here, ground, supply}
 use Rattle.switch.specs.Modules.{ModuleType, linksOf}
 use Rattle.switch.specs.Bridges.{Bridge, nodes, input, Marked, MarkedByEnds}
-use Rattle.switch.specs.Deciding.{joins, isMarked, outputValue}
+use Rattle.switch.specs.Deciding.{joins, levelIn, isMarked}
 use Rattle.switch.specs.Statements.{Accepted}
 use Rattle.switch.proofs.Paths.{turned, through}
 use Rattle.switch.proofs.Apart.{rails-apart}
@@ -24,7 +24,7 @@ use Rattle.circuit.specs.Laws.{CircuitGood}
 use Rattle.grading.specs.Values.{valueAt, labelValues, outputsOf}
 use Rattle.grading.specs.Rows.{Row, noInstance, rowsOf, rowValues, cell}
 use Rattle.grading.specs.Wires.{Wire, groundWire, supplyWire, inputWire, outputWire, innerWire, nodeWire, referenceWire, labelWire}
-use Rattle.grading.specs.Wires.{End, first-end, second-end, wireAt, wireOf, nodeLevel, carried, leaks}
+use Rattle.grading.specs.Wires.{End, one-end, other-end, wireAt, wireOf, carried, leaks}
 use Rattle.grading.specs.Statements.{RowOf, CellsAreOfWires}
 use Rattle.grading.proofs.ValueLaws.{type-good, type-accepted, label-value}
 use Rattle.grading.proofs.SettledOutputs.{output-at}
@@ -89,15 +89,15 @@ module _ (t : ModuleType) (acc : Accepted t) (values : ℕ → Value) where
   ws = linksOf t values
 
   module _ (m : ℕ) where
-    pub at-supply : (nodeLevel t values m ≡ at1) ↔ Joined ws m supply
-    unfolding nodeLevel
+    pub at-supply : (levelIn ws m ≡ at1) ↔ Joined ws m supply
+    unfolding levelIn
     at-supply = (
       λ e. joins-decides ws m supply .1 (level-1 (joins ws m supply) (joins ws m ground) e),
       λ p. to-1 (joins ws m supply) (joins ws m ground) (joins-decides ws m supply .0 p),
     )
 
-    pub at-ground : (nodeLevel t values m ≡ at0) ↔ Joined ws m ground
-    unfolding nodeLevel
+    pub at-ground : (levelIn ws m ≡ at0) ↔ Joined ws m ground
+    unfolding levelIn
     at-ground = (
       λ e. joins-decides ws m ground .1 (level-0 (joins ws m supply) (joins ws m ground) e),
       λ p.
@@ -116,27 +116,27 @@ module _ (t : ModuleType) (acc : Accepted t) (values : ℕ → Value) where
       (λ m. opposed-leaks u v (ends .0 (closed-path-is-ends t acc values bridge .0 (mark-decides t values bridge .1 m))))
       (λ l. mark-decides t values bridge .0 (closed-path-is-ends t acc values bridge .1 (ends .1 (leaks-opposed u v l))))
 
-  pub nodes-leak : (a b : ℕ) → isMarked t values (nodes a b) ≡ leaks (nodeLevel t values a) (nodeLevel t values b)
+  pub nodes-leak : (a b : ℕ) → isMarked t values (nodes a b) ≡ leaks (levelIn ws a) (levelIn ws b)
   unfolding MarkedByEnds
-  nodes-leak a b = by-levels (nodes a b) (nodeLevel t values a) (nodeLevel t values b) (forth, back)
+  nodes-leak a b = by-levels (nodes a b) (levelIn ws a) (levelIn ws b) (forth, back)
     where
-      forth : MarkedByEnds t values (nodes a b) → Opposed (nodeLevel t values a) (nodeLevel t values b)
+      forth : MarkedByEnds t values (nodes a b) → Opposed (levelIn ws a) (levelIn ws b)
       forth (inl p) = inl (at-supply a .1 (p .0), at-ground b .1 (p .1))
       forth (inr p) = inr (at-ground a .1 (p .0), at-supply b .1 (p .1))
 
-      back : Opposed (nodeLevel t values a) (nodeLevel t values b) → MarkedByEnds t values (nodes a b)
+      back : Opposed (levelIn ws a) (levelIn ws b) → MarkedByEnds t values (nodes a b)
       back (inl p) = inl (at-supply a .0 (p .0), at-ground b .0 (p .1))
       back (inr p) = inr (at-ground a .0 (p .0), at-supply b .0 (p .1))
 
-  pub input-leaks : (m l : ℕ) → isMarked t values (input m l) ≡ leaks (nodeLevel t values m) (values l)
+  pub input-leaks : (m l : ℕ) → isMarked t values (input m l) ≡ leaks (levelIn ws m) (values l)
   unfolding MarkedByEnds
-  input-leaks m l = by-levels (input m l) (nodeLevel t values m) (values l) (forth, back)
+  input-leaks m l = by-levels (input m l) (levelIn ws m) (values l) (forth, back)
     where
-      forth : MarkedByEnds t values (input m l) → Opposed (nodeLevel t values m) (values l)
+      forth : MarkedByEnds t values (input m l) → Opposed (levelIn ws m) (values l)
       forth (inl p) = inr (at-ground m .1 (p .1), p .0)
       forth (inr p) = inl (at-supply m .1 (p .1), p .0)
 
-      back : Opposed (nodeLevel t values m) (values l) → MarkedByEnds t values (input m l)
+      back : Opposed (levelIn ws m) (values l) → MarkedByEnds t values (input m l)
       back (inl p) = inr (p .1, at-supply m .0 (p .0))
       back (inr p) = inl (p .1, at-ground m .0 (p .0))
 
@@ -160,12 +160,12 @@ module _ (c : Circuit) (good : CircuitGood c) (vector : List Value) where
     accepted = type-accepted type (type-good c good k h noInstance inst refl)
 
     -- a node of the instance at place k, whose number is one more
-    node-level : (m : ℕ) → carried c vector (nodeWire (suc k) (type .output) m) ≡ nodeLevel type values m
-    unfolding nodeWire carried numbered nodeLevel outputValue
+    node-level : (m : ℕ) → carried c vector (nodeWire (suc k) (type .output) m) ≡ levelIn (linksOf type values) m
+    unfolding nodeWire carried numbered
     node-level m = go (eqb m ground) refl (eqb m supply) refl (eqb m (type .output)) refl
       where
         go : (x : Bool) → eqb m ground ≡ x → (y : Bool) → eqb m supply ≡ y → (z : Bool) → eqb m (type .output) ≡ z
-            → carried c vector (cond x groundWire (cond y supplyWire (cond z (outputWire (suc k)) (innerWire (suc k) m)))) ≡ nodeLevel type values m
+            → carried c vector (cond x groundWire (cond y supplyWire (cond z (outputWire (suc k)) (innerWire (suc k) m)))) ≡ levelIn (linksOf type values) m
         go true p y q z r = rw (eqb-true m ground p) (sym (at-ground type accepted values ground .1 here))
         go false p true q z r = rw (eqb-true m supply q) (sym (at-supply type accepted values supply .1 here))
         go false p false q true r = rw (eqb-true m (type .output) r) (output-at c good vector noInstance k h)
@@ -192,7 +192,7 @@ module _ (c : Circuit) (good : CircuitGood c) (row : Row) (is-row : RowOf c row)
   unfolding at
   within = omega (arith, placed .low, placed .high)
 
-  pub row-node : (m : ℕ) → carried c vector (nodeWire (row .number) (row .type .output) m) ≡ nodeLevel (row .type) (rowValues c vector row) m
+  pub row-node : (m : ℕ) → carried c vector (nodeWire (row .number) (row .type .output) m) ≡ levelIn (linksOf (row .type) (rowValues c vector row)) m
   unfolding rowValues at
   row-node m =
       let next : row .number ≡ suc at = omega (arith, placed .low) in
@@ -209,12 +209,12 @@ module _ (c : Circuit) (good : CircuitGood c) (row : Row) (is-row : RowOf c row)
   unfolding at
   row-accepted = rw (placed .type-is, placed .instance-is) (accepted c good vector at within)
 
-  cell-is : cell c vector row ≡ leaks (carried c vector (wireOf row first-end)) (carried c vector (wireOf row second-end))
+  cell-is : cell c vector row ≡ leaks (carried c vector (wireOf row one-end)) (carried c vector (wireOf row other-end))
   unfolding cell wireAt
   cell-is = go (row .bridge)
     where
       go : (b : Bridge) → isMarked (row .type) (rowValues c vector row) b
-          ≡ leaks (carried c vector (wireAt row b first-end)) (carried c vector (wireAt row b second-end))
+          ≡ leaks (carried c vector (wireAt row b one-end)) (carried c vector (wireAt row b other-end))
       go (nodes a b) =
           nodes-leak (row .type) row-accepted (rowValues c vector row) a b ∙ ap₂ leaks (sym (row-node a)) (sym (row-node b))
       go (input m l) =

@@ -1,6 +1,6 @@
 -- 02, "One wire, one short": two rows are in one class exactly when their bridges join the same two wires, either way round, whichever
--- instances list them. 01, "Faults, marks and classes": classes are numbered from 1 at their first row; the search for a row's class stops at
--- the first earlier row that matches. A class is found when a row of it has a mark.
+-- instances list them. 01, "Faults, marks and classes": classes are numbered from 1 at their first row; the search for a row's class stops
+-- at the first earlier row that matches. A class is found when a row of it has a mark.
 use Prim.Native.Nat.{ℕ, suc, max}
 use mathlib.Core.Bool.{Bool, false, cond, _&&_, _||_}
 use mathlib.Core.List.{List, [], _∷_, _++_}
@@ -9,23 +9,25 @@ use lib.ListN.{length}
 use Rattle.words.specs.Bits.{ofBool, sumTo}
 use Rattle.circuit.specs.Circuit.{Circuit}
 use Rattle.grading.specs.Rows.{Row, rowsOf, markOf}
-use Rattle.grading.specs.Wires.{Wire, groundWire, supplyWire, inputWire, outputWire, innerWire, first-end, second-end, wireOf}
+use Rattle.grading.specs.Wires.{Wire, groundWire, supplyWire, inputWire, outputWire, innerWire, one-end, other-end, wireOf}
 
--- are two wires one: of one kind, with the same numbers
-unfoldable pub wireKind : Wire → ℕ
-wireKind groundWire = 0
-wireKind supplyWire = 1
-wireKind (inputWire n) = 2
-wireKind (outputWire n) = 3
-wireKind (innerWire n m) = 4
+-- of the five sorts of wires, which
+unfoldable pub wireSort : Wire → ℕ
+wireSort groundWire = 0
+wireSort supplyWire = 1
+wireSort (inputWire n) = 2
+wireSort (outputWire n) = 3
+wireSort (innerWire n m) = 4
 
-unfoldable pub wirePlace : Wire → ℕ
-wirePlace groundWire = 0
-wirePlace supplyWire = 0
-wirePlace (inputWire n) = n
-wirePlace (outputWire n) = n
-wirePlace (innerWire n m) = n
+-- the number of its input or of its instance, 0 for a rail
+unfoldable pub wireOwner : Wire → ℕ
+wireOwner groundWire = 0
+wireOwner supplyWire = 0
+wireOwner (inputWire n) = n
+wireOwner (outputWire n) = n
+wireOwner (innerWire n m) = n
 
+-- the number of its node, 0 where it has none
 unfoldable pub wireNode : Wire → ℕ
 wireNode groundWire = 0
 wireNode supplyWire = 0
@@ -33,15 +35,16 @@ wireNode (inputWire n) = 0
 wireNode (outputWire n) = 0
 wireNode (innerWire n m) = m
 
+-- are two wires one
 unfoldable pub sameWire : Wire → Wire → Bool
-sameWire v w = eqb (wireKind v) (wireKind w) && eqb (wirePlace v) (wirePlace w) && eqb (wireNode v) (wireNode w)
+sameWire v w = eqb (wireSort v) (wireSort w) && eqb (wireOwner v) (wireOwner w) && eqb (wireNode v) (wireNode w)
 
--- do two wires join what two others join, either way round
+-- are two pairs of wires the same, either way round
 unfoldable pub samePair : Wire → Wire → Wire → Wire → Bool
 samePair a b c d = sameWire a c && sameWire b d || sameWire a d && sameWire b c
 
 unfoldable pub sameClass : Row → Row → Bool
-sameClass r s = samePair (wireOf r first-end) (wireOf r second-end) (wireOf s first-end) (wireOf s second-end)
+sameClass r s = samePair (wireOf r one-end) (wireOf r other-end) (wireOf s one-end) (wireOf s other-end)
 
 -- ---- class numbers of any things, here called rows, by a test for one class
 

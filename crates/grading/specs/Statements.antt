@@ -1,5 +1,5 @@
--- The theorems on classes and on the promise that later crates rest on. Their proofs are in proofs/: SameClass, ClassNumbering and
--- PromiseLaws.
+-- The theorems on classes and on the promise that later crates rest on. Their proofs are in proofs/: WireLevels,
+-- SameClass, ClassNumbering and PromiseLaws.
 use Prim.Native.Nat.{ℕ, _≤_, _<_}
 use mathlib.Core.Path.{_≡_}
 use mathlib.Core.Bool.{Bool}
@@ -14,7 +14,7 @@ use Rattle.circuit.specs.Records.{circuitRecord}
 use Rattle.circuit.specs.Laws.{CircuitGood}
 use Rattle.grading.specs.Buffers.{Buffers}
 use Rattle.grading.specs.Rows.{Row, rowsOf, cell}
-use Rattle.grading.specs.Wires.{wireOf, first-end, second-end, carried, leaks}
+use Rattle.grading.specs.Wires.{wireOf, one-end, other-end, carried, leaks}
 use Rattle.grading.specs.Classes.{sameClass, largest, classesBy, classesOf}
 use Rattle.grading.specs.Promise.{Promise}
 use Rattle.grading.specs.CircuitPromise.{PromiseOfCircuit}
@@ -58,7 +58,7 @@ SameClassIsEquivalence = (P : Row → Type 0) → Equivalence P sameClass
 -- a cell is a function of what the two wires carry, and the same function from either end
 pub record CellsAreOfWires : Type 0 where
   pub cell-is : (c : Circuit) → CircuitGood c → (row : Row) → RowOf c row → (vector : List Value)
-      → cell c vector row ≡ leaks (carried c vector (wireOf row first-end)) (carried c vector (wireOf row second-end))
+      → cell c vector row ≡ leaks (carried c vector (wireOf row one-end)) (carried c vector (wireOf row other-end))
   pub either-way : (a b : Value) → leaks a b ≡ leaks b a
 
 -- so rows of one class have equal cells under every vector

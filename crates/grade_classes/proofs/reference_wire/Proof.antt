@@ -1,6 +1,6 @@
 -- `grade_classes::reference_wire` meets its contract. Assumes nothing.
 use borrow.Author.Needs.{needs}
-use Rattle.grade_classes.specs.Model.{referenceNumber}
+use Rattle.grade_classes.specs.Model.{wireNumber, referenceNumber}
 use Rattle.grade_classes.proofs.reference_wire.Statement.{statement}
 use Rattle.grade_classes.proofs.reference_wire.Tie as tie
 
@@ -11,7 +11,7 @@ add-result : tie.Need-add-result
 add-result c = search needs
 
 returns : tie.Need-returns
-unfolding referenceNumber
+unfolding referenceNumber wireNumber
 returns c = rw (c .before .if1 .taken)
 
 cast-result-2 : tie.Need-cast-result-2
@@ -21,7 +21,7 @@ add-result-2 : tie.Need-add-result-2
 add-result-2 c = search needs
 
 returns-2 : tie.Need-returns-2
-unfolding referenceNumber
+unfolding referenceNumber wireNumber
 returns-2 c = rw (c .before .if1 .left)
 
 pub reference-wire-spec : {M : Type 1} → statement M

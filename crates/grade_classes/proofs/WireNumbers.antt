@@ -73,14 +73,25 @@ number-back (inputWire n) fits =
     rw (ne-eqb (2 + n) 0 (omega arith), ne-eqb (2 + n) 1 (omega arith), lt-ltb (2 + n) 67 (omega (arith, fits)), e)
 number-back (outputWire n) fits =
     let e : 67 + n - 67 ≡ n = omega arith in
-    rw (ne-eqb (67 + n) 0 (omega arith), ne-eqb (67 + n) 1 (omega arith), le-ltb (67 + n) 67 (omega arith),
-      lt-ltb (67 + n) 256 (omega (arith, fits)), e)
+    rw (
+      ne-eqb (67 + n) 0 (omega arith),
+      ne-eqb (67 + n) 1 (omega arith),
+      le-ltb (67 + n) 67 (omega arith),
+      lt-ltb (67 + n) 256 (omega (arith, fits)),
+      e,
+    )
 number-back (innerWire n m) fits =
     let k : ℕ = 256 + (32 * n + m) in
     let high : (256 + (32 * n + m) - 256) / 32 ≡ n = omega (arith, fits .1) in
     let low : (256 + (32 * n + m) - 256) % 32 ≡ m = omega (arith, fits .1) in
-    rw (ne-eqb (256 + (32 * n + m)) 0 (omega arith), ne-eqb (256 + (32 * n + m)) 1 (omega arith), le-ltb (256 + (32 * n + m)) 67 (omega arith),
-      le-ltb (256 + (32 * n + m)) 256 (omega arith), high, low)
+    rw (
+      ne-eqb (256 + (32 * n + m)) 0 (omega arith),
+      ne-eqb (256 + (32 * n + m)) 1 (omega arith),
+      le-ltb (256 + (32 * n + m)) 67 (omega arith),
+      le-ltb (256 + (32 * n + m)) 256 (omega arith),
+      high,
+      low,
+    )
 
 -- below 8,192, so that two fit in one key
 pub number-few : (w : Wire) → WireFits w → wireNumber w < 8192

@@ -37,7 +37,7 @@ use Rattle.grading.specs.Rows.{Row, rowWith, rowsOfInstance, rowValues, cell, m
 use Rattle.grading.specs.Codes.{kindOf, firstEnd, secondEnd, codeOf}
 use Rattle.grading.proofs.CodeLaws.{code-kind, code-first, code-second}
 use Rattle.grading.proofs.MatrixLaws.{matrix-table}
-use Rattle.grading.proofs.SameClass.{in-first, in-second, or-cases}
+use Rattle.grading.proofs.OrTests.{in-first, in-second, or-cases}
 use Rattle.grading.proofs.Everywhere.{Every, every-append, every-at, every-table, every-join}
 use Rattle.grading.proofs.ValueLaws.{InstanceAt, type-ranges, type-accepted, good-at, type-at}
 use Rattle.grade_marks.specs.Model.{vectorAt, outputsAt, InstanceWords, pairWord, inputMarkWord, markWord, vectorsIn, rowsWords}

@@ -9,6 +9,7 @@ pub mod RowLaws
 pub mod MatrixLaws
 pub mod RowsPlaced
 pub mod SettledOutputs
+pub mod OrTests
 pub mod WireLaws
 pub mod WireLevels
 pub mod SameClass

@@ -1,27 +1,14 @@
 -- Wires: the test for one wire tells equal wires, and the test for one pair tells pairs that are equal either way round. Assumes nothing.
 use Prim.Native.Nat.{ℕ, zero, suc}
-use mathlib.Core.Path.{_≡_, refl, sym, ap, ap₂, _∙_}
-use mathlib.Core.Bool.{Bool, true, false, _&&_, _||_}
-use mathlib.Core.Logic.{_⊎_, inl, inr, ⊎-elim, _↔_}
+use mathlib.Core.Path.{_≡_, refl, sym, _∙_}
+use mathlib.Core.Bool.{_&&_}
+use mathlib.Core.Logic.{_⊎_, inl, inr, ⊎-elim}
 use lib.Dec.{T, eqb, eqb→eq, eqb-refl}
 use Rattle.switch.proofs.Paths.{both}
 use Rattle.switch.proofs.Deciding.{and-both}
 use Rattle.grading.specs.Wires.{Wire, groundWire, supplyWire, inputWire, outputWire, innerWire}
 use Rattle.grading.specs.Classes.{wireSort, wireOwner, wireNode, sameWire, samePair}
-
--- ---- tests joined by or
-
-pub in-first : (x y : Bool) → T x → T (x || y)
-in-first true y t = tt
-in-first false y t = absurd t
-
-pub in-second : (x y : Bool) → T y → T (x || y)
-in-second true y t = tt
-in-second false y t = t
-
-pub or-cases : (x y : Bool) → T (x || y) → T x ⊎ T y
-or-cases true y t = inl tt
-or-cases false y t = inr t
+use Rattle.grading.proofs.OrTests.{in-first, in-second, or-cases}
 
 -- ---- one wire
 

@@ -35,8 +35,7 @@ pair-key-requires c κs =
     let wired = c .before .before .before .before in
     let firsts = wired .before in
     let instances = firsts .before in
-    let seconds = c .before .before .before in
-    (
+    let seconds = c .before .before .before in (
       rw (wired .node-wire .ensures) (node-few _ _ _ (omega (arith, instances .instance-in .ensures)) (omega (arith, firsts .first-in .ensures))),
       rw (c .node-wire2 .ensures) (node-few _ _ _ (omega (arith, instances .instance-in .ensures)) (omega (arith, seconds .second-in .ensures))),
     )
@@ -76,8 +75,7 @@ pair-key-requires-2 : tie.Need-pair-key-requires-2
 pair-key-requires-2 c κs =
     let wired = c .before .before .before in
     let firsts = wired .before in
-    let few : Fits w16 (getD (firsts .before .before .args .t3) (c .before .before .second-in .result) 0) = search needs in
-    (
+    let few : Fits w16 (getD (firsts .before .before .args .t3) (c .before .before .second-in .result) 0) = search needs in (
       rw (wired .node-wire .ensures) (node-few _ _ _ (omega (arith, firsts .before .instance-in .ensures)) (omega (arith, firsts .first-in .ensures))),
       omega arith,
     )

@@ -1,9 +1,10 @@
 //! Grading an accepted circuit: the marks of each row under each vector, the
 //! classes, the counts, and refusals 15 and 22 for lent buffers that are short.
 
-use crate::circuit::{Bridge, Circuit, Kind, Value};
+use crate::circuit::{Bridge, Circuit, Value};
 use crate::conduction::{conducts_with, output_value, Graph};
 use crate::faults::faults_of;
+use crate::nets::{Nets, Point};
 use crate::read::read;
 use crate::refusal::{refuse_if, Refusal};
 
@@ -109,37 +110,22 @@ fn conduct(circuit: &Circuit, vector: &[Value]) -> Vec<Conducting> {
     conducting
 }
 
-fn is_same_class(circuit: &Circuit, a: &Row, b: &Row) -> bool {
-    if a.instance != b.instance || a.bridge.kind != b.bridge.kind {
-        return false;
-    }
-    let references = &circuit.instances[a.instance - 1].references;
-    let reference_of = |row: &Row| references[usize::from(row.bridge.second)];
-    match a.bridge.kind {
-        Kind::Nodes => {
-            let (first, second) = (b.bridge.first, b.bridge.second);
-            let ends = (a.bridge.first, a.bridge.second);
-            ends == (first, second) || ends == (second, first)
-        }
-        Kind::Label => a.bridge.first == b.bridge.first && reference_of(a) == reference_of(b),
-    }
-}
-
+/// Rows are one class when they join the same two nets.
 fn number_classes(circuit: &Circuit, rows: &mut [Row]) -> u16 {
+    let nets = Nets::of(circuit);
     let mut classes = 0;
-    for index in 0..rows.len() {
-        let (earlier, rest) = rows.split_at_mut(index);
-        let row = &mut rest[0];
-        let same = earlier
-            .iter()
-            .find(|other| is_same_class(circuit, other, row));
+    let mut earlier: Vec<([Point; 2], u16)> = Vec::new();
+    for row in rows {
+        let joined = nets.joined_by(row.instance, &row.bridge);
+        let same = earlier.iter().find(|(other, _)| *other == joined);
         row.class = match same {
-            Some(other) => other.class,
+            Some(&(_, class)) => class,
             None => {
                 classes += 1;
                 classes
             }
         };
+        earlier.push((joined, row.class));
     }
     classes
 }

@@ -13,6 +13,7 @@ pub mod format;
 pub mod grade;
 pub mod limits;
 pub mod make;
+pub mod nets;
 pub mod networks;
 pub mod random;
 pub mod read;

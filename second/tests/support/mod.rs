@@ -10,6 +10,7 @@ use second::refusal::Refusal;
 use second::samples::sample_files;
 
 pub mod nets;
+pub mod wires;
 
 /// Grading a file that is accepted.
 pub trait Accepted {

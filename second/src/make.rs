@@ -126,6 +126,22 @@ fn made_bridge(random: &mut Random, highest: u8, labels: u8) -> Bridge {
     }
 }
 
+/// A bridge from a rail to a label, to the output or to the other rail, which is a
+/// short that other instances may list too.
+fn rail_bridge(random: &mut Random, module: &ModuleType) -> Bridge {
+    let first = random.below(2) as u8;
+    let (kind, second) = match random.below(5) {
+        0 => (Kind::Nodes, 1 - first),
+        1 | 2 => (Kind::Nodes, module.output),
+        _ => (Kind::Label, random.below(usize::from(module.labels)) as u8),
+    };
+    Bridge {
+        kind,
+        first,
+        second,
+    }
+}
+
 /// The same bridge named from its other end, where it has one.
 fn from_other_end(bridge: Bridge) -> Bridge {
     match bridge.kind {
@@ -144,7 +160,11 @@ fn user_lists(random: &mut Random, types: &[ModuleType]) -> Vec<ListedBridge> {
         let list = random.between(1, usize::from(HIGHEST_LIST)) as u8;
         let module = &types[random.below(types.len())];
         for _ in 0..random.between(1, 12) {
-            let bridge = made_bridge(random, module.highest, module.labels);
+            let bridge = if random.one_in(3) {
+                rail_bridge(random, module)
+            } else {
+                made_bridge(random, module.highest, module.labels)
+            };
             bridges.push(ListedBridge { list, bridge });
             if random.one_in(3) {
                 let bridge = from_other_end(bridge);

@@ -1,6 +1,6 @@
 //! Files made by hand at every limit and one past it, around every range end, with
-//! types that fail under some settings only, and with faults that meet in one field,
-//! so that two programs can be compared there.
+//! types that fail under some settings only, with wires that many instances share,
+//! and with faults that meet in one field, so that two programs can be compared there.
 //! The numbers stand as in the paper and are not taken from the reader.
 
 use std::fmt::Display;
@@ -23,6 +23,7 @@ mod tags;
 mod type_numbers;
 mod types;
 mod vectors;
+mod wires;
 
 /// The name says what is in the file; it ends in `.cir`.
 fn named(name: impl Display, file: FileBuilder) -> NamedFile {
@@ -44,6 +45,7 @@ pub fn limit_files() -> Vec<NamedFile> {
         type_numbers::files(),
         choices::files(),
         references::files(),
+        wires::files(),
         vectors::files(),
         tags::files(),
         orders::files(),

@@ -182,6 +182,8 @@ const INSTANCES_AND_VECTORS: &[Expected] = &[
     ("reference-minus-128-in-instance-128", Some((10, 912))),
     ("references-12-for-k12", None),
     ("references-11-for-k12", Some((10, 23))),
+    ("wires-inverters-on-one-each", None),
+    ("wires-o31-all-in-instances-127-and-128", None),
     ("vector-byte-48", None),
     ("vector-byte-120", Some((7, 30))),
     ("vector-byte-88-last-of-64", None),

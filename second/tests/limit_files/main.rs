@@ -4,9 +4,11 @@
 mod expected;
 mod families;
 mod meetings;
+mod packings;
 mod settings;
 #[path = "../support/mod.rs"]
 mod support;
+mod wires;
 
 use std::collections::BTreeSet;
 
@@ -35,6 +37,6 @@ fn every_number_is_reached() {
         tally[usize::from(number)] += 1;
     }
     // As the README says.
-    assert_eq!((files.len(), tally[0]), (3_780, 682));
+    assert_eq!((files.len(), tally[0]), (3_849, 751));
     assert!(tally.iter().all(|&count| count >= 17), "{tally:?}");
 }

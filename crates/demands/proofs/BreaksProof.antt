@@ -23,16 +23,17 @@ use Rattle.grading.specs.Rows.{rowsOf, cell}
 use Rattle.grading.specs.Promise.{isGraded, countsOf}
 use Rattle.demands.specs.Calls.{Call, Refuses, cellAt, classAt}
 use Rattle.demands.specs.One.{bufferTests, testsFrom, tableOf, passed}
-use Rattle.demands.specs.Two.{vectorOf, rowAt, MatrixCell, AlikeButVectors, EqualBridges, OneClass, Found}
+use Rattle.demands.specs.Two.{vectorOf, rowAt, MatrixCell, AlikeButVectors, OneClass, Found}
 use Rattle.demands.specs.Three.{given, Refined}
-use Rattle.demands.specs.Files.{inverter, inverterUnder, inverterListed, nandListed, nandOfOne, oneListed, nand3Fields, splitRails}
+use Rattle.demands.specs.Files.{inverter, inverterUnder, inverterListed, nandListed, nandOfOne, oneListed, nand3Fields, splitRails, driverAndInput, twoNands}
 use Rattle.demands.specs.Graders.{Grader, called}
 use Rattle.demands.specs.Wrong.{marksAll, marksNever, leavesMatrix, firstWordOnly, inventsFound, sweepsOnce, onePlane}
 use Rattle.demands.specs.Wrong.{marksFloating, countsRows, spills, wraps, goesOn}
-use Rattle.demands.specs.Wrong.{isOne, watchesOutputs, holdsLevels, countsTwice, countsLabels, readsXAsZero}
+use Rattle.demands.specs.Wrong.{isOne, watchesOutputs, holdsLevels, countsTwice, countsLabels, readsXAsZero, keepsApart, mixesInner}
 use Rattle.demands.specs.Breaks.{MeetsCells, MeetsClasses, MeetsThree, MeetsThreeByPaths, MeetsFillings}
 use Rattle.demands.specs.Breaks.{BreakDemandOne, BreakDemandTwo, BreakDemandThree}
 use Rattle.demands.proofs.Cells.{cell-decides}
+use Rattle.demands.proofs.OneClass.{one-class-is-tested}
 use Rattle.demands.proofs.Computing.{blank}
 use Rattle.demands.proofs.WrongProof.{wrong-computing, many, lastOnly, listedTwice, ones, Differ, apart}
 
@@ -113,6 +114,18 @@ by-class grader file r s (grades, is-row, is-row-too, one, differ) meets =
     let tells = meets file blank (circuitOf file) (grades .0) (grades .1) in
     apart _ _ differ (tells .same r s (leb→le _ _ is-row) (leb→le _ _ is-row-too) .1 one)
 
+-- two rows that are not one class have one number
+abbrev ClassesMixed : Grader → List ℕ → ℕ → ℕ → Type 0
+ClassesMixed grader file r s =
+    Grades grader file × T (ltb r (length (rowsOf (circuitOf file)))) × T (ltb s (length (rowsOf (circuitOf file))))
+    × (OneClass (rowAt (circuitOf file) r) (rowAt (circuitOf file) s) → ⊥)
+    × (classAt (callFor grader file .after .classes) r ≡ classAt (callFor grader file .after .classes) s)
+
+by-mixed : (grader : Grader) (file : List ℕ) (r s : ℕ) → ClassesMixed grader file r s → MeetsClasses grader → ⊥
+by-mixed grader file r s (grades, is-row, is-row-too, two, same) meets =
+    let tells = meets file blank (circuitOf file) (grades .0) (grades .1) in
+    two (tells .same r s (leb→le _ _ is-row) (leb→le _ _ is-row-too) .0 same)
+
 -- ---- found counts, on one short whose rows, all of class 1, are marked or not
 
 -- under one vector, each row is of class 1, and is marked or not as `found` says; the found count is not that
@@ -187,9 +200,11 @@ record Cells : Type 0 where
   reads-x-as-zero : CellWrong readsXAsZero inverter 1 2
   counts-twice : ClassWrong countsTwice listedTwice 0 1
   counts-labels : ClassWrong countsLabels (nandOfOne ("0" ∷ [])) 6 7
+  keeps-apart : ClassWrong keepsApart (driverAndInput ("0" ∷ [])) 0 1
+  mixes-inner : ClassesMixed mixesInner (twoNands ("00" ∷ [])) 0 1
 
 cells : Cells
-unfolding wrong-computing toldBy isGraded cellAt classAt EqualBridges OneClass
+unfolding wrong-computing toldBy isGraded cellAt classAt OneClass
 cells = record {
   marks-all = ((refl, tt), tt, tt, refl);
   marks-never = ((refl, tt), tt, tt, refl);
@@ -204,8 +219,10 @@ cells = record {
   watches-outputs = ((refl, tt), tt, tt, refl);
   holds-levels = ((refl, tt), tt, tt, refl);
   reads-x-as-zero = ((refl, tt), tt, tt, refl);
-  counts-twice = ((refl, tt), tt, tt, (refl, inr (refl, refl)), refl);
-  counts-labels = ((refl, tt), tt, tt, (refl, (refl, λ none. refl)), refl);
+  counts-twice = ((refl, tt), tt, tt, inr (refl, refl), refl);
+  counts-labels = ((refl, tt), tt, tt, inl (refl, refl), refl);
+  keeps-apart = ((refl, tt), tt, tt, inl (refl, refl), refl);
+  mixes-inner = ((refl, tt), tt, tt, λ one. one-class-is-tested (rowAt (circuitOf (twoNands ("00" ∷ []))) 0) (rowAt (circuitOf (twoNands ("00" ∷ []))) 1) .0 one, refl);
 }
 
 -- one row that X does not mark
@@ -257,6 +274,8 @@ break-demand-two = record {
   counts-rows = by-found _ _ _ found-rows;
   counts-twice = by-class _ _ _ _ (cells .counts-twice);
   counts-labels = by-class _ _ _ _ (cells .counts-labels);
+  keeps-apart = by-class _ _ _ _ (cells .keeps-apart);
+  mixes-inner = by-mixed _ _ _ _ (cells .mixes-inner);
 }
 
 -- ---- demand 3

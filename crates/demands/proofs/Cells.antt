@@ -27,14 +27,14 @@ use Rattle.grading.specs.Rows.{Row, noRow, rowsOf, rowValues, CellMarked, markO
 use Rattle.grading.specs.Grading.{over}
 use Rattle.grading.proofs.Everywhere.{every-at}
 use Rattle.grade_classes.proofs.FoundMeaning.{words-are}
-use Rattle.grading.proofs.SameClass.{Placed, rows-placed}
-use Rattle.grading.proofs.ValueLaws.{type-good, type-accepted}
+use Rattle.grading.proofs.WireLevels.{row-accepted as type-accepted}
 use Rattle.demands.specs.Calls.{Call, cellAt}
 use Rattle.demands.specs.Two.{rowAt, vectorOf, MatrixCell, rowOfCell, vectorOfCell, markIn, valuesIn, CellsTell, CellIsPath}
 use Rattle.demands.proofs.Gave.{Gave, gave}
+use Rattle.demands.proofs.RowFaults.{row-of}
 
 module _ (call : Call) (c : Circuit) (here : Gave call c) (r v : ℕ) (h : r < length (rowsOf c)) where
-  marks : v < 256 → cellAt (call .after .matrix) r v ≡ upTo (length (c .vectors)) (markOf c (rowAt c r)) v
+  pub marks : v < 256 → cellAt (call .after .matrix) r v ≡ upTo (length (c .vectors)) (markOf c (rowAt c r)) v
   unfolding cellAt matrixOf over rowWords markAt markOf
   marks k =
       rw (here .matrix-is, words-are c (rowsOf c) (drop (length (matrixOf c)) (call .before .matrix)) r (v / 64) noRow h (omega arith))
@@ -50,7 +50,7 @@ module _ (call : Call) (c : Circuit) (here : Gave call c) (r v : ℕ) (h : r < l
 
 -- a bit that tells a test which decides a fact
 module _ {A : Type 0} (b : Bool) (decides : A ↔ T b) (n : ℕ) (is : n ≡ ofBool b) where
-  says : (n ≡ 1) ↔ A
+  pub says : (n ≡ 1) ↔ A
   says = (λ e. decides .1 (set-bit b (sym is ∙ e)), λ a. is ∙ bit-set b (decides .0 a))
 
   denies : (n ≡ 0) ↔ (A → ⊥)
@@ -69,13 +69,7 @@ cell-decides c vector row = mark-decides (row .type) (rowValues c vector row) (r
 
 -- the type of a row of a good circuit
 row-accepted : (c : Circuit) → CircuitGood c → (r : ℕ) → r < length (rowsOf c) → Accepted (rowAt c r .type)
-unfolding rowsOf
-row-accepted c good r h =
-    let row = rowAt c r in
-    let none = noRow .instance in
-    let at = every-at (Placed (c .types) 1 (c .instances) none) (rowsOf c) (rows-placed (c .types) (c .bridges) none 1 (c .instances)) r noRow h in
-    rw (at .type-is) (type-accepted (typeOfInstance (c .types) (row .instance))
-    (type-good c good (row .number - 1) (omega arith) none (row .instance) (sym (at .instance-is))))
+row-accepted c good r h = type-accepted c good (rowAt c r) (row-of c r h)
 
 module _ (call : Call) (c : Circuit) (here : Gave call c) (cell : MatrixCell c) where
   is-mark : markIn call cell ≡ markOf c (rowOfCell cell) (cell .vector)

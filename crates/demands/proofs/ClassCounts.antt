@@ -60,14 +60,11 @@ module _ (call : Call) (c : Circuit) (g : Gave call c) where
   unfolding foundCount foundBy
   found-sum = refl
 
-  is-row : (r : ℕ) → r < length (rowsOf c) → RowOf c (rowAt c r)
-  is-row r h = every-at (RowOf c) (rowsOf c) (λ row m. m) r noRow h
-
   same : (r s : ℕ) → r < length (rowsOf c) → s < length (rowsOf c)
       → (getD (classesOf (rowsOf c)) r 0 ≡ getD (classesOf (rowsOf c)) s 0) ↔ OneClass (rowAt c r) (rowAt c s)
   same r s h k =
       let numbers = class-numbers c .same r s noRow h k in
-      let tested = one-class-is-tested c (g .good) (rowAt c r) (rowAt c s) (is-row r h) (is-row s k) in
+      let tested = one-class-is-tested (rowAt c r) (rowAt c s) in
       (λ e. tested .1 (numbers .0 e), λ o. numbers .1 (tested .0 o))
 
   pub classes-tell : ClassesTell call c

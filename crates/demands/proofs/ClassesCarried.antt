@@ -12,6 +12,7 @@ use Rattle.words.specs.Bits.{ofBool, sumTo}
 use Rattle.words.proofs.Laws.{ofBool-le-one, set-bit, bit-set}
 use Rattle.words.proofs.Sums.{sum-into, sum-ones}
 use Rattle.circuit.specs.Circuit.{Circuit}
+use Rattle.circuit.specs.Laws.{CircuitGood}
 use Rattle.grading.specs.Rows.{Row, noRow, rowsOf, markOf}
 use Rattle.grading.specs.Classes.{sameClass, largest, classesBy, classesOf, classFound, foundBy, classCount, foundCount}
 use Rattle.grading.specs.Statements.{Equivalence, NumbersTell, RowOf}
@@ -124,38 +125,35 @@ module _ {A : Type 0} (P : A → Type 0) (test : A → A → Bool) (laws : Equiv
 
 -- ---- two circuits
 
-same-marks : (c : Circuit) (one other : Row) → RowOf c one → RowOf c other → T (sameClass one other)
+same-marks : (c : Circuit) → CircuitGood c → (one other : Row) → RowOf c one → RowOf c other → T (sameClass one other)
     → (v : ℕ) → markOf c one v ≡ markOf c other v
 unfolding markOf
-same-marks c one other p q t v = ap ofBool (classes-have-equal-marks c one other p q t (getD (c .vectors) v []))
+same-marks c good one other p q t v = ap ofBool (classes-have-equal-marks c good one other p q t (getD (c .vectors) v []))
 
--- `all` has the rows of both. Each row of c has a row of d in its class. A mark of c is one of `all`, and a mark of `all` in a row of d is
--- one of d
-pub record Carries (c all d : Circuit) : Type 0 where
-  pub rows-in : (row : Row) → RowOf c row → RowOf all row
-  pub rows-out : (row : Row) → RowOf d row → RowOf all row
+-- each row of c has a row of d in its class, and a mark of c is one of d in every row of its class
+pub record Carries (c d : Circuit) : Type 0 where
   pub partner : (row : Row) → RowOf c row → (other : Row) × RowOf d other × T (sameClass row other)
   pub no-fewer : length (c .vectors) ≤ length (d .vectors)
-  pub marks-in : (row : Row) (v : ℕ) → RowOf c row → v < length (c .vectors) → markOf c row v ≡ 1 → markOf all row v ≡ 1
-  pub marks-out : (row : Row) (v : ℕ) → RowOf d row → v < length (c .vectors) → markOf all row v ≡ 1 → markOf d row v ≡ 1
+  pub marks-go : (row other : Row) → RowOf c row → RowOf d other → T (sameClass row other)
+      → (v : ℕ) → v < length (c .vectors) → markOf c row v ≡ 1 → markOf d other v ≡ 1
 
 -- where d has the rows of c and its marks in them
-pub carries-within : (c d : Circuit) → ((row : Row) → RowOf c row → RowOf d row) → length (c .vectors) ≤ length (d .vectors)
-    → ((row : Row) (v : ℕ) → RowOf c row → v < length (c .vectors) → markOf c row v ≡ 1 → markOf d row v ≡ 1) → Carries c d d
-carries-within c d rows no-fewer marks = record {
-  rows-in = rows;
-  rows-out = λ row m. m;
-  partner = λ row m. (row, rows row m, same-class-is-equivalence d .itself row (rows row m));
+pub carries-within : (c d : Circuit) → CircuitGood d → ((row : Row) → RowOf c row → RowOf d row) → length (c .vectors) ≤ length (d .vectors)
+    → ((row : Row) (v : ℕ) → RowOf c row → v < length (c .vectors) → markOf c row v ≡ 1 → markOf d row v ≡ 1) → Carries c d
+carries-within c d good rows no-fewer marks = record {
+  partner = λ row m. (row, rows row m, same-class-is-equivalence (RowOf d) .itself row (rows row m));
   no-fewer = no-fewer;
-  marks-in = marks;
-  marks-out = λ row v m h e. e;
+  marks-go = λ row other m k t v h e. sym (same-marks d good row other (rows row m) k t v) ∙ marks row v m h e;
 }
 
-module _ (c all d : Circuit) (carries : Carries c all d) where
+abbrev AnyRow : Row → Type 0
+AnyRow row = Unit {0}
+
+module _ (c d : Circuit) (carries : Carries c d) where
   pub classes-carried : classCount c ≤ classCount d
   classes-carried =
-      count-carried (RowOf all) sameClass (same-class-is-equivalence all) noRow (rowsOf c) (rowsOf d)
-      (carries .rows-in) (carries .rows-out) (carries .partner)
+      count-carried AnyRow sameClass (same-class-is-equivalence AnyRow) noRow (rowsOf c) (rowsOf d)
+      (λ row m. tt) (λ row m. tt) (carries .partner)
 
   abbrev rowOf : Circuit → ℕ → Row
   rowOf e r = getD (rowsOf e) r noRow
@@ -165,19 +163,14 @@ module _ (c all d : Circuit) (carries : Carries c all d) where
 
   abbrev Lands : ℕ → Type 0
   Lands r =
-      Landing (RowOf all) sameClass (same-class-is-equivalence all) noRow (rowsOf c) (rowsOf d)
-      (carries .rows-in) (carries .rows-out) (carries .partner) r
+      Landing AnyRow sameClass (same-class-is-equivalence AnyRow) noRow (rowsOf c) (rowsOf d)
+      (λ row m. tt) (λ row m. tt) (carries .partner) r
 
   -- a mark goes along
   mark-carried : (r v : ℕ) (landed : Lands r) → r < length (rowsOf c) → v < length (c .vectors) → markOf c (rowOf c r) v ≡ 1
       → markOf d (rowOf d (landed .row)) v ≡ 1
   mark-carried r v landed h k e =
-      let s : ℕ = landed .row in
-      let in-d : RowOf d (rowOf d s) = row-of d s (landed .is-row) in
-      let in-c : RowOf c (rowOf c r) = row-of c r h in
-      carries .marks-out (rowOf d s) v in-d k
-      (sym (same-marks all (rowOf c r) (rowOf d s) (carries .rows-in (rowOf c r) in-c) (carries .rows-out (rowOf d s) in-d) (landed .like) v)
-      ∙ carries .marks-in (rowOf c r) v in-c k e)
+      carries .marks-go (rowOf c r) (rowOf d (landed .row)) (row-of c r h) (row-of d (landed .row) (landed .is-row)) (landed .like) v k e
 
   abbrev foundAt : Circuit → ℕ → ℕ
   foundAt e n = ofBool (classFound e (suc n) (rowsOf e) (classesOf (rowsOf e)))
@@ -185,8 +178,8 @@ module _ (c all d : Circuit) (carries : Carries c all d) where
   pub found-carried : foundCount c ≤ foundCount d
   unfolding foundCount foundBy
   found-carried =
-      sum-carried (RowOf all) sameClass (same-class-is-equivalence all) noRow (rowsOf c) (rowsOf d)
-      (carries .rows-in) (carries .rows-out) (carries .partner) (foundAt c) (foundAt d)
+      sum-carried AnyRow sameClass (same-class-is-equivalence AnyRow) noRow (rowsOf c) (rowsOf d)
+      (λ row m. tt) (λ row m. tt) (carries .partner) (foundAt c) (foundAt d)
       (λ i. ofBool-le-one (classFound c (suc i) (rowsOf c) (classesOf (rowsOf c)))) found-goes
     where
       found-goes : (i : ℕ) → i < classCount c → foundAt c i ≡ 1

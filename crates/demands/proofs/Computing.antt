@@ -7,8 +7,7 @@ use Rattle.words.specs.Rows.{rowOf}
 use Rattle.switch.specs.Conduction.{between, pEnds, nEnd, nEnds, badEnds, channelOf, transistorOn, anyOf, edgeOn, links}
 use Rattle.switch.specs.Modules.{allOf, typeInRange, edgeInRange, linksOf, valueOfBit, settingOf}
 use Rattle.switch.specs.Bridges.{toLabel, closing}
-use Rattle.switch.specs.Deciding as deciding
-use Rattle.switch.specs.Deciding.{rename, partIn, renamings, joins, allBelow, oneRail, isComplementary, isMarked}
+use Rattle.switch.specs.Deciding.{rename, partIn, renamings, joins, allBelow, oneRail, isComplementary, levelIn, isMarked}
 use Rattle.circuit.specs.Fields.{twoBytes, cutIn, cutFrom}
 use Rattle.circuit.specs.Circuit.{numbered, joinLists, nodePairs, nodeInputs, exhaustiveList, exhaustiveSize, userList, chosen, chosenSize, faultsOf, faultCount}
 use Rattle.circuit.specs.Numbers.{signed, choiceOf, choiceInRange, referenceOf, referenceGood}
@@ -20,7 +19,8 @@ use Rattle.circuit.specs.Reading.{unless, readFrom, readingWith}
 use Rattle.grading.specs.Buffers.{Buffers, buffersOf}
 use Rattle.grading.specs.Values.{valueAt, labelValues, outputsAfter, outputsOf}
 use Rattle.grading.specs.Rows.{rowsOfInstance, rowsFrom, rowsOf, rowValues, cell, markOf, rowWords, matrixOf}
-use Rattle.grading.specs.Classes.{sameReference, sameLabel, sameBridge, sameClass, classAmongBy, largest, classesAfterBy, classesBy, hasMarkBy, classFoundBy, foundBy, foundCount}
+use Rattle.grading.specs.Wires.{nodeWire, referenceWire, labelWire, wireAt, carried, leaks}
+use Rattle.grading.specs.Classes.{wireSort, wireOwner, wireNode, sameWire, samePair, sameClass, classAmongBy, largest, classesAfterBy, classesBy, hasMarkBy, classFoundBy, foundBy, foundCount}
 use Rattle.grading.specs.Grading.{countsOfCircuit, gradingOfCircuit, afterReading, gradingOf, countsIn, numberIn, placeIn, over, buffersAfter}
 use Rattle.grading.specs.Promise as promise
 use Rattle.circuit.specs.Refusals.{refusalNumber}
@@ -30,14 +30,14 @@ use Rattle.demands.specs.Graders.{refusalOf, refusing, outcomeOf, grades
 unfoldable pub computing : Unit {0}
 unfolding bit pack word sumTo table upTo rowOf choiceByte
     between pEnds nEnd nEnds badEnds channelOf transistorOn anyOf edgeOn links allOf typeInRange edgeInRange linksOf valueOfBit settingOf
-    toLabel closing rename partIn renamings joins allBelow oneRail isComplementary deciding.outputValue isMarked
+    toLabel closing rename partIn renamings joins allBelow oneRail isComplementary levelIn isMarked
     twoBytes cutIn cutFrom numbered joinLists nodePairs nodeInputs exhaustiveList exhaustiveSize userList chosen chosenSize faultsOf faultCount
     signed choiceOf choiceInRange referenceOf referenceGood
     tagOf isKind mayFollow typeIn edgeIn bridgeOf listedIn referencesIn instanceIn letterOf vectorIn latest withEdge edgeAdded taken typeAtAfter knownAfter
     firstOf unjudged notComplementary bridgeGood listedGood bridgeInRange bridgeSuits isEmpty listUnsuited listEmpty isLetter
     inputsTests typeTests edgeTestsOf edgeTests bridgeTests instanceTests instanceTestsOf vectorTests bodyTests fieldTests endTests
     unless readFrom readingWith valueAt labelValues outputsAfter outputsOf rowsOfInstance rowsFrom rowsOf rowValues cell markOf rowWords matrixOf
-    sameReference sameLabel sameBridge sameClass classAmongBy largest classesAfterBy classesBy hasMarkBy classFoundBy foundBy foundCount
+    nodeWire referenceWire labelWire wireAt carried leaks wireSort wireOwner wireNode sameWire samePair sameClass classAmongBy largest classesAfterBy classesBy hasMarkBy classFoundBy foundBy foundCount
     countsOfCircuit gradingOfCircuit afterReading gradingOf countsIn numberIn placeIn over buffersAfter
 computing = tt
 

@@ -17,7 +17,7 @@ use Rattle.grading.specs.Rows.{Row, noRow, rowsOf, markOf}
 use Rattle.grading.specs.Classes.{classesOf, hasMarkBy, hasMark, classFoundBy, classFound}
 use Rattle.grading.proofs.ClassNumbering.{class-numbers}
 use Rattle.grading.proofs.FoundLaws.{mark-le-one, found-by}
-use Rattle.grading.proofs.SameClass.{or-cases}
+use Rattle.grading.proofs.OrTests.{or-cases}
 
 -- ---- a row's marks
 

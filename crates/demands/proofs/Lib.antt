@@ -2,6 +2,7 @@
 -- computation unfolds.
 --   demand 1      Verdicts, GradingVerdicts, OneProof, Outcomes, RightProof
 --   demand 2      SettledValues, Cells, Floating, Columns, RowFaults, OneClass, FoundClasses, ClassCounts, ClassesCarried, NamedAgain
+--   wires         WireTies, OneWireProof, AlikeLists, ShortsCounted
 --   demand 3      Refining, RefinedMarks, NoConverseProof
 --   of two files  WholeFields, AlikeFilesProof, FileSplits, OtherVectors, Fillings, AlikeFilesExamples
 --   one outcome   CellsAgree, ClassesAgree, Determines
@@ -23,7 +24,11 @@ pub mod OneClass
 pub mod FoundClasses
 pub mod ClassCounts
 pub mod ClassesCarried
+pub mod AlikeLists
+pub mod ShortsCounted
 pub mod NamedAgain
+pub mod WireTies
+pub mod OneWireProof
 pub mod Refining
 pub mod RefinedMarks
 pub mod WholeFields

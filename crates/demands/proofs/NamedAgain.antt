@@ -1,28 +1,27 @@
--- Proves NamingAgainAddsNothing and OtherEndAddsNothing, of demand 2: a bridge named once more adds no class and no found class. Each row
--- of either circuit has a row of the other in its class, so the law of ClassesCarried holds both ways.
-use Prim.Native.Nat.{ℕ}
-use mathlib.Core.Path.{_≡_, refl, sym, ap, _∙_}
+-- Proves NamingAgainAddsNothing and OtherEndAddsNothing, of demand 2: a bridge named once more adds no class and no found class, since both circuits list
+-- the same shorts.
+use Prim.Native.Nat.{ℕ, zero, suc, _+_, _-_, _<_, _≤_}
+use mathlib.Core.Path.{_≡_, refl, sym, ap, ap₂, subst, _∙_}
 use mathlib.Core.Bool.{Bool, true, false, cond}
-use mathlib.Core.Logic.{inr, ⊎-elim}
+use mathlib.Core.Logic.{_⊎_, inl, inr, ⊎-elim}
 use mathlib.Core.List.{List, [], _∷_, _++_, List·Memᴰ, List·Memᴰ·head, List·Memᴰ·tail, List·Memᴰ·not-nil, List·Memᴰ·cases-cons}
 use mathlib.Core.List.{List·Memᴰ·append-cases, Memᴰ·append-left, Memᴰ·append-right}
 use native.Mathlib.Omega.{arith}
 use borrow.Author.Tests.{eq-eqb, eqb-true}
-use lib.Dec.{T, eqb, eqb-refl}
-use lib.ListN.{length}
+use lib.Dec.{eqb}
+use lib.ListN.{length, getD}
 use Rattle.switch.specs.Modules.{ModuleType}
 use Rattle.switch.specs.Bridges.{Bridge, nodes}
-use Rattle.switch.proofs.Deciding.{and-both}
 use Rattle.circuit.specs.Circuit.{Circuit, Instance, Listed, Choice, exhaustive, no-faults, list}
-use Rattle.circuit.specs.Circuit.{typeOfInstance, userList, chosen, faultsOf}
-use Rattle.grading.specs.Rows.{Row, rowsFrom, rowsOf, rowValues, cell, markOf}
-use Rattle.grading.specs.Classes.{sameBridge, sameClass}
+use Rattle.circuit.specs.Circuit.{numbered, typeOfInstance, userList, chosen, faultsOf}
+use Rattle.grading.specs.Rows.{Row, rowWith, noInstance, noRow, rowsFrom, rowsOf}
+use Rattle.grading.specs.Wires.{wireAt}
 use Rattle.grading.specs.Statements.{RowOf}
-use Rattle.demands.specs.Two.{EqualBridges, NamedAgain, NamingAgainAddsNothing, OtherEndAddsNothing}
-use Rattle.demands.proofs.RowFaults.{withBridge, rows-from}
-use Rattle.demands.proofs.OneClass.{equal-itself, equal-turned, equal-tested}
-use Rattle.demands.proofs.Gave.{gave, classes-counted, found-counted}
-use Rattle.demands.proofs.ClassesCarried.{Carries, carries-within, classes-carried, found-carried}
+use Rattle.grading.proofs.Everywhere.{place-of}
+use Rattle.demands.specs.Two.{rowAt, instanceOf, OneClass, OneBridgeMore, NamedAgain, NamingAgainAddsNothing, OtherEndAddsNothing}
+use Rattle.demands.specs.OneWire.{AlikeButLists, ShortsAmong}
+use Rattle.demands.proofs.RowFaults.{row-of, row-number, row-instance, row-type, rows-from, fault-row}
+use Rattle.demands.proofs.ShortsCounted.{same-shorts-count-alike}
 
 -- ---- user lists
 
@@ -58,146 +57,171 @@ in-list l b (x ∷ xs) m = ⊎-elim here (λ k. later (eqb (x .list) l) (in-list
 
 -- ---- the two circuits
 
-module _ (c d : Circuit) (again : NamedAgain c d) where
+-- a row of a circuit that joins the same two wires
+abbrev PartnerIn : Circuit → Row → Type 0
+PartnerIn c row = (r : ℕ) × (r < length (rowsOf c)) × OneClass row (rowAt c r)
+
+one-class-itself : (row : Row) → OneClass row row
+unfolding OneClass
+one-class-itself row = inl (refl, refl)
+
+itself : (c : Circuit) (row : Row) → RowOf c row → PartnerIn c row
+itself c row m =
+    let place = place-of noRow m in
+    (place .0, place .1, subst (OneClass row) (sym (place .2)) (one-class-itself row))
+
+module _ (c d : Circuit) (again : Bridge) (more : OneBridgeMore c d again) where
   abbrev extra : Listed
-  extra = listedAs (again .more .number) (again .again)
+  extra = listedAs (more .number) again
 
   abbrev fewer : List Listed
-  fewer = again .more .before ++ again .more .after
+  fewer = more .before ++ more .after
 
-  abbrev more : List Listed
-  more = again .more .before ++ (extra ∷ again .more .after)
+  abbrev longer : List Listed
+  longer = more .before ++ (extra ∷ more .after)
 
   rows-fewer : rowsOf c ≡ rowsFrom (d .types) fewer 1 (d .instances)
   unfolding rowsOf
-  rows-fewer = rw (again .more .types, again .more .instances, again .more .bridges)
+  rows-fewer = rw (more .types, more .instances, more .bridges)
 
-  rows-more : rowsOf d ≡ rowsFrom (d .types) more 1 (d .instances)
+  rows-more : rowsOf d ≡ rowsFrom (d .types) longer 1 (d .instances)
   unfolding rowsOf
-  rows-more = rw (again .more .named-again)
+  rows-more = rw (more .named-again)
 
-  listed-more : (l : ℕ) (b : Bridge) → List·Memᴰ (listedAs l b) fewer → List·Memᴰ (listedAs l b) more
-  listed-more l b m =
+  alike : AlikeButLists c d
+  alike = record {
+    inputs = more .inputs;
+    types = more .types;
+    vectors = more .vectors;
+    as-many = ap length (more .instances);
+    modules = λ n. ap (λ (is : List Instance). numbered is n noInstance .type) (more .instances);
+    references = λ n. ap (λ (is : List Instance). numbered is n noInstance .references) (more .instances);
+  }
+
+  listed-longer : (l : ℕ) (b : Bridge) → List·Memᴰ (listedAs l b) fewer → List·Memᴰ (listedAs l b) longer
+  listed-longer l b m =
       ⊎-elim
-      (λ k. Memᴰ·append-left (extra ∷ again .more .after) k)
-      (λ k. Memᴰ·append-right (again .more .before) (List·Memᴰ·tail k))
-      (List·Memᴰ·append-cases (again .more .before) m)
+      (λ k. Memᴰ·append-left (extra ∷ more .after) k)
+      (λ k. Memᴰ·append-right (more .before) (List·Memᴰ·tail k))
+      (List·Memᴰ·append-cases (more .before) m)
 
-  module _ (i : Instance) (is-one : List·Memᴰ i (d .instances)) where
-    -- a bridge of i's list that is equal to b
-    abbrev EqualIn : List Bridge → Bridge → Type 0
-    EqualIn faults b = (e : Bridge) × List·Memᴰ e faults × T (sameBridge i b e)
+  -- the bridge named again, of a list that an instance chose
+  abbrev IsAgain : Instance → Bridge → Type 0
+  IsAgain i b = (b ≡ again) × (i .choice ≡ list (more .number))
 
-    itself : (b : Bridge) → T (sameBridge i b b)
-    itself b = equal-tested i b b (equal-itself i b)
+  listed-fewer : (i : Instance) (l : ℕ) (b : Bridge) → i .choice ≡ list l → List·Memᴰ (listedAs l b) longer
+      → List·Memᴰ (listedAs l b) fewer ⊎ IsAgain i b
+  listed-fewer i l b chose m =
+      ⊎-elim
+      (λ k. inl (Memᴰ·append-left (more .after) k))
+      (λ k. ⊎-elim named (λ n. inl (Memᴰ·append-right (more .before) n)) (List·Memᴰ·cases-cons k))
+      (List·Memᴰ·append-cases (more .before) m)
+    where
+      named : listedAs l b ≡ extra → List·Memᴰ (listedAs l b) fewer ⊎ IsAgain i b
+      named e = inr (ap (λ (y : Listed). y .bridge) e, chose ∙ ap list (ap (λ (y : Listed). y .list) e))
 
-    listed-fewer : (l : ℕ) (b : Bridge) → i .choice ≡ list l → List·Memᴰ (listedAs l b) more → EqualIn (userList l fewer) b
-    listed-fewer l b chose m =
-        ⊎-elim
-        (λ k. kept (Memᴰ·append-left (again .more .after) k))
-        (λ k. ⊎-elim named kept′ (List·Memᴰ·cases-cons k))
-        (List·Memᴰ·append-cases (again .more .before) m)
-      where
-        kept : List·Memᴰ (listedAs l b) fewer → EqualIn (userList l fewer) b
-        kept k = (b, in-list l b fewer k, itself b)
+  module _ (i : Instance) (b : Bridge) where
+    abbrev t : ModuleType
+    t = typeOfInstance (d .types) i
 
-        kept′ : List·Memᴰ (listedAs l b) (again .more .after) → EqualIn (userList l fewer) b
-        kept′ k = kept (Memᴰ·append-right (again .more .before) k)
-
-        named : listedAs l b ≡ extra → EqualIn (userList l fewer) b
-        named e =
-            let list-is : l ≡ again .more .number = ap (λ (y : Listed). y .list) e in
-            let bridge-is : b ≡ again .again = ap (λ (y : Listed). y .bridge) e in
-            let equal : EqualBridges i (again .named) (again .again) =
-            again .equal i (rw (again .more .instances) is-one) (chose ∙ ap list list-is) in (
-              again .named,
-              in-list l (again .named) fewer (rw list-is (again .more .is-named)),
-              rw bridge-is (equal-tested i (again .again) (again .named) (equal-turned i (again .named) (again .again) equal)),
-            )
-
-    fault-more : (b : Bridge) → List·Memᴰ b (faultsOf (d .types) fewer i) → List·Memᴰ b (faultsOf (d .types) more i)
+    fault-more : List·Memᴰ b (faultsOf (d .types) fewer i) → List·Memᴰ b (faultsOf (d .types) longer i)
     unfolding faultsOf chosen
-    fault-more b = go (i .choice)
+    fault-more = go (i .choice)
       where
-        t : ModuleType
-        t = typeOfInstance (d .types) i
-
-        go : (choice : Choice) → List·Memᴰ b (chosen t fewer choice) → List·Memᴰ b (chosen t more choice)
+        go : (choice : Choice) → List·Memᴰ b (chosen t fewer choice) → List·Memᴰ b (chosen t longer choice)
         go exhaustive m = m
         go no-faults m = m
-        go (list l) m = in-list l b more (listed-more l b (listed l b fewer m))
+        go (list l) m = in-list l b longer (listed-longer l b (listed l b fewer m))
 
-    fault-fewer : (b : Bridge) → List·Memᴰ b (faultsOf (d .types) more i) → EqualIn (faultsOf (d .types) fewer i) b
+    fault-fewer : List·Memᴰ b (faultsOf (d .types) longer i) → List·Memᴰ b (faultsOf (d .types) fewer i) ⊎ IsAgain i b
     unfolding faultsOf chosen
-    fault-fewer b = go (i .choice) refl
+    fault-fewer = go (i .choice) refl
       where
-        t : ModuleType
-        t = typeOfInstance (d .types) i
-
-        go : (choice : Choice) → i .choice ≡ choice → List·Memᴰ b (chosen t more choice) → EqualIn (chosen t fewer choice) b
-        go exhaustive chose m = (b, m, itself b)
-        go no-faults chose m = (b, m, itself b)
-        go (list l) chose m = listed-fewer l b chose (listed l b more m)
+        go : (choice : Choice) → i .choice ≡ choice → List·Memᴰ b (chosen t longer choice) → List·Memᴰ b (chosen t fewer choice) ⊎ IsAgain i b
+        go exhaustive chose m = inl m
+        go no-faults chose m = inl m
+        go (list l) chose m =
+            ⊎-elim (λ k. inl (in-list l b fewer k)) (λ k. inr k) (listed-fewer i l b chose (listed l b longer m))
 
   row-more : (row : Row) → RowOf c row → RowOf d row
   row-more row m =
       let from = rows-from (d .types) fewer 1 (d .instances) row (rw rows-fewer at m) in
-      rw rows-more (from .others more (row .bridge) (fault-more (row .instance) (from .of-instance) (row .bridge) (from .fault)))
+      rw rows-more (from .others longer (row .bridge) (fault-more (row .instance) (row .bridge) (from .fault)))
 
-  row-fewer : (row : Row) → RowOf d row → (other : Row) × RowOf c other × T (sameClass row other)
-  unfolding sameClass
+  row-fewer : (row : Row) → RowOf d row → RowOf c row ⊎ IsAgain (row .instance) (row .bridge)
   row-fewer row m =
-      let from = rows-from (d .types) more 1 (d .instances) row (rw rows-more at m) in
-      let there = fault-fewer (row .instance) (from .of-instance) (row .bridge) (from .fault) in (
-        withBridge row (there .0),
-        rw rows-fewer (from .others fewer (there .0) (there .1)),
-        and-both (eqb (row .number) (row .number)) (sameBridge (row .instance) (row .bridge) (there .0))
-            (eqb-refl (row .number)) (there .2),
-      )
+      let from = rows-from (d .types) longer 1 (d .instances) row (rw rows-more at m) in
+      ⊎-elim
+      (λ k. inl (rw rows-fewer (from .others fewer (row .bridge) k)))
+      (λ k. inr k)
+      (fault-fewer (row .instance) (row .bridge) (from .fault))
 
-  marks-agree : (row : Row) (v : ℕ) → markOf c row v ≡ markOf d row v
-  unfolding markOf cell rowValues
-  marks-agree row v = rw (again .more .types, again .more .instances, again .more .vectors)
+module _ (c d : Circuit) (again : NamedAgain c d) where
+  -- the row of the bridge named again
+  new-row : (row : Row) → RowOf d row → IsAgain c d (again .again) (again .more) (row .instance) (row .bridge) → PartnerIn c row
+  new-row row m is =
+      let n : ℕ = row .number in
+      let instances : d .instances ≡ c .instances = sym (again .more .instances) in
+      let instance-is : row .instance ≡ instanceOf c n =
+      row-instance d row m ∙ ap (λ (is : List Instance). numbered is n noInstance) instances in
+      let type-is : row .type ≡ typeOfInstance (c .types) (instanceOf c n) =
+      row-type d row m
+      ∙ ap₂ (λ (ts : List ModuleType) (is : List Instance). typeOfInstance ts (numbered is n noInstance)) (sym (again .more .types)) instances in
+      let same : row ≡ rowWith (c .types) n (instanceOf c n) (again .again) =
+      (λ j. record { number = n; instance = instance-is j; type = type-is j; bridge = is .0 j }) in
+      let number = row-number d row m in
+      let there = again .named n (number .0) (omega (arith, number .1, ap length instances))
+      (ap (λ (i : Instance). i .choice) (sym instance-is) ∙ is .1) in
+      (there .0, there .1, subst (λ (x : Row). OneClass x (rowAt c (there .0))) (sym same) (there .2))
 
-  as-many : length (c .vectors) ≡ length (d .vectors)
-  as-many = ap length (again .more .vectors)
+  up : ShortsAmong c d
+  up r h = itself d (rowAt c r) (row-more c d (again .again) (again .more) (rowAt c r) (row-of c r h))
 
-  up : Carries c d d
-  up = carries-within c d row-more (omega (arith, as-many)) (λ row v m h e. sym (marks-agree row v) ∙ e)
-
-  down : Carries d d c
-  down = record {
-    rows-in = λ row m. m;
-    rows-out = row-more;
-    partner = row-fewer;
-    no-fewer = omega (arith, as-many);
-    marks-in = λ row v m h e. e;
-    marks-out = λ row v m h e. marks-agree row v ∙ e;
-  }
+  down : ShortsAmong d c
+  down s h =
+      let row : Row = rowAt d s in
+      let m : RowOf d row = row-of d s h in
+      ⊎-elim (itself c row) (new-row row m) (row-fewer c d (again .again) (again .more) row m)
 
 pub naming-again-adds-nothing : NamingAgainAddsNothing
-naming-again-adds-nothing one other c d g k again = record {
-  classes = omega (
-    arith,
-    classes-counted one c (gave one c g),
-    classes-counted other d (gave other d k),
-    classes-carried c d d (up c d again),
-    classes-carried d d c (down c d again),
-  );
-  found = omega (
-    arith,
-    found-counted one c (gave one c g),
-    found-counted other d (gave other d k),
-    found-carried c d d (up c d again),
-    found-carried d d c (down c d again),
-  );
-}
+naming-again-adds-nothing one other c d g k again =
+    same-shorts-count-alike one other c d g k (alike c d (again .again) (again .more)) (up c d again) (down c d again)
+
+-- ---- from the other end
+
+-- a bridge of the list that an instance chose is a fault of it
+chosen-fault : (types : List ModuleType) (bridges : List Listed) (i : Instance) (l : ℕ) (b : Bridge) → i .choice ≡ list l
+    → List·Memᴰ (listedAs l b) bridges → List·Memᴰ b (faultsOf types bridges i)
+unfolding faultsOf chosen
+chosen-fault types bridges i l b chose m = rw chose (in-list l b bridges m)
+
+-- a fault of an instance has a row
+row-there : (c : Circuit) (n : ℕ) → 1 ≤ n → n ≤ length (c .instances) → (b : Bridge)
+    → List·Memᴰ b (faultsOf (c .types) (c .bridges) (instanceOf c n)) → RowOf c (rowWith (c .types) n (instanceOf c n) b)
+unfolding rowsOf numbered
+row-there c zero low high b m = absurd (omega arith)
+row-there c (suc k) low high b m =
+    let next : 1 + k ≡ suc k = omega arith in
+    subst (λ (n : ℕ). RowOf c (rowWith (c .types) n (getD (c .instances) k noInstance) b)) next
+    (fault-row (c .types) (c .bridges) 1 (c .instances) k noInstance high b m)
+
+crossed : (types : List ModuleType) (n : ℕ) (i : Instance) (a b : ℕ) → OneClass (rowWith types n i (nodes b a)) (rowWith types n i (nodes a b))
+unfolding OneClass wireAt
+crossed types n i a b = inr (refl, refl)
 
 pub other-end-adds-nothing : OtherEndAddsNothing
-unfolding EqualBridges
 other-end-adds-nothing one other c d g k from = naming-again-adds-nothing one other c d g k (record {
-  named = nodes (from .first) (from .second);
   again = nodes (from .second) (from .first);
   more = from .more;
-  equal = λ i m chose. inr (refl, refl);
+  named = named;
 })
+  where
+    old : Bridge
+    old = nodes (from .first) (from .second)
+
+    named : (n : ℕ) → 1 ≤ n → n ≤ length (c .instances) → instanceOf c n .choice ≡ list (from .more .number)
+        → PartnerIn c (rowWith (c .types) n (instanceOf c n) (nodes (from .second) (from .first)))
+    named n low high chose =
+        let i : Instance = instanceOf c n in
+        let place = place-of noRow (row-there c n low high old (chosen-fault (c .types) (c .bridges) i (from .more .number) old chose (from .is-named))) in
+        (place .0, place .1, rw (place .2) (crossed (c .types) n i (from .first) (from .second)))

@@ -110,11 +110,11 @@ module _ (c d : Circuit) (good : CircuitGood c) (alike : AlikeButVectors c d) (r
       rw (sym (same-cell c d alike (vectorOf d v) row))
       (cell-stays (vectorOf c v) (vectorOf d v) (λ i. refined .agree v i h) c good row t))
 
-  found-stands : foundCount c ≤ foundCount d
+  found-stands : CircuitGood d → foundCount c ≤ foundCount d
   unfolding markOf
-  found-stands =
-      found-carried c d d
-      (carries-within c d (λ row m. rw (same-rows c d alike) at m) (refined .no-fewer)
+  found-stands good′ =
+      found-carried c d
+      (carries-within c d good′ (λ row m. rw (same-rows c d alike) at m) (refined .no-fewer)
       (λ row v m h e. omega (arith, mark-stands row v h, ofBool-le-one (cell d (vectorOf d v) row))))
 
 -- ---- the demand
@@ -140,7 +140,7 @@ module _ (one finer : Call) (c d : Circuit) (graded : Gave one c) (graded′ : G
   unfolding grading.countsOfCircuit
   three-stands = record {
     marks = marks-stand;
-    found = rw (graded .counts-are, graded′ .counts-are) (found-stands c d (graded .good) alike refined);
+    found = rw (graded .counts-are, graded′ .counts-are) (found-stands c d (graded .good) alike refined (graded′ .good));
   }
 
 pub three-holds : ThreeHolds

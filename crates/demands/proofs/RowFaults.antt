@@ -1,23 +1,49 @@
 -- What a row is: it is of an instance of the circuit, with a fault of it; and with each fault of that instance there is a row. In an accepted circuit
 -- a bridged label is one of its instance, because bridges suit the type and references are as many as its labels.
-use Prim.Native.Nat.{ℕ, suc, _-_, _<_}
-use mathlib.Core.Path.{_≡_, refl, sym}
+use Prim.Native.Nat.{ℕ, zero, suc, _+_, _-_, _<_, _≤_}
+use mathlib.Core.Path.{_≡_, refl, sym, ap, _∙_}
 use mathlib.Core.List.{List, [], _∷_, List·Memᴰ, List·Memᴰ·head, List·Memᴰ·tail, Memᴰ·append-left, Memᴰ·append-right, Memᴰ·map}
+use native.Mathlib.Nat.{add-zero, not-suc-le-zero}
 use native.Mathlib.Omega.{arith}
 use lib.Dec.{T, leb, ltb, ltb→lt}
-use lib.ListN.{length}
+use lib.ListN.{length, getD}
 use Rattle.switch.specs.Modules.{ModuleType}
 use Rattle.switch.specs.Bridges.{Bridge, input}
 use Rattle.switch.proofs.Paths.{both}
-use Rattle.circuit.specs.Circuit.{Circuit, Instance, Listed, typeOfInstance, faultsOf}
+use Rattle.circuit.specs.Circuit.{Circuit, Instance, Listed, numbered, typeOfInstance, faultsOf}
 use Rattle.circuit.specs.Table.{bridgeSuits}
 use Rattle.circuit.specs.Laws.{CircuitGood}
-use Rattle.grading.specs.Rows.{Row, rowWith, rowsOfInstance, rowsFrom, rowsOf}
+use Rattle.grading.specs.Rows.{Row, rowWith, noInstance, noRow, rowsOfInstance, rowsFrom, rowsOf}
 use Rattle.grading.specs.Statements.{RowOf}
-use Rattle.grading.proofs.Everywhere.{Every, every-nil, every-append, every-map, place-of}
+use Rattle.grading.proofs.Everywhere.{Every, every-nil, every-append, every-map, every-at, place-of}
 use Rattle.grade_marks.proofs.RowMeaning.{faults-suit}
-use Rattle.grading.proofs.SameClass.{rows-placed}
+use Rattle.grading.proofs.RowsPlaced.{Placed, rows-placed}
 use Rattle.grading.proofs.ValueLaws.{instance-good}
+use Rattle.demands.specs.Two.{rowAt, instanceOf}
+
+pub row-of : (c : Circuit) (r : ℕ) → r < length (rowsOf c) → RowOf c (rowAt c r)
+row-of c r h = every-at (RowOf c) (rowsOf c) (λ row m. m) r noRow h
+
+-- what stands at a number, from 1
+numbered-at : {A : Type 0} (as′ : List A) (n : ℕ) (none : A) → 1 ≤ n → numbered as′ n none ≡ getD as′ (n - 1) none
+unfolding numbered
+numbered-at as′ zero none h = absurd (omega arith)
+numbered-at as′ (suc n) none h = let e : suc n - 1 ≡ n = omega arith in rw e
+
+-- the instance of a row is that with its number, and the row has its type
+module _ (c : Circuit) (row : Row) (is-row : RowOf c row) where
+  placed : Placed (c .types) 1 (c .instances) noInstance row
+  unfolding rowsOf
+  placed = rows-placed (c .types) (c .bridges) noInstance 1 (c .instances) row is-row
+
+  pub row-number : (1 ≤ row .number) × (row .number ≤ length (c .instances))
+  row-number = (placed .low, omega (arith, placed .high))
+
+  pub row-instance : row .instance ≡ instanceOf c (row .number)
+  row-instance = placed .instance-is ∙ sym (numbered-at (c .instances) (row .number) noInstance (placed .low))
+
+  pub row-type : row .type ≡ typeOfInstance (c .types) (instanceOf c (row .number))
+  row-type = placed .type-is ∙ ap (typeOfInstance (c .types)) row-instance
 
 -- a row of the same instance, with another bridge
 abbrev pub withBridge : Row → Bridge → Row
@@ -52,6 +78,18 @@ module _ (types : List ModuleType) (bridges : List Listed) where
         fault = from .fault;
         others = λ others d k. Memᴰ·append-right (rowsOfInstance types others n i) (from .others others d k);
       }
+
+-- a fault of the instance at a place has a row
+pub fault-row : (types : List ModuleType) (bridges : List Listed) (n : ℕ) (is : List Instance) (k : ℕ) (none : Instance) → k < length is
+    → (b : Bridge) → List·Memᴰ b (faultsOf types bridges (getD is k none))
+    → List·Memᴰ (rowWith types (n + k) (getD is k none) b) (rowsFrom types bridges n is)
+unfolding rowsFrom rowsOfInstance
+fault-row types bridges n [] k none h b m = absurd (not-suc-le-zero h)
+fault-row types bridges n (i ∷ is) zero none h b m =
+    simp add-zero (Memᴰ·append-left (rowsFrom types bridges (suc n) is) (Memᴰ·map (rowWith types n i) m))
+fault-row types bridges n (i ∷ is) (suc k) none h b m =
+    let next : n + suc k ≡ suc n + k = omega arith in
+    rw next (Memᴰ·append-right (rowsOfInstance types bridges n i) (fault-row types bridges (suc n) is k none (omega arith) b m))
 
 pub label-named : (c : Circuit) → CircuitGood c → (row : Row) → RowOf c row → (m l : ℕ) → row .bridge ≡ input m l → l < length (row .instance .references)
 unfolding rowsOf bridgeSuits

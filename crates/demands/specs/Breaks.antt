@@ -22,7 +22,8 @@ use Rattle.demands.specs.NoConverse.{Filling}
 use Rattle.demands.specs.Graders.{Grader, called, Work, gradesBy, rightly}
 use Rattle.demands.specs.Wrong.{marking, refusesEvery, skips, marksAll, marksNever, leavesMatrix, firstWordOnly, inventsFound}
 use Rattle.demands.specs.Wrong.{sweepsOnce, onePlane, marksFloating, countsRows, spills, wraps, goesOn}
-use Rattle.demands.specs.Wrong.{watchesOutputs, holdsLevels, countsTwice, countsLabels, readsXAsZero, writesPast, clearsFirst}
+use Rattle.demands.specs.Wrong.{watchesOutputs, holdsLevels, countsTwice, countsLabels, readsXAsZero, keepsApart, mixesInner}
+use Rattle.demands.specs.Wrong.{writesPast, clearsFirst}
 
 -- demand 1 holds of every call
 abbrev pub MeetsOne : Grader → Type 0
@@ -97,6 +98,8 @@ pub record MeetCellClause : Type 0 where
   pub counts-rows : MeetsCells countsRows
   pub counts-twice : MeetsCells countsTwice
   pub counts-labels : MeetsCells countsLabels
+  pub keeps-apart : MeetsCells keepsApart
+  pub mixes-inner : MeetsCells mixesInner
 
 -- marks of rows, 0 or 1 each, that stand where the vectors of an accepted file are refined
 pub record MarksThatStand (marks : Circuit → Row → ℕ → ℕ) : Type 0 where
@@ -140,6 +143,8 @@ pub record BreakDemandTwo : Type 0 where
   pub counts-rows : MeetsClasses countsRows → ⊥
   pub counts-twice : MeetsClasses countsTwice → ⊥
   pub counts-labels : MeetsClasses countsLabels → ⊥
+  pub keeps-apart : MeetsClasses keepsApart → ⊥
+  pub mixes-inner : MeetsClasses mixesInner → ⊥
 
 -- the part that is broken: over its own marks, by graders that mark with X what a filling takes back; over the definition, by those that
 -- leave marks out; under fillings, by one that marks all

@@ -147,6 +147,22 @@ fourInstances vectors =
     ++ instanceField 2 (list 2) (outputOf 1 ∷ primary 1 ∷ []) ++ instanceField 2 (list 2) (outputOf 1 ∷ outputOf 2 ∷ [])
     ++ vectorFields vectors
 
+-- two inverters, the second behind the first, with these bridge fields and choices
+abbrev pub twoInverters : List ℕ → Choice → Choice → List String → List ℕ
+twoInverters bridges driver fed vectors =
+    inputsField 1 ++ inverterFields ++ bridges ++ instanceField 1 driver (primary 1 ∷ []) ++ instanceField 1 fed (outputOf 1 ∷ [])
+    ++ vectorFields vectors
+
+-- the same short to ground twice: at the output of the driver, and at the input that it feeds
+abbrev pub driverAndInput : List String → List ℕ
+driverAndInput vectors = twoInverters (bridgeField 1 (nodes 0 2) ++ bridgeField 2 (input 0 0)) (list 1) (list 2) vectors
+
+-- two NANDs with their labels exchanged, each with a bridge from its inner node to ground
+abbrev pub twoNands : List String → List ℕ
+twoNands vectors =
+    inputsField 2 ++ nandFields ++ bridgeField 1 (nodes 0 3) ++ instanceField 1 (list 1) (primary 1 ∷ primary 2 ∷ [])
+    ++ instanceField 1 (list 1) (primary 2 ∷ primary 1 ∷ []) ++ vectorFields vectors
+
 -- 16 instances with 128 bridges each, 2,048 faults in all, and then some with one more
 abbrev pub manyFaults : ℕ → List ℕ
 manyFaults more =

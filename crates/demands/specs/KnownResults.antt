@@ -1,4 +1,5 @@
--- 01, "Known results": all of them, those marked P first, then the whole example of "The report" and more of both kinds, in one table under
+-- 01, "Known results": all of them, those marked P first, then the whole example of "The report" and more of both kinds; and the classes of
+-- 02, "One wire, one short": in one table under
 -- one statement, `AllKnown`. What a line says is in specs/Claims; the proof, by computation, is in proofs/KnownProof.
 use Prim.Native.Nat.{_-_, _^_}
 use Prim.Native.String.{String}
@@ -9,7 +10,8 @@ use Rattle.circuit.specs.Circuit.{primary, outputOf, exhaustive, no-faults, lis
 use Rattle.grading.specs.Buffers.{buffersOf, roomFor}
 use Rattle.demands.specs.Files.{fieldBytes, inputsField, typeField, edgeField, instanceField, inverterFields, inverter, inverterUnder}
 use Rattle.demands.specs.Files.{inverterListed, inverterChoosing, nandUnder, norUnder, branches, inverterThenNand}
-use Rattle.demands.specs.Files.{nandOfOne, oneType, splitRails, invertersOf, fourInstances, manyFaults}
+use Rattle.demands.specs.Files.{nandOfOne, oneType, splitRails, invertersOf, fourInstances, twoInverters, driverAndInput, twoNands}
+use Rattle.demands.specs.Files.{manyFaults}
 use Rattle.demands.specs.Claims.{Claim, reads, floats, refuses, short, sizes, leaves, grades, turns, reports, AllHold}
 
 -- ---- vectors
@@ -57,7 +59,7 @@ knownResults =
     -- NAND with both references 1: 14 rows, 10 classes
     ∷ sizes (nandOfOne ("0" ∷ [])) 14 10
     -- in instance 2 a reference of −1 is good, −2 or 0 is 10; in instance 1 a reference of −1 is 10
-    ∷ sizes (invertersOf (primary 1 ∷ outputOf 1 ∷ [])) 12 12
+    ∷ sizes (invertersOf (primary 1 ∷ outputOf 1 ∷ [])) 12 9
     ∷ refuses (invertersOf (primary 1 ∷ outputOf 2 ∷ [])) 10 30
     ∷ refuses (invertersOf (primary 1 ∷ primary 0 ∷ [])) 10 30
     ∷ refuses (invertersOf (outputOf 1 ∷ [])) 10 23
@@ -164,6 +166,35 @@ knownResults =
     ∷ "1 n 2 0 1 10 1 1"
     ∷ "1 n 0 2 1 10 1 1"
     ∷ "1 n 2 0 1 10 1 1"
+    ∷ [])
+    -- 02, "One wire, one short": a driver's output to ground, listed at the driver and again at the input that it feeds: one class, equal rows,
+    -- of either kind
+    ∷ reports (driverAndInput ("0" ∷ "1" ∷ "X" ∷ []))
+    ("vectors 3 faults 2 classes 1 found 1"
+    ∷ "1 n 0 2 1 100 1 1"
+    ∷ "2 i 0 0 1 100 1 1"
+    ∷ [])
+    -- two inverters with exhaustive lists: 0-1 is one class, the driver's output with each rail is that of the fed input
+    ∷ reports (twoInverters [] exhaustive exhaustive ("0" ∷ "1" ∷ "X" ∷ []))
+    ("vectors 3 faults 12 classes 9 found 9"
+    ∷ "1 n 0 1 1 111 3 1"
+    ∷ "1 n 0 2 2 100 1 1"
+    ∷ "1 n 1 2 3 010 1 2"
+    ∷ "1 i 0 0 4 010 1 2"
+    ∷ "1 i 1 0 5 100 1 1"
+    ∷ "1 i 2 0 6 110 2 1"
+    ∷ "2 n 0 1 1 111 3 1"
+    ∷ "2 n 0 2 7 010 1 2"
+    ∷ "2 n 1 2 8 100 1 1"
+    ∷ "2 i 0 0 2 100 1 1"
+    ∷ "2 i 1 0 3 010 1 2"
+    ∷ "2 i 2 0 9 110 2 1"
+    ∷ [])
+    -- the inner nodes of two NANDs are two wires, though both are numbered 3
+    ∷ reports (twoNands all-four)
+    ("vectors 4 faults 2 classes 2 found 2"
+    ∷ "1 n 0 3 1 0010 1 3"
+    ∷ "2 n 0 3 2 0100 1 2"
     ∷ [])
     -- more refusals, so that each number is here: a file too long, tag 0, inputs twice, three bytes for the inputs, 65 inputs, a 17th type,
     -- an edge 2-2, a bridge of kind 2, choice -2, bridge 0-3 for an inverter, a list without bridges

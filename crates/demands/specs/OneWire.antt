@@ -1,6 +1,6 @@
 -- 02, "One wire, one short", on files: what a wire is, said once more by what a circuit ties together; that a wire carries one level, and
 -- a mark is a symmetric function of what its two wires carry; so rows of one class are equal; and that the counts are of the shorts,
--- however they are listed. The proofs are in proofs/OneWireProof and proofs/NamedAgain.
+-- however they are listed. The proofs are in proofs/WireTies, OneWireProof and ShortsCounted.
 use Prim.Native.Nat.{ℕ, _≤_, _<_}
 use mathlib.Core.Path.{_≡_}
 use mathlib.Core.Logic.{_⊎_, _↔_}

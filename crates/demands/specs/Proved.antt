@@ -9,6 +9,8 @@ use Rattle.print_circuit.specs.Listing.{AcceptedListing}
 use Rattle.demands.specs.One.{OneHolds, PromiseCanBeMet, OneOutcomeOnly, GradingKeepsTheRest}
 use Rattle.demands.specs.Two.{ValuesArePaths, CellIsPath, FloatingNeverMarks, ColumnIsOfItsVector}
 use Rattle.demands.specs.Two.{ClassesCountOnce, NamingAgainAddsNothing, OtherEndAddsNothing}
+use Rattle.demands.specs.OneWire.{WiresAreTies, ClassesAreTies, OneWireOneLevel, MarksAreOfWires, OneShortOneMark}
+use Rattle.demands.specs.OneWire.{RowsOfOneClassAreEqual, MoreShortsCountNoFewer, SameShortsCountAlike}
 use Rattle.demands.specs.Three.{ThreeHolds, MarksHoldUnderEveryFilling}
 use Rattle.demands.specs.NoConverse.{NoConverse}
 use Rattle.demands.specs.AlikeFiles.{AlikeFilesReadAlike, FinerFilesReadRefined, RowsAreOfTheHead, ColumnIsOfItsField}
@@ -28,7 +30,7 @@ use Rattle.demands.specs.Wrong.{RefusesEveryIsWrong, SkipsNineIsWrong, S
 use Rattle.demands.specs.Wrong.{LeavesMatrixIsWrong, FirstWordOnlyIsWrong, InventsFoundIsWrong, SweepsOnceIsWrong, OnePlaneIsWrong}
 use Rattle.demands.specs.Wrong.{MarksFloatingIsWrong, CountsRowsIsWrong, SpillsIsWrong, WrapsIsWrong, GoesOnIsWrong}
 use Rattle.demands.specs.Wrong.{WatchesOutputsIsWrong, HoldsLevelsIsWrong, CountsTwiceIsWrong, CountsLabelsIsWrong}
-use Rattle.demands.specs.Wrong.{ReadsXAsZeroIsWrong, WritesPastIsWrong, ClearsFirstIsWrong}
+use Rattle.demands.specs.Wrong.{ReadsXAsZeroIsWrong, KeepsApartIsWrong, MixesInnerIsWrong, WritesPastIsWrong, ClearsFirstIsWrong}
 use Rattle.demands.specs.Breaks.{RightlyMeetsAll, MeetDemandOne, MeetCellClause, MeetDemandThree}
 use Rattle.demands.specs.Breaks.{BreakDemandOne, BreakDemandTwo, BreakDemandThree}
 
@@ -46,6 +48,15 @@ pub record AllProved : Type 2 where
   pub classes-count-once : ClassesCountOnce
   pub naming-again-adds-nothing : NamingAgainAddsNothing
   pub other-end-adds-nothing : OtherEndAddsNothing
+  -- 02, "One wire, one short"
+  pub wires-are-ties : WiresAreTies
+  pub classes-are-ties : ClassesAreTies
+  pub one-wire-one-level : OneWireOneLevel
+  pub marks-are-of-wires : MarksAreOfWires
+  pub one-short-one-mark : OneShortOneMark
+  pub rows-of-one-class-are-equal : RowsOfOneClassAreEqual
+  pub more-shorts-count-no-fewer : MoreShortsCountNoFewer
+  pub same-shorts-count-alike : SameShortsCountAlike
   -- demand 3
   pub three-holds : ThreeHolds
   pub marks-hold-under-every-filling : MarksHoldUnderEveryFilling
@@ -119,6 +130,8 @@ pub record AllProved : Type 2 where
   pub counts-twice-is-wrong : CountsTwiceIsWrong
   pub counts-labels-is-wrong : CountsLabelsIsWrong
   pub reads-x-as-zero-is-wrong : ReadsXAsZeroIsWrong
+  pub keeps-apart-is-wrong : KeepsApartIsWrong
+  pub mixes-inner-is-wrong : MixesInnerIsWrong
   pub writes-past-is-wrong : WritesPastIsWrong
   pub clears-first-is-wrong : ClearsFirstIsWrong
   pub rightly-meets-all : RightlyMeetsAll

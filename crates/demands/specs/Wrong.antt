@@ -1,6 +1,6 @@
 -- Wrong graders, each with its mistake and where that comes from, and the statement that it does not meet the promise of `grade`. Each is
 -- right in all else (specs/Graders, `rightly`). 01's last paragraph names those of the first part, its "Slips my class makes" those of the
--- second, README those of the third; those of the fourth break 01's rules on lent memory.
+-- second, README those of the third, 02 those of the fourth; those of the fifth break 01's rules on lent memory.
 -- The proofs, on small files, are in proofs/WrongProof.
 use Prim.Native.Nat.{ℕ, zero, suc, _+_, _*_, min}
 use mathlib.Core.Bool.{Bool, true, false, cond, not, _&&_, _||_, Bool·beq}
@@ -21,7 +21,8 @@ use Rattle.circuit.specs.Known.{Known}
 use Rattle.circuit.specs.Table.{Test, fieldTests, endTests}
 use Rattle.grading.specs.Buffers.{roomOf}
 use Rattle.grading.specs.Rows.{Row, rowsOf, rowValues, markOf}
-use Rattle.grading.specs.Classes.{sameClass, hasMarkBy}
+use Rattle.grading.specs.Wires.{Wire, groundWire, supplyWire, inputWire, outputWire, innerWire, End, one-end, other-end, wireOf, leaks}
+use Rattle.grading.specs.Classes.{samePair, sameClass, hasMarkBy}
 use Rattle.grading.specs.Grading.{Grading, graded, refused, gradingOf}
 use Rattle.grading.specs.declared.Answer.{Answer}
 use Rattle.grading.specs.Promise.{isGraded}
@@ -316,6 +317,32 @@ readsXAsZero = marking λ (c : Circuit). markOf (zeroed c)
 
 abbrev pub ReadsXAsZeroIsWrong : Type 0
 ReadsXAsZeroIsWrong = MeetsPromise readsXAsZero → ⊥
+
+-- ---- 02, "One wire, one short"
+
+-- keeps instances apart: rows of two instances are never one class, as 01 had it
+unfoldable pub keepsApart : Grader
+keepsApart = gradesBy (workBy rowOf markOf (λ (r s : Row). eqb (r .number) (s .number) && sameClass r s))
+
+abbrev pub KeepsApartIsWrong : Type 0
+KeepsApartIsWrong = MeetsPromise keepsApart → ⊥
+
+-- takes all inner nodes that are numbered alike for one wire
+unfoldable pub withoutInstance : Wire → Wire
+withoutInstance groundWire = groundWire
+withoutInstance supplyWire = supplyWire
+withoutInstance (inputWire n) = inputWire n
+withoutInstance (outputWire n) = outputWire n
+withoutInstance (innerWire n m) = innerWire 0 m
+
+unfoldable pub mixesInner : Grader
+mixesInner =
+    gradesBy (workBy rowOf markOf (λ (r s : Row).
+    let wire : Row → End → Wire = λ row end. withoutInstance (wireOf row end) in
+    samePair (wire r one-end) (wire r other-end) (wire s one-end) (wire s other-end)))
+
+abbrev pub MixesInnerIsWrong : Type 0
+MixesInnerIsWrong = MeetsPromise mixesInner → ⊥
 
 -- ---- 01, on lent memory: past the end of an answer it keeps its contents, and a refusal leaves it unwritten
 

@@ -142,6 +142,9 @@ module _ (t : ModuleType) (acc : Accepted t) (values : ℕ → Value) where
 
 -- ---- the level of a wire
 
+accepted : (c : Circuit) → CircuitGood c → (k : ℕ) → k < length (c .instances) → Accepted (typeOfInstance (c .types) (getD (c .instances) k noInstance))
+accepted c good k h = type-accepted _ (type-good c good k h noInstance (getD (c .instances) k noInstance) refl)
+
 module _ (c : Circuit) (good : CircuitGood c) (vector : List Value) where
   abbrev outputs : List Value
   outputs = outputsOf (c .types) vector (c .instances)
@@ -156,9 +159,6 @@ module _ (c : Circuit) (good : CircuitGood c) (vector : List Value) where
     abbrev values : ℕ → Value
     values = labelValues vector outputs inst
 
-    accepted : Accepted type
-    accepted = type-accepted type (type-good c good k h noInstance inst refl)
-
     -- a node of the instance at place k, whose number is one more
     node-level : (m : ℕ) → carried c vector (nodeWire (suc k) (type .output) m) ≡ levelIn (linksOf type values) m
     unfolding nodeWire carried numbered
@@ -166,8 +166,8 @@ module _ (c : Circuit) (good : CircuitGood c) (vector : List Value) where
       where
         go : (x : Bool) → eqb m ground ≡ x → (y : Bool) → eqb m supply ≡ y → (z : Bool) → eqb m (type .output) ≡ z
             → carried c vector (cond x groundWire (cond y supplyWire (cond z (outputWire (suc k)) (innerWire (suc k) m)))) ≡ levelIn (linksOf type values) m
-        go true p y q z r = rw (eqb-true m ground p) (sym (at-ground type accepted values ground .1 here))
-        go false p true q z r = rw (eqb-true m supply q) (sym (at-supply type accepted values supply .1 here))
+        go true p y q z r = rw (eqb-true m ground p) (sym (at-ground type (accepted c good k h) values ground .1 here))
+        go false p true q z r = rw (eqb-true m supply q) (sym (at-supply type (accepted c good k h) values supply .1 here))
         go false p false q true r = rw (eqb-true m (type .output) r) (output-at c good vector noInstance k h)
         go false p false q false r = refl
 
@@ -180,7 +180,7 @@ reference-level c vector (outputOf i) = refl
 
 -- ---- rows
 
-module _ (c : Circuit) (good : CircuitGood c) (row : Row) (is-row : RowOf c row) (vector : List Value) where
+module _ (c : Circuit) (good : CircuitGood c) (row : Row) (is-row : RowOf c row) where
   placed : Placed (c .types) 1 (c .instances) noInstance row
   unfolding rowsOf
   placed = rows-placed (c .types) (c .bridges) noInstance 1 (c .instances) row is-row
@@ -192,33 +192,34 @@ module _ (c : Circuit) (good : CircuitGood c) (row : Row) (is-row : RowOf c row)
   unfolding at
   within = omega (arith, placed .low, placed .high)
 
-  pub row-node : (m : ℕ) → carried c vector (nodeWire (row .number) (row .type .output) m) ≡ levelIn (linksOf (row .type) (rowValues c vector row)) m
-  unfolding rowValues at
-  row-node m =
-      let next : row .number ≡ suc at = omega (arith, placed .low) in
-      rw (placed .type-is, placed .instance-is)
-      (ap (λ (n : ℕ). carried c vector (nodeWire n (type c good vector at within .output) m)) next ∙ node-level c good vector at within m)
-
-  pub row-label : (l : ℕ) → carried c vector (labelWire (row .instance) l) ≡ rowValues c vector row l
-  unfolding labelWire rowValues
-  row-label l =
-      reference-level c vector (getD (row .instance .references) l (primary 0))
-      ∙ sym (label-value vector (outputsOf (c .types) vector (c .instances)) (row .instance) l)
-
   pub row-accepted : Accepted (row .type)
   unfolding at
-  row-accepted = rw (placed .type-is, placed .instance-is) (accepted c good vector at within)
+  row-accepted = rw (placed .type-is, placed .instance-is) (accepted c good at within)
 
-  cell-is : cell c vector row ≡ leaks (carried c vector (wireOf row one-end)) (carried c vector (wireOf row other-end))
-  unfolding cell wireAt
-  cell-is = go (row .bridge)
-    where
-      go : (b : Bridge) → isMarked (row .type) (rowValues c vector row) b
-          ≡ leaks (carried c vector (wireAt row b one-end)) (carried c vector (wireAt row b other-end))
-      go (nodes a b) =
-          nodes-leak (row .type) row-accepted (rowValues c vector row) a b ∙ ap₂ leaks (sym (row-node a)) (sym (row-node b))
-      go (input m l) =
-          input-leaks (row .type) row-accepted (rowValues c vector row) m l ∙ ap₂ leaks (sym (row-node m)) (sym (row-label l))
+  module _ (vector : List Value) where
+    pub row-node : (m : ℕ) → carried c vector (nodeWire (row .number) (row .type .output) m) ≡ levelIn (linksOf (row .type) (rowValues c vector row)) m
+    unfolding rowValues at
+    row-node m =
+        let next : row .number ≡ suc at = omega (arith, placed .low) in
+        rw (placed .type-is, placed .instance-is)
+        (ap (λ (n : ℕ). carried c vector (nodeWire n (type c good vector at within .output) m)) next ∙ node-level c good vector at within m)
+
+    pub row-label : (l : ℕ) → carried c vector (labelWire (row .instance) l) ≡ rowValues c vector row l
+    unfolding labelWire rowValues
+    row-label l =
+        reference-level c vector (getD (row .instance .references) l (primary 0))
+        ∙ sym (label-value vector (outputsOf (c .types) vector (c .instances)) (row .instance) l)
+
+    cell-is : cell c vector row ≡ leaks (carried c vector (wireOf row one-end)) (carried c vector (wireOf row other-end))
+    unfolding cell wireAt
+    cell-is = go (row .bridge)
+      where
+        go : (b : Bridge) → isMarked (row .type) (rowValues c vector row) b
+            ≡ leaks (carried c vector (wireAt row b one-end)) (carried c vector (wireAt row b other-end))
+        go (nodes a b) =
+            nodes-leak (row .type) row-accepted (rowValues c vector row) a b ∙ ap₂ leaks (sym (row-node a)) (sym (row-node b))
+        go (input m l) =
+            input-leaks (row .type) row-accepted (rowValues c vector row) m l ∙ ap₂ leaks (sym (row-node m)) (sym (row-label l))
 
 pub cells-are-of-wires : CellsAreOfWires
 cells-are-of-wires = record { cell-is = cell-is; either-way = leaks-either-way }

@@ -12,7 +12,7 @@ static const struct {
 } left_out[] = {{0, 0}};
 
 /* and whether class numbers, and the counts of classes and of found ones, which stand last in an answer, are by the same rule. */
-enum { SAME_CLASSES = 1, SAME_NUMBERS = SAME_CLASSES ? TOGYAMIRU_NUMBERS : TOGYAMIRU_CLASSES };
+enum { SAME_CLASSES = 0, SAME_NUMBERS = SAME_CLASSES ? TOGYAMIRU_NUMBERS : TOGYAMIRU_CLASSES };
 
 struct given {
     uint64_t answer[TOGYAMIRU_NUMBERS];

@@ -106,6 +106,20 @@ static void put_list(unsigned list, unsigned count, struct gate g)
     }
 }
 
+/* A list whose bridges join each rail to each label, to the output and to the other rail in turn: wires that instances share. */
+static void put_rail_list(unsigned list, unsigned count, struct gate g)
+{
+    unsigned k = labels_of(g);
+    for (unsigned i = 0; i < count; i++) {
+        unsigned rail = i % 2, other = i / 2 % (k + 2);
+        head(4, 4);
+        put_byte(list);
+        put_byte(other < k);
+        put_byte(rail);
+        put_byte(other < k ? other : other == k ? output_of(g) : 1 - rail);
+    }
+}
+
 /* An instance. Half of the references are to earlier instances, if it may have such. */
 static void put_instance(unsigned type, unsigned choice, unsigned labels, unsigned inputs, unsigned earlier)
 {
@@ -178,6 +192,17 @@ static void make_rows(void)
     put_vectors(256, 64, 2);
 }
 
+/* 128 NANDs, each a driver of later ones, with so many bridges each between a rail and a wire that others have too. */
+static void make_wires(unsigned list)
+{
+    begin(64);
+    put_gate(nand);
+    put_rail_list(1, list, nand);
+    for (unsigned i = 0; i < 128; i++)
+        put_instance(1, 1, labels_of(nand), 64, i);
+    put_vectors(64, 64, 2);
+}
+
 /* A full adder of nine NANDs, with every bridge, under all eight vectors and two with an X. */
 static void make_lesson(void)
 {
@@ -231,6 +256,8 @@ static void make_growth(unsigned family, unsigned step)
         make_gates(128, 64 * (step + 1));
     else if (family == 1)
         make_gates(16 << step, 256);
+    else if (family == 3)
+        make_wires(2 << step);
     else
         make_circuit(&wide, 1, 16 << step, 16, 64, 2);
 }
@@ -256,6 +283,10 @@ static const struct {
     {"rows-512", "512"},
     {"rows-1024", "1,024"},
     {"rows-2048", "2,048"},
+    {"wires-256", "256 rows of 128 NANDs that share wires, 64 vectors"},
+    {"wires-512", "512"},
+    {"wires-1024", "1,024"},
+    {"wires-2048", "2,048"},
 };
 
 struct input make_input(unsigned number)

@@ -15,7 +15,7 @@ struct input {
 };
 
 /* How many inputs there are. Of these the first `INPUTS_ALONE` are measured by themselves, the others in rising order to show growth. */
-enum { INPUTS_ALONE = 6, INPUTS = 18 };
+enum { INPUTS_ALONE = 6, INPUTS = 22 };
 
 /* Makes the input with a number from 0 to INPUTS - 1. It stays until the next is made. */
 struct input make_input(unsigned number);

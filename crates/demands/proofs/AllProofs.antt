@@ -15,6 +15,7 @@ use Rattle.demands.proofs.Columns.{column-is-of-its-vector}
 use Rattle.demands.proofs.ClassCounts.{classes-count-once}
 use Rattle.demands.proofs.NamedAgain.{naming-again-adds-nothing, other-end-adds-nothing}
 use Rattle.demands.proofs.WireTies.{wires-are-ties, classes-are-ties}
+use Rattle.demands.proofs.WiresBefore.{ends-are-two-wires, in-one-instance-as-before}
 use Rattle.demands.proofs.OneWireProof.{one-wire-one-level, marks-are-of-wires, one-short-one-mark, rows-of-one-class-are-equal}
 use Rattle.demands.proofs.ShortsCounted.{more-shorts-count-no-fewer, same-shorts-count-alike}
 use Rattle.demands.proofs.Refining.{three-holds, marks-hold-under-every-filling}
@@ -56,6 +57,8 @@ all-proved = record {
   other-end-adds-nothing = other-end-adds-nothing;
   wires-are-ties = wires-are-ties;
   classes-are-ties = classes-are-ties;
+  ends-are-two-wires = ends-are-two-wires;
+  in-one-instance-as-before = in-one-instance-as-before;
   one-wire-one-level = one-wire-one-level;
   marks-are-of-wires = marks-are-of-wires;
   one-short-one-mark = one-short-one-mark;

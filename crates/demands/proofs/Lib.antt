@@ -2,7 +2,7 @@
 -- computation unfolds.
 --   demand 1      Verdicts, GradingVerdicts, OneProof, Outcomes, RightProof
 --   demand 2      SettledValues, Cells, Floating, Columns, RowFaults, OneClass, FoundClasses, ClassCounts, ClassesCarried, NamedAgain
---   wires         WireTies, OneWireProof, AlikeLists, ShortsCounted
+--   wires         WireTies, WiresBefore, OneWireProof, AlikeLists, ShortsCounted
 --   demand 3      Refining, RefinedMarks, NoConverseProof
 --   of two files  WholeFields, AlikeFilesProof, FileSplits, OtherVectors, Fillings, AlikeFilesExamples
 --   one outcome   CellsAgree, ClassesAgree, Determines
@@ -28,6 +28,7 @@ pub mod AlikeLists
 pub mod ShortsCounted
 pub mod NamedAgain
 pub mod WireTies
+pub mod WiresBefore
 pub mod OneWireProof
 pub mod Refining
 pub mod RefinedMarks

@@ -1,6 +1,6 @@
 -- 02, "One wire, one short", on files: what a wire is, said once more by what a circuit ties together; that a wire carries one level, and
 -- a mark is a symmetric function of what its two wires carry; so rows of one class are equal; and that the counts are of the shorts,
--- however they are listed. The proofs are in proofs/WireTies, OneWireProof and ShortsCounted.
+-- however they are listed. The proofs are in proofs/WireTies, WiresBefore, OneWireProof and ShortsCounted.
 use Prim.Native.Nat.{ℕ, _≤_, _<_}
 use mathlib.Core.Path.{_≡_}
 use mathlib.Core.Logic.{_⊎_, _↔_}
@@ -9,7 +9,7 @@ use lib.ListN.{length, getD}
 use Rattle.switch.specs.Conduction.{Value, at0, at1, ground, supply}
 use Rattle.switch.specs.Modules.{linksOf, LevelIs}
 use Rattle.switch.specs.Bridges.{Bridge, nodes, input}
-use Rattle.circuit.specs.Circuit.{Circuit, Reference, primary, outputOf, typeOfInstance}
+use Rattle.circuit.specs.Circuit.{Circuit, Instance, Reference, primary, outputOf, typeOfInstance}
 use Rattle.grading.specs.Rows.{Row, rowsOf, rowValues, CellMarked}
 use Rattle.grading.specs.Wires.{End, one-end, other-end, wireOf, carried}
 use Rattle.grading.specs.Promise.{countsOf}
@@ -64,6 +64,30 @@ ClassesAreTies =
     → let tied : End → End → Type 0 = λ d e. Tied c (pointOf (rowAt c r) d) (pointOf (rowAt c s) e) in
     (classAt (call .after .classes) r ≡ classAt (call .after .classes) s)
     ↔ ((tied one-end one-end × tied other-end other-end) ⊎ (tied one-end other-end × tied other-end one-end))
+
+-- the ends of a bridge are two wires, never one
+abbrev pub EndsAreTwoWires : Type 0
+EndsAreTwoWires =
+    (file : List ℕ) (c : Circuit) → Accepts file c → (r : ℕ) → r < length (rowsOf c)
+    → wireOf (rowAt c r) one-end ≡ wireOf (rowAt c r) other-end → ⊥
+
+-- ---- what 01 had
+
+-- 01, which 02 corrects: the same instance and kind, with the same nodes in either order for kind 0, or the same node and labels with equal
+-- references for kind 1
+unfoldable pub EqualBridges : Instance → Bridge → Bridge → Type 0
+EqualBridges i (nodes a b) (nodes c d) = ((a ≡ c) × (b ≡ d)) ⊎ ((a ≡ d) × (b ≡ c))
+EqualBridges i (nodes a b) (input m l) = ⊥
+EqualBridges i (input m l) (nodes a b) = ⊥
+EqualBridges i (input m l) (input n k) = (m ≡ n) × ((none : Reference) → getD (i .references) l none ≡ getD (i .references) k none)
+
+-- in one instance rows are one class exactly when 01 had them so. Rows of two instances, which 01 kept apart, may be one class now: so no class
+-- is split, and a file with one instance has the classes that it had
+abbrev pub InOneInstanceAsBefore : Type 0
+InOneInstanceAsBefore =
+    (file : List ℕ) (c : Circuit) → Accepts file c → (r s : ℕ) → r < length (rowsOf c) → s < length (rowsOf c)
+    → rowAt c r .number ≡ rowAt c s .number
+    → OneClass (rowAt c r) (rowAt c s) ↔ EqualBridges (rowAt c r .instance) (rowAt c r .bridge) (rowAt c s .bridge)
 
 -- ---- levels
 

@@ -9,7 +9,8 @@ use Rattle.print_circuit.specs.Listing.{AcceptedListing}
 use Rattle.demands.specs.One.{OneHolds, PromiseCanBeMet, OneOutcomeOnly, GradingKeepsTheRest}
 use Rattle.demands.specs.Two.{ValuesArePaths, CellIsPath, FloatingNeverMarks, ColumnIsOfItsVector}
 use Rattle.demands.specs.Two.{ClassesCountOnce, NamingAgainAddsNothing, OtherEndAddsNothing}
-use Rattle.demands.specs.OneWire.{WiresAreTies, ClassesAreTies, OneWireOneLevel, MarksAreOfWires, OneShortOneMark}
+use Rattle.demands.specs.OneWire.{WiresAreTies, ClassesAreTies, EndsAreTwoWires, InOneInstanceAsBefore}
+use Rattle.demands.specs.OneWire.{OneWireOneLevel, MarksAreOfWires, OneShortOneMark}
 use Rattle.demands.specs.OneWire.{RowsOfOneClassAreEqual, MoreShortsCountNoFewer, SameShortsCountAlike}
 use Rattle.demands.specs.Three.{ThreeHolds, MarksHoldUnderEveryFilling}
 use Rattle.demands.specs.NoConverse.{NoConverse}
@@ -51,6 +52,8 @@ pub record AllProved : Type 2 where
   -- 02, "One wire, one short"
   pub wires-are-ties : WiresAreTies
   pub classes-are-ties : ClassesAreTies
+  pub ends-are-two-wires : EndsAreTwoWires
+  pub in-one-instance-as-before : InOneInstanceAsBefore
   pub one-wire-one-level : OneWireOneLevel
   pub marks-are-of-wires : MarksAreOfWires
   pub one-short-one-mark : OneShortOneMark

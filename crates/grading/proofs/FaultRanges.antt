@@ -36,26 +36,62 @@ types-fit c good i none h =
     let ranges = type-ranges (typeOfInstance (c .types) inst) (type-good c good i h none inst refl .sound) in
     record { nodes-are = ranges .highest; labels-are = ranges .labels-high }
 
-exhaustive-fits : (h k : ℕ) → h < 32 → k ≤ 12 → Every BridgeFits (exhaustiveList h k)
-unfolding exhaustiveList nodePairs nodeInputs
-exhaustive-fits h k p q =
-    every-append BridgeFits (nodePairs h) (nodeInputs h k)
-    (every-join
-    BridgeFits
-    (table (h + 1) (λ (a : ℕ). table (h - a) (λ (j : ℕ). nodes a (a + 1 + j))))
-    (every-table
-    (Every BridgeFits)
-    (h + 1)
-    (λ (a : ℕ). table (h - a) (λ (j : ℕ). nodes a (a + 1 + j)))
-    (λ a r. every-table BridgeFits (h - a) (λ (j : ℕ). nodes a (a + 1 + j)) (λ j s. (omega arith, omega arith)))))
-    (every-join
-    BridgeFits
-    (table (h + 1) (λ (m : ℕ). table k (λ (l : ℕ). input m l)))
-    (every-table
-    (Every BridgeFits)
-    (h + 1)
-    (λ (m : ℕ). table k (λ (l : ℕ). input m l))
-    (λ m r. every-table BridgeFits k (λ (l : ℕ). input m l) (λ l s. (omega arith, omega arith)))))
+-- ---- what holds of every fault: of those of the exhaustive list, and of every good bridge
+
+module _ (P : Bridge → Type 0) where
+  -- of an exhaustive list
+  pub record EveryPair (h k : ℕ) : Type 0 where
+    pub nodes-do : (a j : ℕ) → a < h + 1 → j < h - a → P (nodes a (a + 1 + j))
+    pub inputs-do : (m l : ℕ) → m < h + 1 → l < k → P (input m l)
+
+  exhaustive-every : (h k : ℕ) → EveryPair h k → Every P (exhaustiveList h k)
+  unfolding exhaustiveList nodePairs nodeInputs
+  exhaustive-every h k each =
+      every-append P (nodePairs h) (nodeInputs h k)
+      (every-join
+      P
+      (table (h + 1) (λ (a : ℕ). table (h - a) (λ (j : ℕ). nodes a (a + 1 + j))))
+      (every-table
+      (Every P)
+      (h + 1)
+      (λ (a : ℕ). table (h - a) (λ (j : ℕ). nodes a (a + 1 + j)))
+      (λ a r. every-table P (h - a) (λ (j : ℕ). nodes a (a + 1 + j)) (λ j s. each .nodes-do a j r s))))
+      (every-join
+      P
+      (table (h + 1) (λ (m : ℕ). table k (λ (l : ℕ). input m l)))
+      (every-table
+      (Every P)
+      (h + 1)
+      (λ (m : ℕ). table k (λ (l : ℕ). input m l))
+      (λ m r. every-table P k (λ (l : ℕ). input m l) (λ l s. each .inputs-do m l r s))))
+
+  module _ (of-good : (b : Bridge) → T (bridgeGood b) → P b) where
+    list-every : (n : ℕ) (bs : List Listed) → Each (λ (i : ℕ) (b : Listed). T (listedGood b)) bs → Every P (userList n bs)
+    unfolding userList listedGood
+    list-every n [] good = every-nil P
+    list-every n (b ∷ bs) good = go (eqb (b .list) n) (list-every n bs (λ i none h. good (suc i) none (omega arith)))
+      where
+        go : (own : Bool) → Every P (userList n bs) → Every P (cond own (b .bridge ∷ userList n bs) (userList n bs))
+        go true rest =
+            every-cons P (b .bridge) (userList n bs)
+            (of-good (b .bridge) (both (between 1 127 (b .list)) (bridgeGood (b .bridge)) (good 0 b (omega arith)) .1))
+            rest
+        go false rest = rest
+
+    pub faults-every : (c : Circuit) → CircuitGood c → (i : Instance)
+        → let t = typeOfInstance (c .types) i in EveryPair (t .highest) (t .labels) → Every P (faultsOf (c .types) (c .bridges) i)
+    unfolding faultsOf chosen
+    faults-every c good i each = go (i .choice)
+      where
+        t : ModuleType
+        t = typeOfInstance (c .types) i
+
+        go : (choice : Choice) → Every P (chosen t (c .bridges) choice)
+        go exhaustive = exhaustive-every (t .highest) (t .labels) each
+        go no-faults = every-nil P
+        go (list n) = list-every n (c .bridges) (good .bridges)
+
+-- ---- their nodes and labels
 
 bridge-fits : (b : Bridge) → T (bridgeGood b) → BridgeFits b
 unfolding bridgeGood
@@ -65,28 +101,14 @@ bridge-fits (nodes a b) t =
 bridge-fits (input m l) t =
     let ends = both (leb m 31) (leb l 11) t in (omega (arith, leb→le m 31 (ends .0)), omega (arith, leb→le l 11 (ends .1)))
 
-list-fits : (n : ℕ) (bs : List Listed) → Each (λ (i : ℕ) (b : Listed). T (listedGood b)) bs → Every BridgeFits (userList n bs)
-unfolding userList listedGood
-list-fits n [] good = every-nil BridgeFits
-list-fits n (b ∷ bs) good =
-    go (eqb (b .list) n) (list-fits n bs (λ i none h. good (suc i) none (omega arith)))
-  where
-    go : (own : Bool) → Every BridgeFits (userList n bs) → Every BridgeFits (cond own (b .bridge ∷ userList n bs) (userList n bs))
-    go true rest = every-cons BridgeFits (b .bridge) (userList n bs) (bridge-fits (b .bridge) (both (between 1 127 (b .list)) (bridgeGood (b .bridge)) (good 0 b (omega arith)) .1)) rest
-    go false rest = rest
-
 pub faults-fit : (c : Circuit) → CircuitGood c → (i : ℕ) (none : Instance) → i < length (c .instances)
     → Every BridgeFits (faultsOf (c .types) (c .bridges) (getD (c .instances) i none))
-unfolding faultsOf chosen
-faults-fit c good i none h = go (types-fit c good i none h) (getD (c .instances) i none .choice)
-  where
-    t : ModuleType
-    t = typeOfInstance (c .types) (getD (c .instances) i none)
-
-    go : TypeFits t → (choice : Choice) → Every BridgeFits (chosen t (c .bridges) choice)
-    go fits exhaustive = exhaustive-fits (t .highest) (t .labels) (fits .nodes-are) (fits .labels-are)
-    go fits no-faults = every-nil BridgeFits
-    go fits (list n) = list-fits n (c .bridges) (good .bridges)
+faults-fit c good i none h =
+    let fits = types-fit c good i none h in
+    faults-every BridgeFits bridge-fits c good (getD (c .instances) i none) record {
+      nodes-do = λ a j p q. (omega (arith, fits .nodes-are), omega (arith, fits .nodes-are));
+      inputs-do = λ m l p q. (omega (arith, fits .nodes-are), omega (arith, fits .labels-are));
+    }
 
 -- ---- rows
 

@@ -17,8 +17,7 @@ use Rattle.grading.specs.Rows.{Row, rowWith, noInstance, noRow, rowsOfInstance,
 use Rattle.grading.specs.Statements.{RowOf}
 use Rattle.grading.proofs.Everywhere.{Every, every-nil, every-append, every-map, every-at, place-of}
 use Rattle.grade_marks.proofs.RowMeaning.{faults-suit}
-use Rattle.grading.proofs.RowsPlaced.{Placed, rows-placed}
-use Rattle.grading.proofs.ValueLaws.{instance-good}
+use Rattle.grading.proofs.RowsPlaced.{row-placed, row-good}
 use Rattle.demands.specs.Two.{rowAt, instanceOf}
 
 pub row-of : (c : Circuit) (r : ℕ) → r < length (rowsOf c) → RowOf c (rowAt c r)
@@ -32,18 +31,16 @@ numbered-at as′ (suc n) none h = let e : suc n - 1 ≡ n = omega arith in rw e
 
 -- the instance of a row is that with its number, and the row has its type
 module _ (c : Circuit) (row : Row) (is-row : RowOf c row) where
-  placed : Placed (c .types) 1 (c .instances) noInstance row
-  unfolding rowsOf
-  placed = rows-placed (c .types) (c .bridges) noInstance 1 (c .instances) row is-row
-
   pub row-number : (1 ≤ row .number) × (row .number ≤ length (c .instances))
-  row-number = (placed .low, omega (arith, placed .high))
+  row-number = (row-placed c row is-row .low, omega (arith, row-placed c row is-row .high))
 
   pub row-instance : row .instance ≡ instanceOf c (row .number)
-  row-instance = placed .instance-is ∙ sym (numbered-at (c .instances) (row .number) noInstance (placed .low))
+  row-instance =
+      row-placed c row is-row .instance-is
+      ∙ sym (numbered-at (c .instances) (row .number) noInstance (row-placed c row is-row .low))
 
   pub row-type : row .type ≡ typeOfInstance (c .types) (instanceOf c (row .number))
-  row-type = placed .type-is ∙ ap (typeOfInstance (c .types)) row-instance
+  row-type = row-placed c row is-row .type-is ∙ ap (typeOfInstance (c .types)) row-instance
 
 -- a row of the same instance, with another bridge
 abbrev pub withBridge : Row → Bridge → Row
@@ -96,8 +93,7 @@ unfolding rowsOf bridgeSuits
 label-named c good row is-row m l e =
     let i : Instance = row .instance in
     let t : ModuleType = typeOfInstance (c .types) i in
-    let at = rows-placed (c .types) (c .bridges) i 1 (c .instances) row is-row in
-    let known = instance-good c good (row .number - 1) (omega (arith, at .low, at .high)) i i (sym (at .instance-is)) in
+    let known = row-good c row is-row good in
     let place = place-of (row .bridge) (rows-from (c .types) (c .bridges) 1 (c .instances) row is-row .fault) in
     let suits : T (bridgeSuits t (row .bridge)) = rw (place .2) at (faults-suit (c .types) (c .bridges) i (known .suited) (place .0) (row .bridge) (place .1)) in
     let ends = both (leb m (t .highest)) (ltb l (t .labels)) (rw e at suits) in

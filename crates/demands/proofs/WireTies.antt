@@ -12,7 +12,6 @@ use lib.ListN.{length, getD, List·getD-eq-default}
 use Rattle.switch.specs.Conduction.{ground, supply}
 use Rattle.switch.specs.Bridges.{Bridge, nodes, input}
 use Rattle.switch.proofs.Channels.{in-between}
-use Rattle.switch.proofs.Deciding.{all-of}
 use Rattle.circuit.specs.Circuit.{Circuit, Instance, Reference, primary, outputOf, numbered, typeOfInstance}
 use Rattle.circuit.specs.Numbers.{referenceGood}
 use Rattle.circuit.specs.Laws.{CircuitGood}
@@ -21,6 +20,7 @@ use Rattle.grading.specs.Rows.{Row, noInstance, rowsOf}
 use Rattle.grading.specs.Wires.{Wire, groundWire, supplyWire, inputWire, outputWire, innerWire, nodeWire, referenceWire, labelWire}
 use Rattle.grading.specs.Wires.{End, one-end, other-end, wireAt, wireOf}
 use Rattle.grading.specs.Statements.{RowOf}
+use Rattle.grading.proofs.RowsPlaced.{referred}
 use Rattle.grading.proofs.ValueLaws.{type-ranges, type-good}
 use Rattle.demands.specs.Two.{rowAt, instanceOf, OneClass}
 use Rattle.demands.specs.OneWire.{Point, node, label, referenceAt, outputNode, Tied, grounds, supplies, inputs, outputs, itself, turned, through}
@@ -30,7 +30,7 @@ use Rattle.demands.proofs.ClassCounts.{classes-count-once}
 
 -- ---- what a label refers to
 
-no-output : (k : ℕ) → primary 0 ≡ outputOf k → ⊥
+pub no-output : (k : ℕ) → primary 0 ≡ outputOf k → ⊥
 no-output k e = let z : _≡_ {A = ℕ} 0 1 = cc in omega arith
 
 none-at : (l : ℕ) → getD (noInstance .references) l (primary 0) ≡ primary 0
@@ -48,17 +48,12 @@ module _ (c : Circuit) (good : CircuitGood c) where
       inst : Instance
       inst = getD (c .instances) j noInstance
 
-      there : j < length (c .instances) → Dec (l < length (inst .references)) → (1 ≤ k) × (k ≤ length (c .instances))
-      there h (yes q) =
-          let tied : T (referenceGood (c .inputs) j (getD (inst .references) l (primary 0))) =
-          all-of (referenceGood (c .inputs) j) (primary 0) (inst .references) .0 (good .instances j noInstance h .references) l q in
-          let range = output-range (c .inputs) j k (rw e at tied) in
-          (range .0, omega (arith, range .1))
-      there h (no q) =
-          absurd (no-output k (sym (List·getD-eq-default (inst .references) (primary 0) {n = l} (omega arith)) ∙ e))
-
       go : Dec (j < length (c .instances)) → (1 ≤ k) × (k ≤ length (c .instances))
-      go (yes h) = there h (decLt l (length (inst .references)))
+      go (yes h) =
+          ⊎-elim
+          (λ tied. let range = output-range (c .inputs) j k (rw e at tied) in (range .0, omega (arith, range .1)))
+          (λ none. absurd (no-output k (sym none ∙ e)))
+          (referred (c .inputs) j (inst .references) (good .instances j noInstance h .references) l)
       go (no h) =
           let none : inst ≡ noInstance = List·getD-eq-default (c .instances) noInstance {n = j} (omega arith) in
           absurd (no-output k (sym (none-at l) ∙ ap (λ (i : Instance). getD (i .references) l (primary 0)) (sym none) ∙ e))

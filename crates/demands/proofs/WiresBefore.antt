@@ -4,33 +4,31 @@ use Prim.Native.Nat.{ℕ, suc, _-_, _<_}
 use mathlib.Core.Path.{_≡_, refl, sym, ap, _∙_}
 use mathlib.Core.Bool.{Bool, true, false, cond, not, _&&_}
 use mathlib.Core.Logic.{_⊎_, inl, inr, ⊎-elim, _↔_}
-use native.Mathlib.Decide.{decLt}
 use native.Mathlib.Omega.{arith}
 use borrow.Author.Tests.{eqb-true, eq-eqb}
 use lib.Dec.{T, eqb, leb}
-use lib.ListN.{length, getD, List·getD-eq-default}
+use lib.ListN.{length, getD}
 use Rattle.switch.specs.Conduction.{ground, supply}
 use Rattle.switch.specs.Bridges.{Bridge, nodes, input}
 use Rattle.switch.proofs.Channels.{in-between}
-use Rattle.switch.proofs.Deciding.{all-of}
 use Rattle.switch.proofs.Paths.{both}
 use Rattle.circuit.specs.Circuit.{Circuit, Instance, Reference, primary, outputOf, typeOfInstance, faultsOf}
 use Rattle.circuit.specs.Numbers.{referenceGood}
 use Rattle.circuit.specs.Table.{bridgeGood}
-use Rattle.circuit.specs.Laws.{CircuitGood, InstanceGood}
+use Rattle.circuit.specs.Laws.{CircuitGood}
 use Rattle.circuit.proofs.CircuitLaws.{accepted-is-good}
 use Rattle.circuit.proofs.Tested.{getD-any}
-use Rattle.grading.specs.Rows.{Row, noInstance, rowsOf}
+use Rattle.grading.specs.Rows.{Row, rowsOf}
 use Rattle.grading.specs.Wires.{Wire, groundWire, supplyWire, inputWire, outputWire, innerWire, nodeWire, referenceWire, labelWire}
 use Rattle.grading.specs.Wires.{End, one-end, other-end, wireAt, wireOf}
 use Rattle.grading.specs.Statements.{RowOf}
 use Rattle.grading.proofs.Everywhere.{Every}
 use Rattle.grading.proofs.FaultRanges.{faults-every}
-use Rattle.grading.proofs.RowsPlaced.{Placed, rows-placed}
-use Rattle.grading.proofs.ValueLaws.{instance-good}
+use Rattle.grading.proofs.RowsPlaced.{row-reference}
 use Rattle.demands.specs.Two.{rowAt, instanceOf, OneClass}
 use Rattle.demands.specs.OneWire.{EqualBridges, EndsAreTwoWires, InOneInstanceAsBefore}
-use Rattle.demands.proofs.RowFaults.{row-of, row-instance, row-type, rows-from, label-named}
+use Rattle.demands.proofs.RowFaults.{row-of, row-number, row-instance, row-type, rows-from, label-named}
+use Rattle.demands.proofs.WireTies.{no-output}
 
 -- ---- wires of one instance
 
@@ -91,24 +89,13 @@ good-earlier P before (outputOf j) t i e = let same : j ≡ i = cc in omega (ari
 -- ---- a row of a good circuit
 
 module _ (c : Circuit) (good : CircuitGood c) (row : Row) (is-row : RowOf c row) where
-  placed : Placed (c .types) 1 (c .instances) noInstance row
-  unfolding rowsOf
-  placed = rows-placed (c .types) (c .bridges) noInstance 1 (c .instances) row is-row
-
   label-earlier : (l : ℕ) → Earlier (row .number) (getD (row .instance .references) l (primary 0))
-  label-earlier l i e = go (decLt l (length (row .instance .references)))
-    where
-      own : InstanceGood (c .inputs) (c .types) (c .bridges) (row .number - 1) (row .instance)
-      own = instance-good c good (row .number - 1) (omega (arith, placed .low, placed .high)) noInstance (row .instance) (sym (placed .instance-is))
-
-      go : Dec (l < length (row .instance .references)) → i < row .number
-      go (yes h) =
-          let tied = all-of (referenceGood (c .inputs) (row .number - 1)) (primary 0) (row .instance .references) .0 (own .references) l h in
-          omega (arith, placed .low, good-earlier (c .inputs) (row .number - 1) (getD (row .instance .references) l (primary 0)) tied i e)
-      go (no h) =
-          let none : primary 0 ≡ outputOf i = sym (List·getD-eq-default (row .instance .references) (primary 0) {n = l} (omega arith)) ∙ e in
-          let no : _≡_ {A = ℕ} 0 1 = cc in
-          absurd (omega arith)
+  label-earlier l i e =
+      let r : Reference = getD (row .instance .references) l (primary 0) in
+      ⊎-elim
+      (λ tied. omega (arith, row-number c row is-row .0, good-earlier (c .inputs) (row .number - 1) r tied i e))
+      (λ none. absurd (no-output i (sym none ∙ e)))
+      (row-reference c row is-row good l)
 
   -- no node of its instance has the wire of a label
   pub node-not-label : (m l : ℕ) → nodeWire (row .number) (row .type .output) m ≡ labelWire (row .instance) l → ⊥

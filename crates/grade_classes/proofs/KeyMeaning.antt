@@ -2,22 +2,20 @@
 -- own number, and a pair of numbers is known by its lower and its higher one. Assumes nothing.
 use Prim.Native.Nat.{ℕ, suc, _+_, _-_, _*_, _<_, _≤_, min, max}
 use mathlib.Core.Path.{_≡_, refl, sym, ap, ap₂, _∙_}
+use mathlib.Core.Logic.{⊎-elim}
 use mathlib.Core.Bool.{Bool, true, false, _&&_, _||_}
-use mathlib.Core.List.{List}
-use native.Mathlib.Decide.{decLt}
 use native.Mathlib.Omega.{arith}
 use borrow.Author.Tests.{eqb-true, eqb-false, eq-eqb, ne-eqb}
 use lib.Dec.{T, eqb}
-use lib.ListN.{length, getD, List·getD-eq-default}
+use lib.ListN.{getD}
 use Rattle.words.proofs.Tables.{getD-table}
 use Rattle.switch.specs.Bridges.{Bridge, nodes, input}
 use Rattle.switch.proofs.Channels.{in-between}
-use Rattle.switch.proofs.Deciding.{all-of}
 use Rattle.circuit.specs.Circuit.{Circuit, Reference, primary, outputOf, Instance}
 use Rattle.circuit.specs.Numbers.{referenceGood}
 use Rattle.circuit.specs.Records.{unusedReference}
-use Rattle.circuit.specs.Laws.{CircuitGood, InstanceGood}
-use Rattle.grading.specs.Rows.{Row, noInstance, rowsOf}
+use Rattle.circuit.specs.Laws.{CircuitGood}
+use Rattle.grading.specs.Rows.{Row}
 use Rattle.grading.specs.Wires.{Wire, nodeWire, referenceWire, labelWire, one-end, other-end, wireAt, wireOf}
 use Rattle.grading.specs.Classes.{sameWire, samePair, sameClass}
 use Rattle.grading.specs.Statements.{RowOf}
@@ -25,8 +23,7 @@ use Rattle.grading.specs.Codes.{kindOf, firstEnd, secondEnd, codeOf}
 use Rattle.grading.proofs.CodeLaws.{code-instance, code-kind, code-first, code-second}
 use Rattle.grading.proofs.FaultRanges.{BridgeFits, rows-fit}
 use Rattle.grading.proofs.RecordReads.{referencesOf, reference-at}
-use Rattle.grading.proofs.RowsPlaced.{Placed, rows-placed}
-use Rattle.grading.proofs.ValueLaws.{instance-good}
+use Rattle.grading.proofs.RowsPlaced.{row-placed, row-reference}
 use Rattle.grade_classes.specs.Model.{wireNumber, referenceNumber, labelNumbers, pairKey, keyOf}
 use Rattle.grade_classes.proofs.WireNumbers.{WireFits, reference-number, number-few, same-number, node-fits}
 
@@ -111,28 +108,16 @@ module _ (c : Circuit) (good : CircuitGood c) (row : Row) (is-row : RowOf c row)
   abbrev RowWired : Type 0
   RowWired = WireFits (wireOf row one-end) × WireFits (wireOf row other-end)
 
-  placed : Placed (c .types) 1 (c .instances) noInstance row
-  unfolding rowsOf
-  placed = rows-placed (c .types) (c .bridges) noInstance 1 (c .instances) row is-row
-
-  within : row .number - 1 < length (c .instances)
-  within = omega (arith, placed .low, placed .high)
-
   few : row .number ≤ 128
-  few = omega (arith, placed .high, good .few-instances)
+  few = omega (arith, row-placed c row is-row .high, good .few-instances)
 
   label-fits : (l : ℕ) → WireFits (labelWire (row .instance) l)
   unfolding labelWire
-  label-fits l = go (decLt l (length (row .instance .references)))
-    where
-      own : InstanceGood (c .inputs) (c .types) (c .bridges) (row .number - 1) (row .instance)
-      own = instance-good c good (row .number - 1) within noInstance (row .instance) (sym (placed .instance-is))
-
-      go : Dec (l < length (row .instance .references)) → WireFits (referenceWire (getD (row .instance .references) l (primary 0)))
-      go (yes h) =
-          reference-fits (c .inputs) (row .number - 1) (getD (row .instance .references) l (primary 0)) (good .few-inputs) (omega (arith, few))
-          (all-of (referenceGood (c .inputs) (row .number - 1)) (primary 0) (row .instance .references) .0 (own .references) l h)
-      go (no h) = rw (List·getD-eq-default (row .instance .references) (primary 0) {n = l} (omega arith)) none-fits
+  label-fits l =
+      ⊎-elim
+      (reference-fits (c .inputs) (row .number - 1) (getD (row .instance .references) l (primary 0)) (good .few-inputs) (omega (arith, few)))
+      (λ none. rw none none-fits)
+      (row-reference c row is-row good l)
 
   row-wired : RowWired
   unfolding wireAt

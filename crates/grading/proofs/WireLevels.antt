@@ -22,13 +22,13 @@ use Rattle.switch.proofs.Deciding.{same-test, joins-decides, mark-decides}
 use Rattle.circuit.specs.Circuit.{Circuit, Instance, Reference, primary, outputOf, numbered, typeOfInstance}
 use Rattle.circuit.specs.Laws.{CircuitGood}
 use Rattle.grading.specs.Values.{valueAt, labelValues, outputsOf}
-use Rattle.grading.specs.Rows.{Row, noInstance, rowsOf, rowValues, cell}
+use Rattle.grading.specs.Rows.{Row, noInstance, rowValues, cell}
 use Rattle.grading.specs.Wires.{Wire, groundWire, supplyWire, inputWire, outputWire, innerWire, nodeWire, referenceWire, labelWire}
 use Rattle.grading.specs.Wires.{End, one-end, other-end, wireAt, wireOf, carried, leaks}
 use Rattle.grading.specs.Statements.{RowOf, CellsAreOfWires}
 use Rattle.grading.proofs.ValueLaws.{type-good, type-accepted, label-value}
 use Rattle.grading.proofs.SettledOutputs.{output-at}
-use Rattle.grading.proofs.RowsPlaced.{Placed, rows-placed}
+use Rattle.grading.proofs.RowsPlaced.{Placed, row-placed, row-within}
 
 -- ---- two levels
 
@@ -181,24 +181,21 @@ reference-level c vector (outputOf i) = refl
 -- ---- rows
 
 module _ (c : Circuit) (good : CircuitGood c) (row : Row) (is-row : RowOf c row) where
-  placed : Placed (c .types) 1 (c .instances) noInstance row
-  unfolding rowsOf
-  placed = rows-placed (c .types) (c .bridges) noInstance 1 (c .instances) row is-row
+  abbrev placed : Placed (c .types) 1 (c .instances) noInstance row
+  placed = row-placed c row is-row
 
-  at : ℕ
+  abbrev at : ℕ
   at = row .number - 1
 
   within : at < length (c .instances)
-  unfolding at
-  within = omega (arith, placed .low, placed .high)
+  within = row-within c row is-row
 
   pub row-accepted : Accepted (row .type)
-  unfolding at
   row-accepted = rw (placed .type-is, placed .instance-is) (accepted c good at within)
 
   module _ (vector : List Value) where
     pub row-node : (m : ℕ) → carried c vector (nodeWire (row .number) (row .type .output) m) ≡ levelIn (linksOf (row .type) (rowValues c vector row)) m
-    unfolding rowValues at
+    unfolding rowValues
     row-node m =
         let next : row .number ≡ suc at = omega (arith, placed .low) in
         rw (placed .type-is, placed .instance-is)

@@ -20,12 +20,11 @@ use Rattle.switch.specs.Statements.{Accepted}
 use Rattle.switch.proofs.Apart.{rails-apart}
 use Rattle.switch.proofs.Deciding.{mark-decides}
 use Rattle.switch.proofs.Marks.{closed-path-is-ends}
-use Rattle.circuit.specs.Circuit.{Circuit, typeOfInstance}
+use Rattle.circuit.specs.Circuit.{Circuit}
 use Rattle.circuit.specs.Laws.{CircuitGood}
 use Rattle.grading.specs.Rows as rows
 use Rattle.grading.specs.Rows.{Row, noRow, rowsOf, rowValues, CellMarked, markOf, rowWords, matrixOf}
 use Rattle.grading.specs.Grading.{over}
-use Rattle.grading.proofs.Everywhere.{every-at}
 use Rattle.grade_classes.proofs.FoundMeaning.{words-are}
 use Rattle.grading.proofs.WireLevels.{row-accepted as type-accepted}
 use Rattle.demands.specs.Calls.{Call, cellAt}

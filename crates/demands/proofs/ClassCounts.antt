@@ -12,8 +12,7 @@ use Rattle.circuit.specs.Circuit.{Circuit}
 use Rattle.grading.specs.Rows.{noRow, rowsOf}
 use Rattle.grading.specs.Classes.{classesOf, classFound, foundBy, classCount, foundCount}
 use Rattle.grading.specs.Grading as meant
-use Rattle.grading.specs.Statements.{RowOf, ClassNumbers}
-use Rattle.grading.proofs.Everywhere.{every-at}
+use Rattle.grading.specs.Statements.{ClassNumbers}
 use Rattle.grading.proofs.ClassNumbering.{class-numbers}
 use Rattle.demands.specs.Calls.{Call}
 use Rattle.demands.specs.Two.{rowAt, OneClass, Found, ClassesTell, ClassesCountOnce}

@@ -12,7 +12,6 @@ use Rattle.words.specs.Tables.{upTo}
 use Rattle.switch.specs.Conduction.{Value}
 use Rattle.switch.specs.Modules.{linksOf, LevelIs}
 use Rattle.switch.specs.Bridges.{Bridge, nodes, input}
-use Rattle.switch.specs.Deciding.{levelIn}
 use Rattle.switch.proofs.Refinement.{level-is-one}
 use Rattle.circuit.specs.Circuit.{Circuit}
 use Rattle.circuit.specs.Laws.{CircuitGood}
@@ -21,7 +20,7 @@ use Rattle.grading.specs.Rows.{Row, rowsOf, rowValues, cell, markOf}
 use Rattle.grading.specs.Wires.{End, one-end, other-end, nodeWire, wireAt, wireOf, carried, leaks}
 use Rattle.grading.specs.Classes.{sameClass}
 use Rattle.grading.specs.Statements.{RowOf}
-use Rattle.grading.proofs.WireLevels.{Opposed, leaks-opposed, opposed-leaks, row-node, row-label, row-accepted, cells-are-of-wires}
+use Rattle.grading.proofs.WireLevels.{leaks-opposed, opposed-leaks, row-node, row-label, row-accepted, cells-are-of-wires}
 use Rattle.grading.proofs.SameClass.{classes-have-equal-marks}
 use Rattle.demands.specs.Two.{rowAt, rowOfCell, vectorOfCell, markIn}
 use Rattle.demands.specs.OneWire.{EndIs, OneWireOneLevel, MarksAreOfWires, OneShortOneMark, RowsOfOneClassAreEqual}

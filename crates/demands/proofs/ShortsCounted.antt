@@ -10,15 +10,14 @@ use Rattle.words.specs.Bits.{ofBool}
 use Rattle.switch.specs.Conduction.{Value}
 use Rattle.circuit.specs.Circuit.{Circuit}
 use Rattle.circuit.specs.Laws.{CircuitGood}
-use Rattle.grading.specs.Rows.{Row, noRow, rowsOf, cell, markOf}
+use Rattle.grading.specs.Rows.{Row, noRow, cell, markOf}
 use Rattle.grading.specs.Wires.{one-end, other-end, wireOf, leaks}
 use Rattle.grading.specs.Classes.{sameClass}
 use Rattle.grading.specs.Statements.{RowOf}
 use Rattle.grading.proofs.Everywhere.{place-of}
 use Rattle.grading.proofs.WireLevels.{cells-are-of-wires}
 use Rattle.grading.proofs.SameClass.{same-ends, leaks-alike}
-use Rattle.demands.specs.Calls.{Call, GradedAs}
-use Rattle.demands.specs.Two.{rowAt, OneClass}
+use Rattle.demands.specs.Two.{rowAt}
 use Rattle.demands.specs.OneWire.{AlikeButLists, ShortsAmong, MoreShortsCountNoFewer, SameShortsCountAlike}
 use Rattle.demands.proofs.RowFaults.{row-of}
 use Rattle.demands.proofs.OneClass.{one-class-is-tested}

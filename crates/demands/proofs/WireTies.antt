@@ -3,7 +3,6 @@ use Prim.Native.Nat.{ℕ, zero, suc, _-_, _<_, _≤_}
 use mathlib.Core.Path.{_≡_, refl, sym, ap, subst, _∙_}
 use mathlib.Core.Bool.{Bool, true, false, cond}
 use mathlib.Core.Logic.{_⊎_, inl, inr, ⊎-elim, _↔_}
-use mathlib.Core.List.{List}
 use native.Mathlib.Decide.{decLt}
 use native.Mathlib.Omega.{arith}
 use borrow.Author.Tests.{eqb-true, eq-eqb, ne-eqb}
@@ -16,13 +15,13 @@ use Rattle.circuit.specs.Circuit.{Circuit, Instance, Reference, primary, output
 use Rattle.circuit.specs.Numbers.{referenceGood}
 use Rattle.circuit.specs.Laws.{CircuitGood}
 use Rattle.circuit.proofs.CircuitLaws.{accepted-is-good}
-use Rattle.grading.specs.Rows.{Row, noInstance, rowsOf}
+use Rattle.grading.specs.Rows.{Row, noInstance}
 use Rattle.grading.specs.Wires.{Wire, groundWire, supplyWire, inputWire, outputWire, innerWire, nodeWire, referenceWire, labelWire}
 use Rattle.grading.specs.Wires.{End, one-end, other-end, wireAt, wireOf}
 use Rattle.grading.specs.Statements.{RowOf}
 use Rattle.grading.proofs.RowsPlaced.{referred}
 use Rattle.grading.proofs.ValueLaws.{type-ranges, type-good}
-use Rattle.demands.specs.Two.{rowAt, instanceOf, OneClass}
+use Rattle.demands.specs.Two.{rowAt, OneClass}
 use Rattle.demands.specs.OneWire.{Point, node, label, referenceAt, outputNode, Tied, grounds, supplies, inputs, outputs, itself, turned, through}
 use Rattle.demands.specs.OneWire.{pointAt, pointOf, WiresAreTies, ClassesAreTies}
 use Rattle.demands.proofs.RowFaults.{row-of, row-instance, row-type}

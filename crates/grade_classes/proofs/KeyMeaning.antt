@@ -1,7 +1,7 @@
 -- The key of a row tells its class: two rows of a circuit have equal keys exactly when they are one class, since each wire of a circuit has its
 -- own number, and a pair of numbers is known by its lower and its higher one. Assumes nothing.
-use Prim.Native.Nat.{ℕ, suc, _+_, _-_, _*_, _<_, _≤_, min, max}
-use mathlib.Core.Path.{_≡_, refl, sym, ap, ap₂, _∙_}
+use Prim.Native.Nat.{ℕ, _+_, _-_, _*_, _<_, _≤_, min, max}
+use mathlib.Core.Path.{_≡_, refl, ap, _∙_}
 use mathlib.Core.Logic.{⊎-elim}
 use mathlib.Core.Bool.{Bool, true, false, _&&_, _||_}
 use native.Mathlib.Omega.{arith}
@@ -16,8 +16,8 @@ use Rattle.circuit.specs.Numbers.{referenceGood}
 use Rattle.circuit.specs.Records.{unusedReference}
 use Rattle.circuit.specs.Laws.{CircuitGood}
 use Rattle.grading.specs.Rows.{Row}
-use Rattle.grading.specs.Wires.{Wire, nodeWire, referenceWire, labelWire, one-end, other-end, wireAt, wireOf}
-use Rattle.grading.specs.Classes.{sameWire, samePair, sameClass}
+use Rattle.grading.specs.Wires.{Wire, referenceWire, labelWire, one-end, other-end, wireAt, wireOf}
+use Rattle.grading.specs.Classes.{samePair, sameClass}
 use Rattle.grading.specs.Statements.{RowOf}
 use Rattle.grading.specs.Codes.{kindOf, firstEnd, secondEnd, codeOf}
 use Rattle.grading.proofs.CodeLaws.{code-instance, code-kind, code-first, code-second}

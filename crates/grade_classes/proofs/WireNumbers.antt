@@ -5,7 +5,7 @@ use mathlib.Core.Path.{_≡_, refl, sym, ap, _∙_}
 use mathlib.Core.Bool.{Bool, true, false, cond}
 use native.Mathlib.Omega.{arith}
 use borrow.Author.Tests.{eqb-true, eqb-false, eq-eqb, ne-eqb, lt-ltb, le-ltb}
-use lib.Dec.{T, eqb, ltb, eqb→eq, eqb-refl}
+use lib.Dec.{eqb, ltb, eqb→eq, eqb-refl}
 use Rattle.switch.specs.Conduction.{ground, supply}
 use Rattle.switch.proofs.Deciding.{same-test}
 use Rattle.circuit.specs.Circuit.{Reference, primary, outputOf}

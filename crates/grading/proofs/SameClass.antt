@@ -1,16 +1,15 @@
 -- To be of one class, to join the same two wires, is an equivalence on rows; and rows of one class have equal marks, because a mark is a symmetric
 -- function of what its two wires carry. Assumes nothing.
-use mathlib.Core.Path.{_≡_, refl, sym, ap₂, _∙_}
-use mathlib.Core.Logic.{inl, inr, ⊎-elim}
+use mathlib.Core.Path.{_≡_, refl, sym, _∙_}
+use mathlib.Core.Logic.{inl, inr}
 use mathlib.Core.List.{List}
 use lib.Dec.{T}
 use Rattle.switch.specs.Conduction.{Value}
 use Rattle.circuit.specs.Circuit.{Circuit}
-use Rattle.circuit.specs.Laws.{CircuitGood}
-use Rattle.grading.specs.Rows.{Row, cell}
+use Rattle.grading.specs.Rows.{Row}
 use Rattle.grading.specs.Wires.{Wire, one-end, other-end, wireOf, carried, leaks}
 use Rattle.grading.specs.Classes.{sameClass}
-use Rattle.grading.specs.Statements.{RowOf, SameClassIsEquivalence, ClassesHaveEqualMarks}
+use Rattle.grading.specs.Statements.{SameClassIsEquivalence, ClassesHaveEqualMarks}
 use Rattle.grading.proofs.WireLaws.{EqualPairs, pair-eq, pair-same, pair-turned, pair-through}
 use Rattle.grading.proofs.WireLevels.{cells-are-of-wires}
 

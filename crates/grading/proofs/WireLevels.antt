@@ -12,7 +12,7 @@ use lib.Dec.{T, eqb}
 use lib.ListN.{length, getD}
 use Rattle.switch.specs.Conduction.{Value, at0, at1, atX, Link, Joined, here, ground, supply}
 use Rattle.switch.specs.Modules.{ModuleType, linksOf}
-use Rattle.switch.specs.Bridges.{Bridge, nodes, input, Marked, MarkedByEnds}
+use Rattle.switch.specs.Bridges.{Bridge, nodes, input, MarkedByEnds}
 use Rattle.switch.specs.Deciding.{joins, levelIn, isMarked}
 use Rattle.switch.specs.Statements.{Accepted}
 use Rattle.switch.proofs.Paths.{turned, through}
@@ -23,8 +23,8 @@ use Rattle.circuit.specs.Circuit.{Circuit, Instance, Reference, primary, output
 use Rattle.circuit.specs.Laws.{CircuitGood}
 use Rattle.grading.specs.Values.{valueAt, labelValues, outputsOf}
 use Rattle.grading.specs.Rows.{Row, noInstance, rowValues, cell}
-use Rattle.grading.specs.Wires.{Wire, groundWire, supplyWire, inputWire, outputWire, innerWire, nodeWire, referenceWire, labelWire}
-use Rattle.grading.specs.Wires.{End, one-end, other-end, wireAt, wireOf, carried, leaks}
+use Rattle.grading.specs.Wires.{groundWire, supplyWire, outputWire, innerWire, nodeWire, referenceWire, labelWire}
+use Rattle.grading.specs.Wires.{one-end, other-end, wireAt, wireOf, carried, leaks}
 use Rattle.grading.specs.Statements.{RowOf, CellsAreOfWires}
 use Rattle.grading.proofs.ValueLaws.{type-good, type-accepted, label-value}
 use Rattle.grading.proofs.SettledOutputs.{output-at}

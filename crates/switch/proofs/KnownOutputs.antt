@@ -8,7 +8,7 @@ use mathlib.Core.List.{List}
 use lib.Dec.{T}
 use Rattle.switch.specs.Conduction.{Value, at0, at1, atX, Link, Joined, ground, supply}
 use Rattle.switch.specs.Modules.{linksOf, settingOf, ExactlyOne, only-first, only-second, Complementary}
-use Rattle.switch.specs.Deciding.{joins, levelIn, outputValue}
+use Rattle.switch.specs.Deciding.{joins, levelIn}
 use Rattle.switch.specs.Statements.{KnownOutput}
 use Rattle.switch.proofs.Paths.{linksOf-cong}
 use Rattle.switch.proofs.Deciding.{joins-decides}

@@ -1,5 +1,4 @@
 -- `grade_classes::node_wire` meets its contract. Assumes nothing.
-use native.Mathlib.Omega.{arith}
 use borrow.Author.Needs.{needs}
 use Rattle.grade_classes.proofs.WireNumbers.{rail-number, output-number, inner-number}
 use Rattle.grade_classes.proofs.node_wire.Statement.{statement}

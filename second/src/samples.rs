@@ -19,6 +19,7 @@ pub fn sample_files() -> Vec<NamedFile> {
         ("both_ends", both_ends()),
         ("floating", floating()),
         ("tied", tied()),
+        ("driven", driven()),
         ("unfixed", unfixed()),
         ("guessed", guessed()),
         ("outputs", outputs()),
@@ -63,6 +64,20 @@ fn tied() -> FileBuilder {
         .nand()
         .instance(1, -1, &[1, 1])
         .vectors(&["0", "1", "X"])
+}
+
+/// The NAND's output to ground, listed at the NAND and again at the inverter that
+/// it drives; between the two a bridge that no vector finds.
+fn driven() -> FileBuilder {
+    FileBuilder::inputs(2)
+        .nand()
+        .inverter()
+        .bridge(1, 0, 0, 2)
+        .bridge(1, 0, 0, 3)
+        .bridge(2, 1, 0, 0)
+        .instance(1, 1, &[1, 2])
+        .instance(2, 2, &[-1])
+        .vectors(&["00", "01", "11"])
 }
 
 /// The second input is fixed by nobody.

@@ -3,12 +3,13 @@
 
 mod support;
 
-use second::circuit::{Bridge, Circuit, Kind, ModuleType, Value};
+use second::circuit::{Bridge, Circuit, Instance, Kind, ListedBridge, ModuleType, Value};
 use second::conduction::{is_on, output_value, Graph, GROUND, SUPPLY};
 use second::grade::{Graded, Row};
 use second::read::read;
 use second::report::report_of;
 use second::starts::nand_under;
+use second::write::{bytes_of, fields_of};
 use support::{answer, digits, sample_file, Accepted};
 
 fn first_line(name: &str) -> String {
@@ -22,6 +23,11 @@ fn graded(name: &str) -> Graded {
 
 fn circuit(name: &str) -> Circuit {
     read(&sample_file(name)).expect("samples are accepted")
+}
+
+fn document(name: &str) -> String {
+    let path = format!("{}/../docs/{name}", env!("CARGO_MANIFEST_DIR"));
+    std::fs::read_to_string(path).expect("the document is there")
 }
 
 #[test]
@@ -129,6 +135,28 @@ fn tied() {
     assert_eq!(first_line("tied"), line);
 }
 
+/// Row 3 is row 1 once more, in another instance and of the other kind. Kept apart they
+/// would be two of three; they are one of two.
+#[test]
+fn driven() {
+    let line = "vectors 3 faults 3 classes 2 found 1";
+    assert_eq!(first_line("driven"), line);
+    let rows = graded("driven").rows;
+    let told: Vec<(usize, Kind, u16)> = rows
+        .iter()
+        .map(|row| (row.instance, row.bridge.kind, row.class))
+        .collect();
+    let wanted = [
+        (1, Kind::Nodes, 1),
+        (1, Kind::Nodes, 2),
+        (2, Kind::Label, 1),
+    ];
+    assert_eq!(told, wanted);
+    assert_eq!(rows[0].marks, rows[2].marks);
+    let is_marked = |row: &&Row| row.marks.contains(&true);
+    assert_eq!(rows.iter().filter(is_marked).count(), 2);
+}
+
 /// Each value that the output has with the short closed, by paths that pass no rail.
 fn outputs_with(module: &ModuleType, labels: &[Value], short: [u8; 2]) -> Vec<Value> {
     let on_edges = module.edges.iter().filter(|edge| is_on(edge, labels));
@@ -157,8 +185,7 @@ fn outputs() {
     let circuit = circuit("outputs");
     let module = &circuit.types[0];
     let marks = &graded("outputs").rows[0].marks;
-    let document = concat!(env!("CARGO_MANIFEST_DIR"), "/../docs/LESSONS.md");
-    let document = std::fs::read_to_string(document).expect("the lessons are there");
+    let document = document("LESSONS.md");
     for (vector, &mark) in circuit.vectors.iter().zip(marks) {
         let without = output_value(module, &Graph::of_on_edges(module, vector));
         assert_eq!(outputs_with(module, vector, [1, 3]), [without]);
@@ -197,6 +224,32 @@ fn repeated() {
     let rows = graded("repeated").rows;
     let is_marked = |row: &&Row| row.marks.contains(&true);
     assert_eq!(rows.iter().filter(is_marked).count(), 4);
+}
+
+/// Its last question: an inverter behind the NAND lists the NAND's output to ground
+/// once more. The answer in docs/EXERCISES.md quotes the first line.
+#[test]
+fn repeated_behind() {
+    let inverter = circuit("inverter").types.remove(0);
+    let mut circuit = circuit("repeated");
+    circuit.types.push(inverter);
+    circuit.bridges.push(ListedBridge {
+        list: 2,
+        bridge: Bridge {
+            kind: Kind::Label,
+            first: 0,
+            second: 0,
+        },
+    });
+    circuit.instances.push(Instance {
+        type_number: 2,
+        choice: 2,
+        references: vec![-1],
+    });
+    let report = report_of(&bytes_of(&fields_of(&circuit)));
+    let line = report.lines().next().unwrap_or_default();
+    assert_eq!(line, "vectors 2 faults 7 classes 4 found 2");
+    assert!(document("EXERCISES.md").contains(&format!("\n4. `{line}`:")));
 }
 
 /// The third exercise: two rows leak under both fillings and not under X.

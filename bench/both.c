@@ -11,7 +11,10 @@ static const struct {
     int (*holds)(const uint8_t *file, size_t n);
 } left_out[] = {{0, 0}};
 
-/* and whether class numbers, and the counts of classes and of found ones, which stand last in an answer, are by the same rule. */
+/*
+ * and whether class numbers, and the counts of classes and of found ones, which stand last in an answer, are by the same rule. They are not: plain.c keeps instances apart, the
+ * library takes what joins the same two wires for one class, whichever instances list it. In one instance they do agree, and so the library counts no more than plain.c.
+ */
 enum { SAME_CLASSES = 0, SAME_NUMBERS = SAME_CLASSES ? TOGYAMIRU_NUMBERS : TOGYAMIRU_CLASSES };
 
 struct given {
@@ -26,10 +29,33 @@ static void fill_and_grade(grade_function *grade, const uint8_t *file, size_t n,
     grade(file, n, given->matrix, words, given->classes, entries, given->answer);
 }
 
-static int same(const struct given *a, const struct given *b)
+/* Whether both gave class numbers to the same rows, and rows of one instance have one number in both or in neither. */
+static int same_in_each_instance(const uint8_t *file, size_t n, const struct given *ours, const struct given *plain)
 {
-    return memcmp(a->answer, b->answer, SAME_NUMBERS * sizeof *a->answer) == 0 && memcmp(a->matrix, b->matrix, sizeof a->matrix) == 0 &&
-           (!SAME_CLASSES || memcmp(a->classes, b->classes, sizeof a->classes) == 0);
+    static uint32_t rows[BOTH_ENTRIES];
+    uint16_t plain_of[BOTH_ENTRIES + 1] = {0}, ours_of[BOTH_ENTRIES + 1] = {0};
+    uint64_t told[TOGYAMIRU_ROWS_NUMBERS];
+    size_t faults = ours->answer[TOGYAMIRU_FAULTS], rest = BOTH_ENTRIES - faults;
+    unsigned instance = 0;
+    togyamiru_rows(file, n, rows, BOTH_ENTRIES, told);
+    for (size_t r = 0; r < faults; r++) {
+        uint16_t a = ours->classes[r], b = plain->classes[r];
+        if (togyamiru_instance(rows[r]) != instance)
+            memset(plain_of, 0, sizeof plain_of);
+        instance = togyamiru_instance(rows[r]);
+        if (a == 0 || a > faults || b == 0 || b > faults || (plain_of[a] && plain_of[a] != b) || (ours_of[b] && ours_of[b] != a))
+            return 0;
+        plain_of[a] = b;
+        ours_of[b] = a;
+    }
+    return memcmp(ours->classes + faults, plain->classes + faults, rest * sizeof *ours->classes) == 0 &&
+           ours->answer[TOGYAMIRU_CLASSES] <= plain->answer[TOGYAMIRU_CLASSES] && ours->answer[TOGYAMIRU_FOUND] <= plain->answer[TOGYAMIRU_FOUND];
+}
+
+static int same(const uint8_t *file, size_t n, const struct given *ours, const struct given *plain)
+{
+    return memcmp(ours->answer, plain->answer, SAME_NUMBERS * sizeof *ours->answer) == 0 && memcmp(ours->matrix, plain->matrix, sizeof ours->matrix) == 0 &&
+           (SAME_CLASSES ? memcmp(ours->classes, plain->classes, sizeof ours->classes) == 0 : same_in_each_instance(file, n, ours, plain));
 }
 
 const char *both_leave_out(const uint8_t *file, size_t n)
@@ -46,7 +72,7 @@ int both_agree(const uint8_t *file, size_t n, size_t words, size_t entries, size
     fill_and_grade(togyamiru_grade, file, n, words, entries, &ours);
     fill_and_grade(plain_grade, file, n, words, entries, &plain);
     *faults = ours.answer[TOGYAMIRU_FAULTS];
-    return same(&ours, &plain);
+    return same(file, n, &ours, &plain);
 }
 
 int both_agree_on(const uint8_t *file, size_t n)

@@ -65,7 +65,8 @@ enum {
  *   file      file_length bytes, which are read only. Any bytes at all are graded or refused.
  *   matrix    matrix_words words. Where the file is graded, four words for each fault, row by row; togyamiru_marked reads them.
  *             Words past the last row keep their contents.
- *   classes   class_entries numbers. Where the file is graded, the class of each row, from 1. Later entries keep theirs.
+ *   classes   class_entries numbers. Where the file is graded, the class of each row, from 1; rows that join the same two wires have one, also in different
+ *             instances (docs/REPORT.md). Later entries keep theirs.
  *   answer    room for six numbers, all of them written.
  *
  * After a refusal the matrix and the class buffer are as they were.

@@ -6,6 +6,7 @@ mod support;
 use std::collections::{BTreeMap, BTreeSet};
 
 use second::circuit::{Circuit, Kind};
+use second::conduction::SUPPLY;
 use second::grade::{Graded, Row};
 use second::make::made_circuit;
 use second::write::{bytes_of, fields_of};
@@ -100,4 +101,27 @@ fn many_made_circuits_share_wires() {
         counts[1..].iter().all(|&count| count > MADE / 3),
         "{counts:?}"
     );
+}
+
+/// docs/REPORT.md says so: a class with rows of two instances is a short to a rail,
+/// and one with rows of both kinds joins a rail to the output of an instance.
+#[test]
+fn shared_shorts_are_to_a_rail() {
+    for (circuit, graded) in made() {
+        let output = |row: &Row| circuit.type_of(&circuit.instances[row.instance - 1]).output;
+        let ends = |row: &Row| BTreeSet::from([row.bridge.first, row.bridge.second]);
+        for rows in rows_by_class(&graded) {
+            let is_to_rail = |row: &&Row| match row.bridge.kind {
+                Kind::Nodes => ends(row).iter().any(|&node| node <= SUPPLY),
+                Kind::Label => row.bridge.first <= SUPPLY,
+            };
+            assert!(!is_of_two_instances(&rows) || rows.iter().all(is_to_rail));
+            let is_at_output = |row: &&Row| match row.bridge.kind {
+                Kind::Nodes => ends(row).contains(&output(row)),
+                Kind::Label => true,
+            };
+            assert!(!is_of_both_kinds(&rows) || is_of_two_instances(&rows));
+            assert!(!is_of_both_kinds(&rows) || rows.iter().all(is_at_output));
+        }
+    }
 }

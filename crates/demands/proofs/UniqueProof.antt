@@ -171,8 +171,8 @@ unique = record {
         ));
   };
   grade-classes-write-keys = record {
-    can-be-met = λ κs. ((lent (replicate 2048 0), (0, (0, (unusedInstance, (0, tt))))), ((omega arith, omega arith), (refl, codes-fit (replicate 2048 0))));
-    one-outcome = λ κs a asked one other p q. both refl (λ i. ((p ∙ sym q) i, (tt, (tt, (tt, (tt, tt))))));
+    can-be-met = λ κs. ((lent (replicate 2048 0), (0, (0, (0, (unusedInstance, (0, tt)))))), ((omega arith, omega arith, omega arith), (refl, codes-fit (replicate 2048 0))));
+    one-outcome = λ κs a asked one other p q. both refl (λ i. ((p ∙ sym q) i, (tt, (tt, (tt, (tt, (tt, tt)))))));
   };
   grade-classes-class-rows = record {
     can-be-met = λ κs. ((lent (replicate 2048 0), (0, (lent [], (lent [], tt)))), ((omega arith, refl), (omega arith, omega arith)));

@@ -14,7 +14,7 @@ use Rattle.words.proofs.WrittenLaws.{length-written, take-written, written-noth
 use Rattle.circuit.specs.Records.{unusedReference}
 use Rattle.circuit.specs.declared.Reference.{Reference as ReferenceRecord}
 use Rattle.grading.specs.Wires.{nodeWire}
-use Rattle.grading.specs.Codes.{instanceIn, kindIn, firstIn, secondIn, CodeFits}
+use Rattle.grading.specs.Codes.{kindIn, firstIn, secondIn, CodeFits}
 use Rattle.grade_classes.specs.Model.{wireNumber, referenceNumber, labelNumbers, pairKey, keyOf, keysOf, rowMarked, foundFrom}
 
 -- ---- found classes, those of the rows that are left
@@ -69,15 +69,15 @@ module _ (a b : ℕ) where
   unfolding pairKey
   key-falling h = omega arith
 
-module _ (output : ℕ) (labels : List ℕ) (code n a b kind : ℕ) (n-is : n ≡ instanceIn code) (a-is : a ≡ firstIn code) (b-is : b ≡ secondIn code)
+module _ (n output : ℕ) (labels : List ℕ) (code a b kind : ℕ) (a-is : a ≡ firstIn code) (b-is : b ≡ secondIn code)
     (kind-is : kind ≡ kindIn code) where
-  pub key-nodes : kind ≡ 0 → pairKey (wireNumber (nodeWire n output a)) (wireNumber (nodeWire n output b)) ≡ keyOf output labels code
+  pub key-nodes : kind ≡ 0 → pairKey (wireNumber (nodeWire n output a)) (wireNumber (nodeWire n output b)) ≡ keyOf n output labels code
   unfolding keyOf
-  key-nodes k = rw (eq-eqb (kindIn code) 0 (sym kind-is ∙ k), n-is, a-is, b-is)
+  key-nodes k = rw (eq-eqb (kindIn code) 0 (sym kind-is ∙ k), a-is, b-is)
 
-  pub key-labelled : (kind ≡ 0 → ⊥) → pairKey (wireNumber (nodeWire n output a)) (getD labels b 0) ≡ keyOf output labels code
+  pub key-labelled : (kind ≡ 0 → ⊥) → pairKey (wireNumber (nodeWire n output a)) (getD labels b 0) ≡ keyOf n output labels code
   unfolding keyOf
-  key-labelled k = rw (ne-eqb (kindIn code) 0 (λ e. k (kind-is ∙ e)), n-is, a-is, b-is)
+  key-labelled k = rw (ne-eqb (kindIn code) 0 (λ e. k (kind-is ∙ e)), a-is, b-is)
 
   -- a row of kind 1 has a label
   pub label-there : CodeFits code → (kind ≡ 0 → ⊥) → b < 12
@@ -86,24 +86,24 @@ module _ (output : ℕ) (labels : List ℕ) (code n a b kind : ℕ) (n-is : n �
 
 -- ---- keys in the place of codes
 
-length-keys : (codes : List ℕ) (output : ℕ) (labels : List ℕ) (from to : ℕ) → length (keysOf codes output labels from to) ≡ to - from
+length-keys : (codes : List ℕ) (n output : ℕ) (labels : List ℕ) (from to : ℕ) → length (keysOf codes n output labels from to) ≡ to - from
 unfolding keysOf
-length-keys codes output labels from to = length-table (to - from) _
+length-keys codes n output labels from to = length-table (to - from) _
 
-module _ (codes : List ℕ) (output : ℕ) (labels : List ℕ) (from : ℕ) where
-  pub keyed-none : written codes from (keysOf codes output labels from from) ≡ codes
+module _ (codes : List ℕ) (n output : ℕ) (labels : List ℕ) (from : ℕ) where
+  pub keyed-none : written codes from (keysOf codes n output labels from from) ≡ codes
   unfolding keysOf table
   keyed-none = let none : from - from ≡ 0 = omega arith in rw none (written-nothing codes from)
 
   -- the keys of the codes before r are written
-  module _ (r : ℕ) (begun : from ≤ r) (inside : r < length codes) {codes′ : List ℕ} (keyed : codes′ ≡ written codes from (keysOf codes output labels from r)) where
+  module _ (r : ℕ) (begun : from ≤ r) (inside : r < length codes) {codes′ : List ℕ} (keyed : codes′ ≡ written codes from (keysOf codes n output labels from r)) where
     -- code r is as it was
     pub code-kept : getD codes′ r 0 ≡ getD codes r 0
     code-kept =
-        let long = length-keys codes output labels from r in
-        rw keyed (written-after codes from (keysOf codes output labels from r) (omega arith) r (omega arith))
+        let long = length-keys codes n output labels from r in
+        rw keyed (written-after codes from (keysOf codes n output labels from r) (omega arith) r (omega arith))
 
-    pub keyed-more : set codes′ r (keyOf output labels (getD codes′ r 0)) ≡ written codes from (keysOf codes output labels from (r + 1))
+    pub keyed-more : set codes′ r (keyOf n output labels (getD codes′ r 0)) ≡ written codes from (keysOf codes n output labels from (r + 1))
     unfolding keysOf
     keyed-more =
         let next : r + 1 - from ≡ suc (r - from) = omega arith in
@@ -111,12 +111,12 @@ module _ (codes : List ℕ) (output : ℕ) (labels : List ℕ) (from : ℕ) wher
         rw (code-kept, keyed, next) (set-table-behind codes from (r - from) _ r _ (omega arith) inside (rw place))
 
 -- the codes are as many as they were
-module _ (codes : List ℕ) (output : ℕ) (labels : List ℕ) (from to : ℕ) (order : (from ≤ to) × (to ≤ length codes)) where
+module _ (codes : List ℕ) (n output : ℕ) (labels : List ℕ) (from to : ℕ) (order : (from ≤ to) × (to ≤ length codes)) where
   abbrev keys : List ℕ
-  keys = keysOf codes output labels from to
+  keys = keysOf codes n output labels from to
 
   end : to ≡ from + length keys
-  end = omega (arith, length-keys codes output labels from to, order)
+  end = omega (arith, length-keys codes n output labels from to, order)
 
   pub keyed-long : length (written codes from keys) ≡ length codes
   keyed-long = length-written codes from keys (omega (arith, end, order))

@@ -30,14 +30,14 @@ classes-by-key c good =
 pub keys-are : (c : Circuit) (n : ℕ) (inst : Instance) (codes : List ℕ) (from to : ℕ) (d : Bridge)
     → let faults = faultsOf (c .types) (c .bridges) inst in
     Every BridgeFits faults → to - from ≡ length faults → ((j : ℕ) → j < to - from → getD codes (from + j) 0 ≡ codeOf n (getD faults j d))
-    → keysOf codes (typeOfInstance (c .types) inst .output) (labelNumbers (referencesOf inst)) from to
+    → keysOf codes n (typeOfInstance (c .types) inst .output) (labelNumbers (referencesOf inst)) from to
     ≡ map rowKey (rowsOfInstance (c .types) (c .bridges) n inst)
 unfolding keysOf rowsOfInstance
 keys-are c n inst codes from to d fit long are =
     let faults : List Bridge = faultsOf (c .types) (c .bridges) inst in
     let row : Bridge → Row = rowWith (c .types) n inst in
     let rows : List Row = map row faults in
-    let key : ℕ → ℕ = keyOf (typeOfInstance (c .types) inst .output) (labelNumbers (referencesOf inst)) in
+    let key : ℕ → ℕ = keyOf n (typeOfInstance (c .types) inst .output) (labelNumbers (referencesOf inst)) in
     let many : length rows ≡ length faults = length-map faults row in
     sym (is-table 0 (to - from) (λ (j : ℕ). key (getD codes (from + j) 0)) (map rowKey rows)
     (length-map rows rowKey ∙ many ∙ sym long)

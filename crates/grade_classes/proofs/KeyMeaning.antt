@@ -20,7 +20,7 @@ use Rattle.grading.specs.Wires.{Wire, referenceWire, labelWire, one-end, other-
 use Rattle.grading.specs.Classes.{samePair, sameClass}
 use Rattle.grading.specs.Statements.{RowOf}
 use Rattle.grading.specs.Codes.{kindOf, firstEnd, secondEnd, codeOf}
-use Rattle.grading.proofs.CodeLaws.{code-instance, code-kind, code-first, code-second}
+use Rattle.grading.proofs.CodeLaws.{code-kind, code-first, code-second}
 use Rattle.grading.proofs.FaultRanges.{BridgeFits, rows-fit}
 use Rattle.grading.proofs.RecordReads.{referencesOf, reference-at}
 use Rattle.grading.proofs.RowsPlaced.{row-placed, row-reference}
@@ -68,7 +68,7 @@ label-at i l h = getD-table 12 (λ (l : ℕ). referenceNumber (getD (referencesO
 
 -- as the code works it out
 pub key-is : (r : Row) → BridgeFits (r .bridge)
-    → keyOf (r .type .output) (labelNumbers (referencesOf (r .instance))) (codeOf (r .number) (r .bridge)) ≡ rowKey r
+    → keyOf (r .number) (r .type .output) (labelNumbers (referencesOf (r .instance))) (codeOf (r .number) (r .bridge)) ≡ rowKey r
 unfolding keyOf kindOf firstEnd secondEnd wireAt labelWire
 key-is r fits = go (r .bridge) fits
   where
@@ -85,12 +85,12 @@ key-is r fits = go (r .bridge) fits
         ∙ reference-number (getD (r .instance .references) l (primary 0))
 
     go : (b : Bridge) → BridgeFits b
-        → keyOf o (labelNumbers (referencesOf (r .instance))) (codeOf n b)
+        → keyOf n o (labelNumbers (referencesOf (r .instance))) (codeOf n b)
         ≡ pairKey (wireNumber (wireAt r b one-end)) (wireNumber (wireAt r b other-end))
     go (nodes a b) f =
-        let d : Bridge = nodes a b in rw (code-instance n d f, code-kind n d f, code-first n d f, code-second n d f)
+        let d : Bridge = nodes a b in rw (code-kind n d f, code-first n d f, code-second n d f)
     go (input m l) f =
-        let d : Bridge = input m l in rw (code-instance n d f, code-kind n d f, code-first n d f, code-second n d f, label l (f .1))
+        let d : Bridge = input m l in rw (code-kind n d f, code-first n d f, code-second n d f, label l (f .1))
 
 -- ---- the wires of a circuit's rows
 

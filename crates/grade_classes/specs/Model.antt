@@ -12,7 +12,7 @@ use Rattle.circuit.specs.Records.{unusedReference}
 use Rattle.circuit.specs.declared.Reference.{Reference as ReferenceRecord}
 use Rattle.grading.specs.Wires.{Wire, groundWire, supplyWire, inputWire, outputWire, innerWire, nodeWire}
 use Rattle.grading.specs.Classes.{largest, classesBy}
-use Rattle.grading.specs.Codes.{instanceIn, kindIn, firstIn, secondIn}
+use Rattle.grading.specs.Codes.{kindIn, firstIn, secondIn}
 use Rattle.grade_classes.specs.declared.Classed.{Classed}
 
 -- ---- wires as numbers, and class keys
@@ -36,14 +36,14 @@ labelNumbers references = table 12 (λ (l : ℕ). referenceNumber (getD referenc
 unfoldable pub pairKey : ℕ → ℕ → ℕ
 pairKey a b = 8192 * min a b + max a b
 
--- a row's key, by its type's output and the wires of its instance's labels
-unfoldable pub keyOf : ℕ → List ℕ → ℕ → ℕ
-keyOf output labels code =
-    let node : ℕ → ℕ = λ m. wireNumber (nodeWire (instanceIn code) output m) in
+-- a row's key, by its instance's number, its type's output and the wires of the instance's labels
+unfoldable pub keyOf : ℕ → ℕ → List ℕ → ℕ → ℕ
+keyOf n output labels code =
+    let node : ℕ → ℕ = λ m. wireNumber (nodeWire n output m) in
     pairKey (node (firstIn code)) (cond (eqb (kindIn code) 0) (node (secondIn code)) (getD labels (secondIn code) 0))
 
-unfoldable pub keysOf : List ℕ → ℕ → List ℕ → ℕ → ℕ → List ℕ
-keysOf codes output labels from to = table (to - from) (λ (i : ℕ). keyOf output labels (getD codes (from + i) 0))
+unfoldable pub keysOf : List ℕ → ℕ → ℕ → List ℕ → ℕ → ℕ → List ℕ
+keysOf codes n output labels from to = table (to - from) (λ (i : ℕ). keyOf n output labels (getD codes (from + i) 0))
 
 -- where the search for a key begins
 abbrev pub bucketOf : ℕ → ℕ

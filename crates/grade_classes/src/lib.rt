@@ -4,11 +4,10 @@ use circuit::Instance;
 use circuit::Reference;
 use circuit::limits::MOST_FAULTS;
 use grading::codes::first_in;
-use grading::codes::instance_in;
 use grading::codes::kind_in;
 use grading::codes::second_in;
 ghost use mathlib.Core.Path.{_≡_};
-ghost use Prim.Native.Nat.{_*_, _<_, _≤_};
+ghost use Prim.Native.Nat.{_+_, _*_, _<_, _≤_};
 ghost use lib.Dec.{eqb};
 ghost use lib.ListN.{length, take};
 ghost use Rattle.words.specs.Written.{written};
@@ -66,12 +65,11 @@ fn pair_key(a: u32, b: u32) -> u32
     8192 * b + a
 }
 
-// The key of a row: the two wires that its bridge joins. `labels` has the wires of its instance's labels.
-fn key_of(code: u32, output: u32, labels: [u16; 12]) -> u32
-    requires { ⌜ CodeFits code ⌝ }
-    ensures { λ r. ⌜ r ≡ keyOf output labels code ⌝ }
+// The key of a row of the instance with this number: the two wires that its bridge joins. `labels` has the wires of the instance's labels.
+fn key_of(code: u32, instance: u32, output: u32, labels: [u16; 12]) -> u32
+    requires { ⌜ CodeFits code × (instance < 256) ⌝ }
+    ensures { λ r. ⌜ r ≡ keyOf instance output labels code ⌝ }
 {
-    let instance = instance_in(code);
     let first = node_wire(instance, output, first_in(code));
     let second = second_in(code);
     let kind = kind_in(code);
@@ -81,17 +79,25 @@ fn key_of(code: u32, output: u32, labels: [u16; 12]) -> u32
     pair_key(first, labels[second as usize] as u32)
 }
 
-// Writes the key of each row of an instance over its code, which is not read again.
-pub fn write_keys(codes: &mut [u32; MOST_FAULTS], from: usize, to: usize, one: Instance, output: u8)
-    requires { ⌜ (from ≤ to) × (to ≤ 2048) ⌝ }
+// Writes the key of each row of the instance at place i over its code, which is not read again.
+pub fn write_keys(
+    codes: &mut [u32; MOST_FAULTS],
+    from: usize,
+    to: usize,
+    i: usize,
+    one: Instance,
+    output: u8,
+)
+    requires { ⌜ (from ≤ to) × (to ≤ 2048) × (i < 128) ⌝ }
     requires { ⌜ length (now codes) ≡ 2048 ⌝ }
     requires { ⌜ CodesFit (now codes) from to ⌝ }
-    ensures { λ _. ⌜ now (codes .exit) ≡ written (now (codes .entry)) from (keysOf (now (codes .entry)) output (labelNumbers (one .references)) from to) ⌝ }
+    ensures { λ _. ⌜ now (codes .exit) ≡ written (now (codes .entry)) from (keysOf (now (codes .entry)) (i + 1) output (labelNumbers (one .references)) from to) ⌝ }
 {
     let labels = label_wires(one);
+    let instance = (i as u32) + 1;
     let mut r = from;
     while r < to {
-        codes[r] = key_of(codes[r], output as u32, labels);
+        codes[r] = key_of(codes[r], instance, output as u32, labels);
         r += 1;
     }
 }

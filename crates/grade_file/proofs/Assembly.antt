@@ -344,7 +344,7 @@ module _ (m : CircuitRecord) (told : CircuitGiven m) (matrix₀ classes₀ : Lis
     -- what the calls of a turn answer
     module _ (ones′ zeros′ matrix′ : List ℕ)
         (marked : InstanceMarked type′ (its .references) i (m .«vector_count») codes (s .from) to (s .ones) (s .zeros) (s .matrix) ones′ zeros′ matrix′)
-        (codes′ : List ℕ) (keyed : codes′ ≡ written codes (s .from) (keysOf codes (type′ .output) (labelNumbers (its .references)) (s .from) to)) where
+        (codes′ : List ℕ) (keyed : codes′ ≡ written codes (s .from) (keysOf codes (i + 1) (type′ .output) (labelNumbers (its .references)) (s .from) to)) where
       stand : Bridge
       stand = nodes 0 0
 
@@ -390,9 +390,9 @@ module _ (m : CircuitRecord) (told : CircuitGiven m) (matrix₀ classes₀ : Lis
       inside : (s .from ≤ to) × (to ≤ length codes)
       inside = (order .0, omega (arith, order .1, turn-fits .codes-long))
 
-      keys-here : keysOf codes (type′ .output) labels (s .from) to ≡ map rowKey new
+      keys-here : keysOf codes (i + 1) (type′ .output) labels (s .from) to ≡ map rowKey new
       keys-here =
-          rw (references-are d good m is i h e, output-is d good m is i h e u)
+          rw (references-are d good m is i h e, output-is d good m is i h e u, add-one i)
           (keys-are d (suc i) (inst d good m is i h) codes (s .from) to stand (faults-fit d good i noInstance h) (omega (arith, long)) codes-here)
 
       old-here : take (s .from) codes ≡ map rowKey (rowsBefore d i)
@@ -404,7 +404,7 @@ module _ (m : CircuitRecord) (told : CircuitGiven m) (matrix₀ classes₀ : Lis
       keys-next : take to codes′ ≡ map rowKey (rowsBefore d (suc i))
       keys-next =
           ap (take to) keyed
-          ∙ keyed-take codes (type′ .output) labels (s .from) to inside
+          ∙ keyed-take codes (i + 1) (type′ .output) labels (s .from) to inside
           ∙ rw (old-here, keys-here)
           (sym (map-append rowKey (rowsBefore d i) new) ∙ ap (map rowKey) (sym grown))
 
@@ -421,7 +421,7 @@ module _ (m : CircuitRecord) (told : CircuitGiven m) (matrix₀ classes₀ : Lis
                 ∙ rw (so-far .zeros-are, output-is d good m is i h e u) (signals .1);
             from-is = to-is;
             matrix-is = matrix-next;
-            codes-long = ap length keyed ∙ keyed-long codes (type′ .output) labels (s .from) to inside ∙ turn-fits .codes-long;
+            codes-long = ap length keyed ∙ keyed-long codes (i + 1) (type′ .output) labels (s .from) to inside ∙ turn-fits .codes-long;
             keys-are = keys-next;
           }
 

@@ -68,7 +68,7 @@ fn fill_buffers(c: Circuit, matrix: &mut [u64], classes: &mut [u16]) -> Counts
             &mut zeros,
             matrix,
         );
-        write_keys(&mut codes, from, to, one, t.output);
+        write_keys(&mut codes, from, to, i, one, t.output);
         from = to;
         i += 1;
     }

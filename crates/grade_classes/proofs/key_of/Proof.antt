@@ -12,9 +12,6 @@ use Rattle.grade_classes.proofs.ClassLaws.{key-nodes, key-labelled, lab
 use Rattle.grade_classes.proofs.key_of.Statement.{statement}
 use Rattle.grade_classes.proofs.key_of.Tie as tie
 
-instance-in-requires : tie.Need-instance-in-requires
-instance-in-requires c κs = search needs
-
 first-in-requires : tie.Need-first-in-requires
 first-in-requires c κs = search needs
 
@@ -34,10 +31,11 @@ pair-key-requires : tie.Need-pair-key-requires
 pair-key-requires c κs =
     let wired = c .before .before .before .before in
     let firsts = wired .before in
-    let instances = firsts .before in
-    let seconds = c .before .before .before in (
-      rw (wired .node-wire .ensures) (node-few _ _ _ (omega (arith, instances .instance-in .ensures)) (omega (arith, firsts .first-in .ensures))),
-      rw (c .node-wire2 .ensures) (node-few _ _ _ (omega (arith, instances .instance-in .ensures)) (omega (arith, seconds .second-in .ensures))),
+    let own = firsts .before .pre .1 in
+    let seconds = c .before .before .before in
+    (
+      rw (wired .node-wire .ensures) (node-few _ _ _ own (omega (arith, firsts .first-in .ensures))),
+      rw (c .node-wire2 .ensures) (node-few _ _ _ own (omega (arith, seconds .second-in .ensures))),
     )
 
 returns : tie.Need-returns
@@ -46,11 +44,9 @@ returns c =
     let kinds = nodes .before in
     let seconds = kinds .before in
     let wired = seconds .before in
-    let firsts = wired .before in
     c .pair-key .ensures
     ∙ ap₂ pairKey (wired .node-wire .ensures) (c .before .node-wire2 .ensures)
-    ∙ key-nodes _ _ _ _ _ _ _ (firsts .before .instance-in .ensures) (firsts .first-in .ensures) (seconds .second-in .ensures) (kinds .kind-in .ensures)
-    (nodes .if1 .taken)
+    ∙ key-nodes _ _ _ _ _ _ _ (wired .before .first-in .ensures) (seconds .second-in .ensures) (kinds .kind-in .ensures) (nodes .if1 .taken)
 
 cast-pair-key : tie.Need-cast-pair-key
 cast-pair-key c = search needs
@@ -62,11 +58,10 @@ array-read-pair-key : tie.Need-array-read-pair-key
 array-read-pair-key c =
     let kinds = c .before in
     let seconds = kinds .before in
-    let wired = seconds .before in
-    let firsts = wired .before in
-    let start = firsts .before .before in
-    label-there (start .args .output) (start .args .t3) _ _ _ _ _ (firsts .before .instance-in .ensures) (firsts .first-in .ensures)
-    (seconds .second-in .ensures) (kinds .kind-in .ensures) (start .pre) (c .if1 .left)
+    let firsts = seconds .before .before in
+    let start = firsts .before in
+    label-there (start .args .instance) (start .args .output) (start .args .t4) _ _ _ _ (firsts .first-in .ensures) (seconds .second-in .ensures)
+    (kinds .kind-in .ensures) (start .pre .0) (c .if1 .left)
 
 cast-pair-key-2 : tie.Need-cast-pair-key-2
 cast-pair-key-2 c = search needs
@@ -75,8 +70,10 @@ pair-key-requires-2 : tie.Need-pair-key-requires-2
 pair-key-requires-2 c κs =
     let wired = c .before .before .before in
     let firsts = wired .before in
-    let few : Fits w16 (getD (firsts .before .before .args .t3) (c .before .before .second-in .result) 0) = search needs in (
-      rw (wired .node-wire .ensures) (node-few _ _ _ (omega (arith, firsts .before .instance-in .ensures)) (omega (arith, firsts .first-in .ensures))),
+    let start = firsts .before in
+    let few : Fits w16 (getD (start .args .t4) (c .before .before .second-in .result) 0) = search needs in
+    (
+      rw (wired .node-wire .ensures) (node-few _ _ _ (start .pre .1) (omega (arith, firsts .first-in .ensures))),
       omega arith,
     )
 
@@ -86,18 +83,15 @@ returns-2 c =
     let kinds = labelled .before in
     let seconds = kinds .before in
     let wired = seconds .before in
-    let firsts = wired .before in
-    let labels = firsts .before .before .args .t3 in
+    let labels = wired .before .before .args .t4 in
     c .pair-key2 .ensures
     ∙ ap (λ (n : ℕ). pairKey n (getD labels (seconds .second-in .result) 0)) (wired .node-wire .ensures)
-    ∙ key-labelled _ _ _ _ _ _ _ (firsts .before .instance-in .ensures) (firsts .first-in .ensures) (seconds .second-in .ensures) (kinds .kind-in .ensures)
-    (labelled .if1 .left)
+    ∙ key-labelled _ _ _ _ _ _ _ (wired .before .first-in .ensures) (seconds .second-in .ensures) (kinds .kind-in .ensures) (labelled .if1 .left)
 
 pub key-of-spec : {M : Type 1} → statement M
 key-of-spec =
     tie.close
     (tie.spec
-    instance-in-requires
     first-in-requires
     node-wire-requires
     second-in-requires

@@ -13,16 +13,22 @@ use Rattle.grade_classes.proofs.write_keys.Statement.{statement}
 use Rattle.grade_classes.proofs.write_keys.Tie as tie
 
 abbrev Inv-loop : tie.InvT-loop
-Inv-loop codes₀ from to output labels r₀ codes r = (from ≤ r) × (r ≤ to) × (codes ≡ written codes₀ from (keysOf codes₀ output labels from r))
+Inv-loop codes₀ from to i output labels instance r₀ codes r = (from ≤ r) × (r ≤ to) × (codes ≡ written codes₀ from (keysOf codes₀ instance output labels from r))
 
 abbrev μ-loop : tie.MeasureT-loop
-μ-loop codes₀ from to output labels r₀ codes r = to - r
+μ-loop codes₀ from to i output labels instance r₀ codes r = to - r
 
 label-wires-requires : tie.Need-label-wires-requires Inv-loop μ-loop
 label-wires-requires c κs = search needs
 
+cast-instance : tie.Need-cast-instance Inv-loop μ-loop
+cast-instance c = search needs
+
+add-instance : tie.Need-add-instance Inv-loop μ-loop
+add-instance c = search needs
+
 loop-holds : tie.Need-loop-holds Inv-loop μ-loop
-loop-holds c = (omega arith, omega arith, sym (keyed-none _ _ _ _))
+loop-holds c = (omega arith, omega arith, sym (keyed-none _ _ _ _ _))
 
 mul-key-of : tie.Need-mul-key-of Inv-loop μ-loop
 mul-key-of c = search needs
@@ -35,8 +41,11 @@ unfolding CodesFit
 key-of-requires c κs =
     let h = c .before .before in
     let start = h .before .before in
-    rw (code-kept (now (start .args .codes)) _ _ (start .args .from) (h .loop .r) (omega arith) (omega arith) (h .loop .inv .2))
-    (start .pre .1 .1 (h .loop .r) (omega arith) (omega arith))
+    (
+      rw (code-kept (now (start .args .codes)) _ _ _ (start .args .from) (h .loop .r) (omega arith) (omega arith) (h .loop .inv .2))
+      (start .pre .1 .1 (h .loop .r) (omega arith) (omega arith)),
+      omega arith,
+    )
 
 mul-codes : tie.Need-mul-codes Inv-loop μ-loop
 mul-codes c = search needs
@@ -56,7 +65,7 @@ loop-again c =
     let x = h .before .before .args in (
       omega arith,
       omega arith,
-      rw (c .key-of .ensures) (keyed-more (now (x .codes)) _ _ (x .from) (h .loop .r) (omega arith) (omega arith) (h .loop .inv .2)),
+      rw (c .key-of .ensures) (keyed-more (now (x .codes)) _ _ _ (x .from) (h .loop .r) (omega arith) (omega arith) (h .loop .inv .2)),
     )
 
 returns : tie.Need-returns Inv-loop μ-loop
@@ -72,6 +81,8 @@ write-keys-spec =
     Inv-loop
     μ-loop
     label-wires-requires
+    cast-instance
+    add-instance
     loop-holds
     mul-key-of
     element-copy-out-key-of

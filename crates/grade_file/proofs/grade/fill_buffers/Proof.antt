@@ -209,7 +209,7 @@ write-keys-requires : tie.Need-write-keys-requires Inv-loop μ-loop
 write-keys-requires c κs =
     let listed = listed-keying c in
     let marks = fits listed .marks in
-    ((marks .order, marks .most), (fits listed .codes-long, marks .codes))
+    ((marks .order, marks .most, marks .placed), (fits listed .codes-long, marks .codes))
 
 add-i : tie.Need-add-i Inv-loop μ-loop
 add-i c = omega (arith, few (turn-keyed c))

@@ -16,7 +16,9 @@ use Rattle.demands.proofs.ClassCounts.{classes-count-once}
 use Rattle.demands.proofs.NamedAgain.{naming-again-adds-nothing, other-end-adds-nothing}
 use Rattle.demands.proofs.WireTies.{wires-are-ties, classes-are-ties}
 use Rattle.demands.proofs.WiresBefore.{ends-are-two-wires, in-one-instance-as-before}
+use Rattle.demands.proofs.SharedShorts.{shared-shorts-are-at-a-rail}
 use Rattle.demands.proofs.OneWireProof.{one-wire-one-level, marks-are-of-wires, one-short-one-mark, rows-of-one-class-are-equal}
+use Rattle.demands.proofs.WireExamples.{shorts-named-elsewhere}
 use Rattle.demands.proofs.ShortsCounted.{more-shorts-count-no-fewer, same-shorts-count-alike}
 use Rattle.demands.proofs.Refining.{three-holds, marks-hold-under-every-filling}
 use Rattle.demands.proofs.NoConverseProof.{no-converse}
@@ -38,7 +40,7 @@ use Rattle.demands.proofs.ModuleCheckProof.{nine-as-before, wrong-check
 use Rattle.demands.proofs.WrongProof.{refuses-every-is-wrong, skips-nine-is-wrong, skips-fourteen-is-wrong, marks-all-is-wrong, marks-never-is-wrong, leaves-matrix-is-wrong}
 use Rattle.demands.proofs.WrongProof.{first-word-only-is-wrong, invents-found-is-wrong, sweeps-once-is-wrong, one-plane-is-wrong, marks-floating-is-wrong, counts-rows-is-wrong}
 use Rattle.demands.proofs.WrongProof.{spills-is-wrong, wraps-is-wrong, goes-on-is-wrong, watches-outputs-is-wrong, holds-levels-is-wrong, counts-twice-is-wrong}
-use Rattle.demands.proofs.WrongProof.{counts-labels-is-wrong, reads-x-as-zero-is-wrong, keeps-apart-is-wrong, mixes-inner-is-wrong, writes-past-is-wrong, clears-first-is-wrong}
+use Rattle.demands.proofs.WrongProof.{counts-labels-is-wrong, reads-x-as-zero-is-wrong, keeps-apart-is-wrong, mixes-inner-is-wrong, splits-inputs-is-wrong, writes-past-is-wrong, clears-first-is-wrong}
 use Rattle.demands.proofs.MeetsProof.{rightly-meets-all, meet-demand-one, meet-cell-clause, meet-demand-three}
 use Rattle.demands.proofs.BreaksProof.{break-demand-one, break-demand-two, break-demand-three}
 
@@ -59,12 +61,14 @@ all-proved = record {
   classes-are-ties = classes-are-ties;
   ends-are-two-wires = ends-are-two-wires;
   in-one-instance-as-before = in-one-instance-as-before;
+  shared-shorts-are-at-a-rail = shared-shorts-are-at-a-rail;
   one-wire-one-level = one-wire-one-level;
   marks-are-of-wires = marks-are-of-wires;
   one-short-one-mark = one-short-one-mark;
   rows-of-one-class-are-equal = rows-of-one-class-are-equal;
   more-shorts-count-no-fewer = more-shorts-count-no-fewer;
   same-shorts-count-alike = same-shorts-count-alike;
+  shorts-named-elsewhere = shorts-named-elsewhere;
   three-holds = three-holds;
   marks-hold-under-every-filling = marks-hold-under-every-filling;
   no-converse = no-converse;
@@ -132,6 +136,7 @@ all-proved = record {
   reads-x-as-zero-is-wrong = reads-x-as-zero-is-wrong;
   keeps-apart-is-wrong = keeps-apart-is-wrong;
   mixes-inner-is-wrong = mixes-inner-is-wrong;
+  splits-inputs-is-wrong = splits-inputs-is-wrong;
   writes-past-is-wrong = writes-past-is-wrong;
   clears-first-is-wrong = clears-first-is-wrong;
   rightly-meets-all = rightly-meets-all;

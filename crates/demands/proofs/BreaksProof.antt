@@ -15,7 +15,6 @@ use Rattle.words.specs.Bits.{ofBool, sumTo}
 use Rattle.switch.specs.Conduction.{Value, at1, atX}
 use Rattle.switch.specs.Bridges.{nodes, input}
 use Rattle.circuit.specs.Circuit.{Circuit}
-use Rattle.circuit.specs.Records.{emptyCircuit}
 use Rattle.circuit.specs.Refusals.{refusalPlace}
 use Rattle.circuit.specs.Reading.{Reading, accepted, refusal, readingOf}
 use Rattle.grading.specs.Buffers.{Buffers}
@@ -25,29 +24,22 @@ use Rattle.demands.specs.Calls.{Call, Refuses, cellAt, classAt}
 use Rattle.demands.specs.One.{bufferTests, testsFrom, tableOf, passed}
 use Rattle.demands.specs.Two.{vectorOf, rowAt, MatrixCell, AlikeButVectors, OneClass, Found}
 use Rattle.demands.specs.Three.{given, Refined}
-use Rattle.demands.specs.Files.{inverter, inverterUnder, inverterListed, nandListed, nandOfOne, oneListed, nand3Fields, splitRails, driverAndInput, twoNands}
+use Rattle.demands.specs.Files.{inverter, inverterUnder, inverterListed, nandListed, nandOfOne, oneListed, nand3Fields, splitRails, driverAndInput, twoNands, twinNands}
 use Rattle.demands.specs.Graders.{Grader, called}
 use Rattle.demands.specs.Wrong.{marksAll, marksNever, leavesMatrix, firstWordOnly, inventsFound, sweepsOnce, onePlane}
 use Rattle.demands.specs.Wrong.{marksFloating, countsRows, spills, wraps, goesOn}
-use Rattle.demands.specs.Wrong.{isOne, watchesOutputs, holdsLevels, countsTwice, countsLabels, readsXAsZero, keepsApart, mixesInner}
+use Rattle.demands.specs.Wrong.{isOne, watchesOutputs, holdsLevels, countsTwice, countsLabels, readsXAsZero, keepsApart, mixesInner, splitsInputs}
 use Rattle.demands.specs.Breaks.{MeetsCells, MeetsClasses, MeetsThree, MeetsThreeByPaths, MeetsFillings}
 use Rattle.demands.specs.Breaks.{BreakDemandOne, BreakDemandTwo, BreakDemandThree}
 use Rattle.demands.proofs.Cells.{cell-decides}
 use Rattle.demands.proofs.OneClass.{one-class-is-tested}
-use Rattle.demands.proofs.Computing.{blank}
+use Rattle.demands.proofs.Computing.{toldBy, circuitOf, blank}
 use Rattle.demands.proofs.WrongProof.{wrong-computing, many, lastOnly, listedTwice, ones, Differ, apart}
 
--- ---- the call of a grader for a file, and the circuit that the file tells
+-- ---- the call of a grader for a file
 
 abbrev callFor : Grader → List ℕ → Call
 callFor grader file = called grader file blank
-
-unfoldable toldBy : Reading → Circuit
-toldBy (accepted c) = c
-toldBy (refusal number place) = emptyCircuit
-
-abbrev circuitOf : List ℕ → Circuit
-circuitOf file = toldBy (readingOf file)
 
 -- ---- demand 1: graded exactly when no test of the table applies, and what a call leaves as it was
 
@@ -202,6 +194,7 @@ record Cells : Type 0 where
   counts-labels : ClassWrong countsLabels (nandOfOne ("0" ∷ [])) 6 7
   keeps-apart : ClassWrong keepsApart (driverAndInput ("0" ∷ [])) 0 1
   mixes-inner : ClassesMixed mixesInner (twoNands ("00" ∷ [])) 0 1
+  splits-inputs : ClassWrong splitsInputs (twinNands ("00" ∷ [])) 2 5
 
 cells : Cells
 unfolding wrong-computing toldBy isGraded cellAt classAt OneClass
@@ -223,6 +216,7 @@ cells = record {
   counts-labels = ((refl, tt), tt, tt, inl (refl, refl), refl);
   keeps-apart = ((refl, tt), tt, tt, inl (refl, refl), refl);
   mixes-inner = ((refl, tt), tt, tt, λ one. one-class-is-tested (rowAt (circuitOf (twoNands ("00" ∷ []))) 0) (rowAt (circuitOf (twoNands ("00" ∷ []))) 1) .0 one, refl);
+  splits-inputs = ((refl, tt), tt, tt, inl (refl, refl), refl);
 }
 
 -- one row that X does not mark
@@ -276,6 +270,7 @@ break-demand-two = record {
   counts-labels = by-class _ _ _ _ (cells .counts-labels);
   keeps-apart = by-class _ _ _ _ (cells .keeps-apart);
   mixes-inner = by-mixed _ _ _ _ (cells .mixes-inner);
+  splits-inputs = by-class _ _ _ _ (cells .splits-inputs);
 }
 
 -- ---- demand 3

@@ -1,5 +1,7 @@
 -- What a file's grading computes with. A proof that says `unfolding computing` may compute readings, matrices, classes and counts of concrete files; with
 -- `grader-computing` also what a grader answers. Assumes nothing.
+use Prim.Native.Nat.{ℕ}
+use mathlib.Core.List.{List}
 use lib.ListN.{replicate}
 use Rattle.words.specs.Bits.{bit, pack, word, sumTo}
 use Rattle.words.specs.Tables.{table, upTo}
@@ -9,13 +11,13 @@ use Rattle.switch.specs.Modules.{allOf, typeInRange, edgeInRange, linksOf, valu
 use Rattle.switch.specs.Bridges.{toLabel, closing}
 use Rattle.switch.specs.Deciding.{rename, partIn, renamings, joins, allBelow, oneRail, isComplementary, levelIn, isMarked}
 use Rattle.circuit.specs.Fields.{twoBytes, cutIn, cutFrom}
-use Rattle.circuit.specs.Circuit.{numbered, joinLists, nodePairs, nodeInputs, exhaustiveList, exhaustiveSize, userList, chosen, chosenSize, faultsOf, faultCount}
+use Rattle.circuit.specs.Circuit.{Circuit, numbered, joinLists, nodePairs, nodeInputs, exhaustiveList, exhaustiveSize, userList, chosen, chosenSize, faultsOf, faultCount}
 use Rattle.circuit.specs.Numbers.{signed, choiceOf, choiceInRange, referenceOf, referenceGood}
 use Rattle.circuit.specs.Order.{tagOf, isKind, mayFollow}
 use Rattle.circuit.specs.Known.{typeIn, edgeIn, bridgeOf, listedIn, referencesIn, instanceIn, letterOf, vectorIn, latest, withEdge, edgeAdded, taken, typeAtAfter, knownAfter}
-use Rattle.circuit.specs.Records.{choiceByte}
+use Rattle.circuit.specs.Records.{choiceByte, emptyCircuit}
 use Rattle.circuit.specs.Table.{firstOf, unjudged, notComplementary, bridgeGood, listedGood, bridgeInRange, bridgeSuits, isEmpty, listUnsuited, listEmpty, isLetter, inputsTests, typeTests, edgeTestsOf, edgeTests, bridgeTests, instanceTests, instanceTestsOf, vectorTests, bodyTests, fieldTests, endTests}
-use Rattle.circuit.specs.Reading.{unless, readFrom, readingWith}
+use Rattle.circuit.specs.Reading.{Reading, accepted, refusal, unless, readFrom, readingWith, readingOf}
 use Rattle.grading.specs.Buffers.{Buffers, buffersOf}
 use Rattle.grading.specs.Values.{valueAt, labelValues, outputsAfter, outputsOf}
 use Rattle.grading.specs.Rows.{rowsOfInstance, rowsFrom, rowsOf, rowValues, cell, markOf, rowWords, matrixOf}
@@ -46,6 +48,14 @@ unfoldable pub grader-computing : Unit {0}
 unfolding computing refusalNumber promise.numberOf promise.countsOf
     refusalOf refusing outcomeOf gradesBy workBy marksBy rightWork rightly readTesting testing
 grader-computing = tt
+
+-- the circuit that a file tells
+unfoldable pub toldBy : Reading → Circuit
+toldBy (accepted c) = c
+toldBy (refusal number place) = emptyCircuit
+
+abbrev pub circuitOf : List ℕ → Circuit
+circuitOf file = toldBy (readingOf file)
 
 -- buffers that hold zeros, enough for 16 rows
 abbrev pub blank : Buffers

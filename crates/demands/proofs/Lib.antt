@@ -2,7 +2,7 @@
 -- computation unfolds.
 --   demand 1      Verdicts, GradingVerdicts, OneProof, Outcomes, RightProof
 --   demand 2      SettledValues, Cells, Floating, Columns, RowFaults, OneClass, FoundClasses, ClassCounts, ClassesCarried, NamedAgain
---   wires         WireTies, WiresBefore, OneWireProof, AlikeLists, ShortsCounted
+--   wires         WireTies, WiresBefore, SharedShorts, OneWireProof, AlikeLists, ShortsCounted, WireExamples
 --   demand 3      Refining, RefinedMarks, NoConverseProof
 --   of two files  WholeFields, AlikeFilesProof, FileSplits, OtherVectors, Fillings, AlikeFilesExamples
 --   one outcome   CellsAgree, ClassesAgree, Determines
@@ -26,9 +26,11 @@ pub mod ClassCounts
 pub mod ClassesCarried
 pub mod AlikeLists
 pub mod ShortsCounted
+pub mod WireExamples
 pub mod NamedAgain
 pub mod WireTies
 pub mod WiresBefore
+pub mod SharedShorts
 pub mod OneWireProof
 pub mod Refining
 pub mod RefinedMarks

@@ -21,7 +21,7 @@ use Rattle.grading.specs.Promise.{isGraded}
 use Rattle.demands.specs.Calls.{Call, Accepts, GradedAs}
 use Rattle.demands.specs.Two.{CellsTell}
 use Rattle.demands.specs.Graders.{Work, outcomeOf, gradesBy, workBy, rightWork, rightly, called}
-use Rattle.demands.specs.Wrong.{marksAll, marksNever, firstWordOnly, inventsFound, countsRows, countsTwice, countsLabels, keepsApart, mixesInner}
+use Rattle.demands.specs.Wrong.{marksAll, marksNever, firstWordOnly, inventsFound, countsRows, countsTwice, countsLabels, keepsApart, mixesInner, splitsInputs}
 use Rattle.demands.specs.Breaks.{MeetsOne, MeetsCells, RightlyMeetsAll, MeetDemandOne, MeetCellClause, MeetDemandThree}
 use Rattle.demands.proofs.GradingVerdicts.{answered, answer-is}
 use Rattle.demands.proofs.OneProof.{one-by-the-table, one-holds, grading-keeps-the-rest}
@@ -115,7 +115,7 @@ module _ (work : Circuit → Work) (same : (c : Circuit) → work c .words ≡ r
       (rightly-meets-all .cells file before c e (graded-too g before is-graded))
 
 pub meet-cell-clause : MeetCellClause
-unfolding inventsFound countsRows countsTwice countsLabels keepsApart mixesInner rightWork workBy
+unfolding inventsFound countsRows countsTwice countsLabels keepsApart mixesInner splitsInputs rightWork workBy
 meet-cell-clause = record {
   invents-found = by-right-words _ (λ c. refl);
   counts-rows = by-right-words _ (λ c. refl);
@@ -123,6 +123,7 @@ meet-cell-clause = record {
   counts-labels = by-right-words _ (λ c. refl);
   keeps-apart = by-right-words _ (λ c. refl);
   mixes-inner = by-right-words _ (λ c. refl);
+  splits-inputs = by-right-words _ (λ c. refl);
 }
 
 -- ---- demand 3

@@ -55,7 +55,7 @@ same-node : (n o a b : ℕ) → nodeWire n o a ≡ nodeWire n o b → a ≡ b
 same-node n o a b e = sym (node-back n o a) ∙ ap (nodeOf o) e ∙ node-back n o b
 
 -- a reference to an input or to an earlier instance
-abbrev Earlier : ℕ → Reference → Type 0
+abbrev pub Earlier : ℕ → Reference → Type 0
 Earlier n r = (i : ℕ) → r ≡ outputOf i → i < n
 
 -- it has no node's wire
@@ -89,7 +89,7 @@ good-earlier P before (outputOf j) t i e = let same : j ≡ i = cc in omega (ari
 -- ---- a row of a good circuit
 
 module _ (c : Circuit) (good : CircuitGood c) (row : Row) (is-row : RowOf c row) where
-  label-earlier : (l : ℕ) → Earlier (row .number) (getD (row .instance .references) l (primary 0))
+  pub label-earlier : (l : ℕ) → Earlier (row .number) (getD (row .instance .references) l (primary 0))
   label-earlier l i e =
       let r : Reference = getD (row .instance .references) l (primary 0) in
       ⊎-elim

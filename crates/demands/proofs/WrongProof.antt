@@ -10,16 +10,16 @@ use Rattle.grading.specs.Buffers.{Buffers, buffersOf, roomOf}
 use Rattle.grading.specs.Grading.{Counts, Grading, gradingOf, countsIn, numberIn, buffersAfter}
 use Rattle.grading.specs.Promise as promise
 use Rattle.grading.specs.Promise.{isGraded}
-use Rattle.demands.specs.Files.{inverter, inverterUnder, inverterListed, nandListed, nandOfOne, oneListed, nand3Fields, splitRails, driverAndInput, twoNands}
+use Rattle.demands.specs.Files.{inverter, inverterUnder, inverterListed, nandListed, nandOfOne, oneListed, nand3Fields, splitRails, driverAndInput, twoNands, twinNands}
 use Rattle.demands.specs.Graders.{Grader, MeetsPromise}
 use Rattle.demands.specs.Wrong.{refusesEvery, without, skips, marksAll, marksNever, leavesMatrix, firstWordOnly, inventsFound}
 use Rattle.demands.specs.Wrong.{labelMarked, markedBy, lowerNode, putIn, inNodeOrder, isAmong, handedOn, swept, sweepsOnce, isOne, unlike, onePlaneMarked, onePlane}
 use Rattle.demands.specs.Wrong.{isZero, sameLevel, unequalEnds, marksFloating, rowsFound, countsRows, packed63, spills, packedFirst, wraps, goesOn}
 use Rattle.demands.specs.Wrong.{changesOutput, watchesOutputs, held, rowValuesAt, levelAt, heldLevel, heldMarked, holdsLevels}
-use Rattle.demands.specs.Wrong.{sameAsWritten, countsTwice, sameLabelToo, countsLabels, zeroForX, zeroed, readsXAsZero, keepsApart, withoutInstance, mixesInner, clearingNext, writesPast, clearsFirst}
+use Rattle.demands.specs.Wrong.{sameAsWritten, countsTwice, sameLabelToo, countsLabels, zeroForX, zeroed, readsXAsZero, keepsApart, withoutInstance, mixesInner, inputOfInstance, splitsInputs, clearingNext, writesPast, clearsFirst}
 use Rattle.demands.specs.Wrong.{RefusesEveryIsWrong, SkipsNineIsWrong, SkipsFourteenIsWrong, MarksAllIsWrong, MarksNeverIsWrong, LeavesMatrixIsWrong, FirstWordOnlyIsWrong, InventsFoundIsWrong}
 use Rattle.demands.specs.Wrong.{SweepsOnceIsWrong, OnePlaneIsWrong, MarksFloatingIsWrong, CountsRowsIsWrong, SpillsIsWrong, WrapsIsWrong, GoesOnIsWrong}
-use Rattle.demands.specs.Wrong.{WatchesOutputsIsWrong, HoldsLevelsIsWrong, CountsTwiceIsWrong, CountsLabelsIsWrong, ReadsXAsZeroIsWrong, KeepsApartIsWrong, MixesInnerIsWrong, WritesPastIsWrong, ClearsFirstIsWrong}
+use Rattle.demands.specs.Wrong.{WatchesOutputsIsWrong, HoldsLevelsIsWrong, CountsTwiceIsWrong, CountsLabelsIsWrong, ReadsXAsZeroIsWrong, KeepsApartIsWrong, MixesInnerIsWrong, SplitsInputsIsWrong, WritesPastIsWrong, ClearsFirstIsWrong}
 use Rattle.demands.proofs.Computing.{grader-computing, blank}
 
 -- what the wrong graders compute with
@@ -29,7 +29,7 @@ unfolding grader-computing
     labelMarked markedBy lowerNode putIn inNodeOrder isAmong handedOn swept sweepsOnce isOne unlike onePlaneMarked onePlane
     isZero sameLevel unequalEnds marksFloating rowsFound countsRows packed63 spills packedFirst wraps goesOn
     changesOutput watchesOutputs held rowValuesAt levelAt heldLevel heldMarked holdsLevels
-    sameAsWritten countsTwice sameLabelToo countsLabels zeroForX zeroed readsXAsZero keepsApart withoutInstance mixesInner isGraded clearingNext writesPast clearsFirst
+    sameAsWritten countsTwice sameLabelToo countsLabels zeroForX zeroed readsXAsZero keepsApart withoutInstance mixesInner inputOfInstance splitsInputs isGraded clearingNext writesPast clearsFirst
 wrong-computing = tt
 
 -- ---- where an outcome differs from the promise, the promise is not met
@@ -122,6 +122,8 @@ record Computed : Type 0 where
   -- the second row names the first's wires; the second NAND's node 3 is not the first's
   keeps-apart : ClassDiffers keepsApart (driverAndInput ("0" ∷ [])) 1
   mixes-inner : ClassDiffers mixesInner (twoNands ("00" ∷ [])) 1
+  -- the sixth row is the third again
+  splits-inputs : ClassDiffers splitsInputs (twinNands ("00" ∷ [])) 5
   -- the inverter has 24 words
   writes-past : WordDiffersIn ones writesPast inverter 24
   clears-first : WordDiffersIn ones clearsFirst [] 0
@@ -151,6 +153,7 @@ computed = record {
   reads-x-as-zero = refl;
   keeps-apart = refl;
   mixes-inner = refl;
+  splits-inputs = refl;
   writes-past = refl;
   clears-first = refl;
 }
@@ -219,6 +222,9 @@ keeps-apart-is-wrong = by-class _ _ _ (computed .keeps-apart)
 
 pub mixes-inner-is-wrong : MixesInnerIsWrong
 mixes-inner-is-wrong = by-class _ _ _ (computed .mixes-inner)
+
+pub splits-inputs-is-wrong : SplitsInputsIsWrong
+splits-inputs-is-wrong = by-class _ _ _ (computed .splits-inputs)
 
 pub reads-x-as-zero-is-wrong : ReadsXAsZeroIsWrong
 reads-x-as-zero-is-wrong = by-word blank _ _ _ (computed .reads-x-as-zero)

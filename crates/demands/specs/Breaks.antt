@@ -23,7 +23,7 @@ use Rattle.demands.specs.Graders.{Grader, called, Work, gradesBy, rightl
 use Rattle.demands.specs.Wrong.{marking, refusesEvery, skips, marksAll, marksNever, leavesMatrix, firstWordOnly, inventsFound}
 use Rattle.demands.specs.Wrong.{sweepsOnce, onePlane, marksFloating, countsRows, spills, wraps, goesOn}
 use Rattle.demands.specs.Wrong.{watchesOutputs, holdsLevels, countsTwice, countsLabels, readsXAsZero, keepsApart, mixesInner}
-use Rattle.demands.specs.Wrong.{writesPast, clearsFirst}
+use Rattle.demands.specs.Wrong.{splitsInputs, writesPast, clearsFirst}
 
 -- demand 1 holds of every call
 abbrev pub MeetsOne : Grader → Type 0
@@ -100,6 +100,7 @@ pub record MeetCellClause : Type 0 where
   pub counts-labels : MeetsCells countsLabels
   pub keeps-apart : MeetsCells keepsApart
   pub mixes-inner : MeetsCells mixesInner
+  pub splits-inputs : MeetsCells splitsInputs
 
 -- marks of rows, 0 or 1 each, that stand where the vectors of an accepted file are refined
 pub record MarksThatStand (marks : Circuit → Row → ℕ → ℕ) : Type 0 where
@@ -145,6 +146,7 @@ pub record BreakDemandTwo : Type 0 where
   pub counts-labels : MeetsClasses countsLabels → ⊥
   pub keeps-apart : MeetsClasses keepsApart → ⊥
   pub mixes-inner : MeetsClasses mixesInner → ⊥
+  pub splits-inputs : MeetsClasses splitsInputs → ⊥
 
 -- the part that is broken: over its own marks, by graders that mark with X what a filling takes back; over the definition, by those that
 -- leave marks out; under fillings, by one that marks all

@@ -157,11 +157,29 @@ twoInverters bridges driver fed vectors =
 abbrev pub driverAndInput : List String → List ℕ
 driverAndInput vectors = twoInverters (bridgeField 1 (nodes 0 2) ++ bridgeField 2 (input 0 0)) (list 1) (list 2) vectors
 
+-- two shorts, the driver's output to ground and 0-1: the first at the driver, at the driver and again at the input that it feeds, at the
+-- input alone
+abbrev pub atDriver : List ℕ
+atDriver = twoInverters (bridgeField 1 (nodes 0 2) ++ bridgeField 2 (nodes 0 1)) (list 1) (list 2) ("0" ∷ [])
+
+abbrev pub atBoth : List ℕ
+atBoth = twoInverters (bridgeField 1 (nodes 0 2) ++ bridgeField 2 (nodes 0 1) ++ bridgeField 2 (input 0 0)) (list 1) (list 2) ("0" ∷ [])
+
+abbrev pub atInput : List ℕ
+atInput = twoInverters (bridgeField 1 (nodes 0 1) ++ bridgeField 2 (input 0 0)) (list 1) (list 2) ("0" ∷ [])
+
 -- two NANDs with their labels exchanged, each with a bridge from its inner node to ground
 abbrev pub twoNands : List String → List ℕ
 twoNands vectors =
     inputsField 2 ++ nandFields ++ bridgeField 1 (nodes 0 3) ++ instanceField 1 (list 1) (primary 1 ∷ primary 2 ∷ [])
     ++ instanceField 1 (list 1) (primary 2 ∷ primary 1 ∷ []) ++ vectorFields vectors
+
+-- two NANDs with the same labels, each with its inner node, its output and its first label to ground
+abbrev pub twinNands : List String → List ℕ
+twinNands vectors =
+    inputsField 2 ++ nandFields ++ bridgeField 1 (nodes 0 3) ++ bridgeField 1 (nodes 0 2) ++ bridgeField 1 (input 0 0)
+    ++ instanceField 1 (list 1) (primary 1 ∷ primary 2 ∷ []) ++ instanceField 1 (list 1) (primary 1 ∷ primary 2 ∷ [])
+    ++ vectorFields vectors
 
 -- 16 instances with 128 bridges each, 2,048 faults in all, and then some with one more
 abbrev pub manyFaults : ℕ → List ℕ

@@ -1,6 +1,6 @@
 -- 01, "Known results": all of them, those marked P first, then the whole example of "The report" and more of both kinds; and the classes of
--- 02, "One wire, one short": in one table under
--- one statement, `AllKnown`. What a line says is in specs/Claims; the proof, by computation, is in proofs/KnownProof.
+-- 02, "One wire, one short". They stand in one table under one statement, `AllKnown`. What a line says is in specs/Claims; the proof, by
+-- computation, is in proofs/KnownProof.
 use Prim.Native.Nat.{_-_, _^_}
 use Prim.Native.String.{String}
 use mathlib.Core.List.{List, [], _∷_, _++_}
@@ -11,7 +11,7 @@ use Rattle.grading.specs.Buffers.{buffersOf, roomFor}
 use Rattle.demands.specs.Files.{fieldBytes, inputsField, typeField, edgeField, instanceField, inverterFields, inverter, inverterUnder}
 use Rattle.demands.specs.Files.{inverterListed, inverterChoosing, nandUnder, norUnder, branches, inverterThenNand}
 use Rattle.demands.specs.Files.{nandOfOne, oneType, splitRails, invertersOf, fourInstances, twoInverters, driverAndInput, twoNands}
-use Rattle.demands.specs.Files.{manyFaults}
+use Rattle.demands.specs.Files.{twinNands, manyFaults}
 use Rattle.demands.specs.Claims.{Claim, reads, floats, refuses, short, sizes, leaves, grades, turns, reports, AllHold}
 
 -- ---- vectors
@@ -167,8 +167,8 @@ knownResults =
     ∷ "1 n 0 2 1 10 1 1"
     ∷ "1 n 2 0 1 10 1 1"
     ∷ [])
-    -- 02, "One wire, one short": a driver's output to ground, listed at the driver and again at the input that it feeds: one class, equal rows,
-    -- of either kind
+    -- 02, "One wire, one short": a driver's output to ground, listed at the driver and again at the input that it feeds: one class with
+    -- equal rows, of either kind
     ∷ reports (driverAndInput ("0" ∷ "1" ∷ "X" ∷ []))
     ("vectors 3 faults 2 classes 1 found 1"
     ∷ "1 n 0 2 1 100 1 1"
@@ -195,6 +195,16 @@ knownResults =
     ("vectors 4 faults 2 classes 2 found 2"
     ∷ "1 n 0 3 1 0010 1 3"
     ∷ "2 n 0 3 2 0100 1 2"
+    ∷ [])
+    -- two NANDs alike: outputs and inner nodes are two wires each, though their rows are equal; the input that feeds both is one
+    ∷ reports (twinNands all-four)
+    ("vectors 4 faults 6 classes 5 found 5"
+    ∷ "1 n 0 3 1 0010 1 3"
+    ∷ "1 n 0 2 2 1110 3 1"
+    ∷ "1 i 0 0 3 0011 2 3"
+    ∷ "2 n 0 3 4 0010 1 3"
+    ∷ "2 n 0 2 5 1110 3 1"
+    ∷ "2 i 0 0 3 0011 2 3"
     ∷ [])
     -- more refusals, so that each number is here: a file too long, tag 0, inputs twice, three bytes for the inputs, 65 inputs, a 17th type,
     -- an edge 2-2, a bridge of kind 2, choice -2, bridge 0-3 for an inverter, a list without bridges

@@ -1,6 +1,7 @@
 -- 02, "One wire, one short", on files: what a wire is, said once more by what a circuit ties together; that a wire carries one level, and
 -- a mark is a symmetric function of what its two wires carry; so rows of one class are equal; and that the counts are of the shorts,
--- however they are listed. The proofs are in proofs/WireTies, WiresBefore, OneWireProof and ShortsCounted.
+-- however they are listed. The proofs are in proofs/WireTies, WiresBefore, SharedShorts, OneWireProof
+-- and ShortsCounted.
 use Prim.Native.Nat.{ℕ, _≤_, _<_}
 use mathlib.Core.Path.{_≡_}
 use mathlib.Core.Logic.{_⊎_, _↔_}
@@ -11,10 +12,11 @@ use Rattle.switch.specs.Modules.{linksOf, LevelIs}
 use Rattle.switch.specs.Bridges.{Bridge, nodes, input}
 use Rattle.circuit.specs.Circuit.{Circuit, Instance, Reference, primary, outputOf, typeOfInstance}
 use Rattle.grading.specs.Rows.{Row, rowsOf, rowValues, CellMarked}
-use Rattle.grading.specs.Wires.{End, one-end, other-end, wireOf, carried}
+use Rattle.grading.specs.Wires.{Wire, groundWire, supplyWire, End, one-end, other-end, wireOf, carried}
 use Rattle.grading.specs.Promise.{countsOf}
 use Rattle.demands.specs.Calls.{Call, Accepts, GradedAs, cellAt, classAt}
-use Rattle.demands.specs.Two.{rowAt, MatrixCell, rowOfCell, vectorOfCell, markIn, instanceOf, OneClass, CountsAgree}
+use Rattle.demands.specs.Two.{rowAt, MatrixCell, rowOfCell, vectorOfCell, markIn, instanceOf, OneClass, NamedAgain, CountsAgree}
+use Rattle.demands.specs.Files.{atDriver, atBoth, atInput}
 
 -- ---- wires, by ties
 
@@ -81,13 +83,24 @@ EqualBridges i (nodes a b) (input m l) = ⊥
 EqualBridges i (input m l) (nodes a b) = ⊥
 EqualBridges i (input m l) (input n k) = (m ≡ n) × ((none : Reference) → getD (i .references) l none ≡ getD (i .references) k none)
 
--- in one instance rows are one class exactly when 01 had them so. Rows of two instances, which 01 kept apart, may be one class now: so no class
--- is split, and a file with one instance has the classes that it had
+-- in one instance rows are one class exactly when 01 had them so. Rows of two instances, which 01 kept apart, may be one class now: so no
+-- class is split, and a file with one instance has the classes that it had
 abbrev pub InOneInstanceAsBefore : Type 0
 InOneInstanceAsBefore =
     (file : List ℕ) (c : Circuit) → Accepts file c → (r s : ℕ) → r < length (rowsOf c) → s < length (rowsOf c)
     → rowAt c r .number ≡ rowAt c s .number
     → OneClass (rowAt c r) (rowAt c s) ↔ EqualBridges (rowAt c r .instance) (rowAt c r .bridge) (rowAt c s .bridge)
+
+-- a wire that is a rail
+abbrev pub IsRail : Wire → Type 0
+IsRail w = (w ≡ groundWire) ⊎ (w ≡ supplyWire)
+
+-- a short that two instances list has a rail at one of its ends
+abbrev pub SharedShortsAreAtARail : Type 0
+SharedShortsAreAtARail =
+    (file : List ℕ) (c : Circuit) → Accepts file c → (r s : ℕ) → r < length (rowsOf c) → s < length (rowsOf c)
+    → (rowAt c r .number ≡ rowAt c s .number → ⊥) → OneClass (rowAt c r) (rowAt c s)
+    → IsRail (wireOf (rowAt c r) one-end) ⊎ IsRail (wireOf (rowAt c r) other-end)
 
 -- ---- levels
 
@@ -155,3 +168,22 @@ abbrev pub SameShortsCountAlike : Type 0
 SameShortsCountAlike =
     (one other : Call) (c d : Circuit) → GradedAs one c → GradedAs other d → AlikeButLists c d → ShortsAmong c d → ShortsAmong d c
     → CountsAgree one other
+
+-- ---- an example: files that meet what these statements ask
+
+-- a file, a call that graded it, and what it is read as
+pub record GradedFile (file : List ℕ) : Type 0 where
+  pub call : Call
+  pub circuit : Circuit
+  pub is : call .file ≡ file
+  pub graded : GradedAs call circuit
+
+-- `NamingAgainAddsNothing` with a bridge that another instance lists, and `SameShortsCountAlike` where no short is listed in its instance
+pub record ShortsNamedElsewhere : Type 0 where
+  pub driver : GradedFile atDriver
+  pub both : GradedFile atBoth
+  pub fed : GradedFile atInput
+  pub named-again : NamedAgain (driver .circuit) (both .circuit)
+  pub alike : AlikeButLists (driver .circuit) (fed .circuit)
+  pub there : ShortsAmong (driver .circuit) (fed .circuit)
+  pub back : ShortsAmong (fed .circuit) (driver .circuit)

@@ -9,9 +9,9 @@ use Rattle.print_circuit.specs.Listing.{AcceptedListing}
 use Rattle.demands.specs.One.{OneHolds, PromiseCanBeMet, OneOutcomeOnly, GradingKeepsTheRest}
 use Rattle.demands.specs.Two.{ValuesArePaths, CellIsPath, FloatingNeverMarks, ColumnIsOfItsVector}
 use Rattle.demands.specs.Two.{ClassesCountOnce, NamingAgainAddsNothing, OtherEndAddsNothing}
-use Rattle.demands.specs.OneWire.{WiresAreTies, ClassesAreTies, EndsAreTwoWires, InOneInstanceAsBefore}
+use Rattle.demands.specs.OneWire.{WiresAreTies, ClassesAreTies, EndsAreTwoWires, InOneInstanceAsBefore, SharedShortsAreAtARail}
 use Rattle.demands.specs.OneWire.{OneWireOneLevel, MarksAreOfWires, OneShortOneMark}
-use Rattle.demands.specs.OneWire.{RowsOfOneClassAreEqual, MoreShortsCountNoFewer, SameShortsCountAlike}
+use Rattle.demands.specs.OneWire.{RowsOfOneClassAreEqual, MoreShortsCountNoFewer, SameShortsCountAlike, ShortsNamedElsewhere}
 use Rattle.demands.specs.Three.{ThreeHolds, MarksHoldUnderEveryFilling}
 use Rattle.demands.specs.NoConverse.{NoConverse}
 use Rattle.demands.specs.AlikeFiles.{AlikeFilesReadAlike, FinerFilesReadRefined, RowsAreOfTheHead, ColumnIsOfItsField}
@@ -31,7 +31,8 @@ use Rattle.demands.specs.Wrong.{RefusesEveryIsWrong, SkipsNineIsWrong, S
 use Rattle.demands.specs.Wrong.{LeavesMatrixIsWrong, FirstWordOnlyIsWrong, InventsFoundIsWrong, SweepsOnceIsWrong, OnePlaneIsWrong}
 use Rattle.demands.specs.Wrong.{MarksFloatingIsWrong, CountsRowsIsWrong, SpillsIsWrong, WrapsIsWrong, GoesOnIsWrong}
 use Rattle.demands.specs.Wrong.{WatchesOutputsIsWrong, HoldsLevelsIsWrong, CountsTwiceIsWrong, CountsLabelsIsWrong}
-use Rattle.demands.specs.Wrong.{ReadsXAsZeroIsWrong, KeepsApartIsWrong, MixesInnerIsWrong, WritesPastIsWrong, ClearsFirstIsWrong}
+use Rattle.demands.specs.Wrong.{ReadsXAsZeroIsWrong, KeepsApartIsWrong, MixesInnerIsWrong, SplitsInputsIsWrong}
+use Rattle.demands.specs.Wrong.{WritesPastIsWrong, ClearsFirstIsWrong}
 use Rattle.demands.specs.Breaks.{RightlyMeetsAll, MeetDemandOne, MeetCellClause, MeetDemandThree}
 use Rattle.demands.specs.Breaks.{BreakDemandOne, BreakDemandTwo, BreakDemandThree}
 
@@ -54,12 +55,14 @@ pub record AllProved : Type 2 where
   pub classes-are-ties : ClassesAreTies
   pub ends-are-two-wires : EndsAreTwoWires
   pub in-one-instance-as-before : InOneInstanceAsBefore
+  pub shared-shorts-are-at-a-rail : SharedShortsAreAtARail
   pub one-wire-one-level : OneWireOneLevel
   pub marks-are-of-wires : MarksAreOfWires
   pub one-short-one-mark : OneShortOneMark
   pub rows-of-one-class-are-equal : RowsOfOneClassAreEqual
   pub more-shorts-count-no-fewer : MoreShortsCountNoFewer
   pub same-shorts-count-alike : SameShortsCountAlike
+  pub shorts-named-elsewhere : ShortsNamedElsewhere
   -- demand 3
   pub three-holds : ThreeHolds
   pub marks-hold-under-every-filling : MarksHoldUnderEveryFilling
@@ -135,6 +138,7 @@ pub record AllProved : Type 2 where
   pub reads-x-as-zero-is-wrong : ReadsXAsZeroIsWrong
   pub keeps-apart-is-wrong : KeepsApartIsWrong
   pub mixes-inner-is-wrong : MixesInnerIsWrong
+  pub splits-inputs-is-wrong : SplitsInputsIsWrong
   pub writes-past-is-wrong : WritesPastIsWrong
   pub clears-first-is-wrong : ClearsFirstIsWrong
   pub rightly-meets-all : RightlyMeetsAll

@@ -1,7 +1,7 @@
 -- Demand 2. A cell is marked exactly when, with the bridge closed, a path of switched-on transistors and the bridge runs from supply
 -- to ground. A bridged input counts as supply at 1, as ground at 0; an X switches nothing on. In accepted files a column depends on
--- circuit, fault list and its own vector only. Each class of equal bridges counts once; which bridges are one class, 02 says ("One wire, one
--- short").
+-- circuit, fault list and its own vector only. Each class of equal bridges counts once; which bridges are one class, 02 says ("One wire,
+-- one short").
 use Prim.Native.Nat.{ℕ, suc, _≤_, _<_}
 use mathlib.Core.Path.{_≡_}
 use mathlib.Core.Logic.{_⊎_, _↔_}

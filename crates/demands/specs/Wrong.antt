@@ -344,6 +344,23 @@ mixesInner =
 abbrev pub MixesInnerIsWrong : Type 0
 MixesInnerIsWrong = MeetsPromise mixesInner → ⊥
 
+-- takes a primary input for a wire of its own in each instance that it feeds
+unfoldable pub inputOfInstance : ℕ → Wire → Wire
+inputOfInstance i groundWire = groundWire
+inputOfInstance i supplyWire = supplyWire
+inputOfInstance i (inputWire n) = innerWire i (32 + n)
+inputOfInstance i (outputWire n) = outputWire n
+inputOfInstance i (innerWire n m) = innerWire n m
+
+unfoldable pub splitsInputs : Grader
+splitsInputs =
+    gradesBy (workBy rowOf markOf (λ (r s : Row).
+    let wire : Row → End → Wire = λ row end. inputOfInstance (row .number) (wireOf row end) in
+    samePair (wire r one-end) (wire r other-end) (wire s one-end) (wire s other-end)))
+
+abbrev pub SplitsInputsIsWrong : Type 0
+SplitsInputsIsWrong = MeetsPromise splitsInputs → ⊥
+
 -- ---- 01, on lent memory: past the end of an answer it keeps its contents, and a refusal leaves it unwritten
 
 -- clears the word past its last row, where there is one

@@ -81,7 +81,6 @@ number-back (outputWire n) fits =
       e,
     )
 number-back (innerWire n m) fits =
-    let k : ℕ = 256 + (32 * n + m) in
     let high : (256 + (32 * n + m) - 256) / 32 ≡ n = omega (arith, fits .1) in
     let low : (256 + (32 * n + m) - 256) % 32 ≡ m = omega (arith, fits .1) in
     rw (

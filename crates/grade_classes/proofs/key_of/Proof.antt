@@ -32,8 +32,7 @@ pair-key-requires c κs =
     let wired = c .before .before .before .before in
     let firsts = wired .before in
     let own = firsts .before .pre .1 in
-    let seconds = c .before .before .before in
-    (
+    let seconds = c .before .before .before in (
       rw (wired .node-wire .ensures) (node-few _ _ _ own (omega (arith, firsts .first-in .ensures))),
       rw (c .node-wire2 .ensures) (node-few _ _ _ own (omega (arith, seconds .second-in .ensures))),
     )
@@ -71,8 +70,7 @@ pair-key-requires-2 c κs =
     let wired = c .before .before .before in
     let firsts = wired .before in
     let start = firsts .before in
-    let few : Fits w16 (getD (start .args .t4) (c .before .before .second-in .result) 0) = search needs in
-    (
+    let few : Fits w16 (getD (start .args .t4) (c .before .before .second-in .result) 0) = search needs in (
       rw (wired .node-wire .ensures) (node-few _ _ _ (start .pre .1) (omega (arith, firsts .first-in .ensures))),
       omega arith,
     )

@@ -40,10 +40,9 @@ key-of-requires : tie.Need-key-of-requires Inv-loop μ-loop
 unfolding CodesFit
 key-of-requires c κs =
     let h = c .before .before in
-    let start = h .before .before in
-    (
+    let start = h .before .before in (
       rw (code-kept (now (start .args .codes)) _ _ _ (start .args .from) (h .loop .r) (omega arith) (omega arith) (h .loop .inv .2))
-      (start .pre .1 .1 (h .loop .r) (omega arith) (omega arith)),
+          (start .pre .1 .1 (h .loop .r) (omega arith) (omega arith)),
       omega arith,
     )
 

@@ -12,10 +12,10 @@ static const struct {
 } left_out[] = {{0, 0}};
 
 /*
- * and whether class numbers, and the counts of classes and of found ones, which stand last in an answer, are by the same rule. They are not: plain.c keeps instances apart, the
- * library takes what joins the same two wires for one class, whichever instances list it. In one instance they do agree, and so the library counts no more than plain.c.
+ * and which numbers of an answer are by the same rule: those before the counts of classes and of found ones. plain.c keeps instances apart, the library takes what joins the same
+ * two wires for one class, whichever instances list it. In one instance they do agree, and so the library counts no more than plain.c.
  */
-enum { SAME_CLASSES = 0, SAME_NUMBERS = SAME_CLASSES ? TOGYAMIRU_NUMBERS : TOGYAMIRU_CLASSES };
+enum { SAME_NUMBERS = TOGYAMIRU_CLASSES };
 
 struct given {
     uint64_t answer[TOGYAMIRU_NUMBERS];
@@ -55,7 +55,7 @@ static int same_in_each_instance(const uint8_t *file, size_t n, const struct giv
 static int same(const uint8_t *file, size_t n, const struct given *ours, const struct given *plain)
 {
     return memcmp(ours->answer, plain->answer, SAME_NUMBERS * sizeof *ours->answer) == 0 && memcmp(ours->matrix, plain->matrix, sizeof ours->matrix) == 0 &&
-           (SAME_CLASSES ? memcmp(ours->classes, plain->classes, sizeof ours->classes) == 0 : same_in_each_instance(file, n, ours, plain));
+           same_in_each_instance(file, n, ours, plain);
 }
 
 const char *both_leave_out(const uint8_t *file, size_t n)

@@ -256,10 +256,10 @@ static void make_growth(unsigned family, unsigned step)
         make_gates(128, 64 * (step + 1));
     else if (family == 1)
         make_gates(16 << step, 256);
-    else if (family == 3)
-        make_wires(2 << step);
-    else
+    else if (family == 2)
         make_circuit(&wide, 1, 16 << step, 16, 64, 2);
+    else
+        make_wires(2 << step);
 }
 
 static const struct {

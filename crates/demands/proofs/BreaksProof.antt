@@ -16,7 +16,7 @@ use Rattle.switch.specs.Conduction.{Value, at1, atX}
 use Rattle.switch.specs.Bridges.{nodes, input}
 use Rattle.circuit.specs.Circuit.{Circuit}
 use Rattle.circuit.specs.Refusals.{refusalPlace}
-use Rattle.circuit.specs.Reading.{Reading, accepted, refusal, readingOf}
+use Rattle.circuit.specs.Reading.{accepted, readingOf}
 use Rattle.grading.specs.Buffers.{Buffers}
 use Rattle.grading.specs.Rows.{rowsOf, cell}
 use Rattle.grading.specs.Promise.{isGraded, countsOf}

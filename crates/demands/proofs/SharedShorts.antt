@@ -69,27 +69,27 @@ module _ (c : Circuit) (good : CircuitGood c) (row : Row) (is-row : RowOf c row)
       go (nodes a b) = inl (node-is (row .number) (row .type .output) b)
       go (input m l) = inr (reference-before (row .number) (getD (row .instance .references) l (primary 0)) (label-earlier c good row is-row l))
 
--- wires v and w of instance n, and x and y of instance k, each the first of a node
-module _ (n k : ℕ) (apart : n ≡ k → ⊥) (v w x y : Wire) where
+-- two wires of rows of two instances: v is of a node
+module _ (n k : ℕ) (apart : n ≡ k → ⊥) (v x : Wire) where
   straight : IsRail v ⊎ WireOf n v → IsRail x ⊎ WireOf k x → v ≡ x → IsRail v
   straight (inl p) q e = p
   straight (inr p) (inl q) e = subst IsRail (sym e) q
   straight (inr p) (inr q) e = absurd (apart (one-instance n k x (subst (WireOf n) e p) q))
 
-  -- one after the other, where one of two nodes is the other's second end
-  behind : WireOf n v → (IsRail y ⊎ WireOf k y) ⊎ Before k y → v ≡ y → IsRail v ⊎ (n < k)
+  -- where it is the second end of the other row, that row's instance comes later
+  behind : WireOf n v → (IsRail x ⊎ WireOf k x) ⊎ Before k x → v ≡ x → IsRail v ⊎ (n < k)
   behind p (inl (inl q)) e = inl (subst IsRail (sym e) q)
-  behind p (inl (inr q)) e = absurd (apart (one-instance n k y (subst (WireOf n) e p) q))
+  behind p (inl (inr q)) e = absurd (apart (one-instance n k x (subst (WireOf n) e p) q))
   behind p (inr q) e = inr (q n (subst (WireOf n) e p))
 
 rail-at : (n k : ℕ) → (n ≡ k → ⊥) → (v w x y : Wire) → IsRail v ⊎ WireOf n v → (IsRail w ⊎ WireOf n w) ⊎ Before n w
     → IsRail x ⊎ WireOf k x → (IsRail y ⊎ WireOf k y) ⊎ Before k y
     → ((v ≡ x) × (w ≡ y)) ⊎ ((v ≡ y) × (w ≡ x)) → IsRail v ⊎ IsRail w
-rail-at n k apart v w x y a b c d (inl e) = inl (straight n k apart v w x y a c (e .0))
+rail-at n k apart v w x y a b c d (inl e) = inl (straight n k apart v x a c (e .0))
 rail-at n k apart v w x y (inl a) b c d (inr e) = inl a
 rail-at n k apart v w x y (inr a) b (inl c) d (inr e) = inr (subst IsRail (sym (e .1)) c)
 rail-at n k apart v w x y (inr a) b (inr c) d (inr e) =
-    both (behind n k apart v w x y a d (e .0)) (behind k n (λ p. apart (sym p)) x y v w c b (sym (e .1)))
+    both (behind n k apart v y a d (e .0)) (behind k n (λ p. apart (sym p)) x w c b (sym (e .1)))
   where
     both : IsRail v ⊎ (n < k) → IsRail x ⊎ (k < n) → IsRail v ⊎ IsRail w
     both (inl p) q = inl p

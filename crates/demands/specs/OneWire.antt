@@ -1,7 +1,6 @@
 -- 02, "One wire, one short", on files: what a wire is, said once more by what a circuit ties together; that a wire carries one level, and
 -- a mark is a symmetric function of what its two wires carry; so rows of one class are equal; and that the counts are of the shorts,
--- however they are listed. The proofs are in proofs/WireTies, WiresBefore, SharedShorts, OneWireProof
--- and ShortsCounted.
+-- however they are listed. The proofs are in proofs/WireTies, WiresBefore, SharedShorts, OneWireProof, ShortsCounted and WireExamples.
 use Prim.Native.Nat.{ℕ, _≤_, _<_}
 use mathlib.Core.Path.{_≡_}
 use mathlib.Core.Logic.{_⊎_, _↔_}
@@ -178,7 +177,7 @@ pub record GradedFile (file : List ℕ) : Type 0 where
   pub is : call .file ≡ file
   pub graded : GradedAs call circuit
 
--- `NamingAgainAddsNothing` with a bridge that another instance lists, and `SameShortsCountAlike` where no short is listed in its instance
+-- `NamingAgainAddsNothing` with a bridge that another instance lists, and `SameShortsCountAlike` where each short has changed its instance
 pub record ShortsNamedElsewhere : Type 0 where
   pub driver : GradedFile atDriver
   pub both : GradedFile atBoth

@@ -12,34 +12,34 @@ use Rattle.grading.proofs.OrTests.{in-first, in-second, or-cases}
 
 -- ---- one wire
 
--- the wire of a kind with these numbers
-ofKind : ℕ → ℕ → ℕ → Wire
-ofKind zero n m = groundWire
-ofKind (suc zero) n m = supplyWire
-ofKind (suc (suc zero)) n m = inputWire n
-ofKind (suc (suc (suc zero))) n m = outputWire n
-ofKind (suc (suc (suc (suc k)))) n m = innerWire n m
+-- the wire of a sort with these numbers
+ofSort : ℕ → ℕ → ℕ → Wire
+ofSort zero n m = groundWire
+ofSort (suc zero) n m = supplyWire
+ofSort (suc (suc zero)) n m = inputWire n
+ofSort (suc (suc (suc zero))) n m = outputWire n
+ofSort (suc (suc (suc (suc k)))) n m = innerWire n m
 
-of-kind : (w : Wire) → ofKind (wireSort w) (wireOwner w) (wireNode w) ≡ w
-unfolding ofKind wireSort wireOwner wireNode
-of-kind groundWire = refl
-of-kind supplyWire = refl
-of-kind (inputWire n) = refl
-of-kind (outputWire n) = refl
-of-kind (innerWire n m) = refl
+of-sort : (w : Wire) → ofSort (wireSort w) (wireOwner w) (wireNode w) ≡ w
+unfolding ofSort wireSort wireOwner wireNode
+of-sort groundWire = refl
+of-sort supplyWire = refl
+of-sort (inputWire n) = refl
+of-sort (outputWire n) = refl
+of-sort (innerWire n m) = refl
 
 pub wire-eq : (v w : Wire) → T (sameWire v w) → v ≡ w
 unfolding sameWire
 wire-eq v w t =
     let outer = both (eqb (wireSort v) (wireSort w) && eqb (wireOwner v) (wireOwner w)) (eqb (wireNode v) (wireNode w)) t in
     let inner = both (eqb (wireSort v) (wireSort w)) (eqb (wireOwner v) (wireOwner w)) (outer .0) in
-    sym (of-kind v)
+    sym (of-sort v)
     ∙ rw (
       eqb→eq (wireSort v) (wireSort w) (inner .0),
       eqb→eq (wireOwner v) (wireOwner w) (inner .1),
       eqb→eq (wireNode v) (wireNode w) (outer .1),
     )
-    (of-kind w)
+    (of-sort w)
 
 pub wire-same : (v w : Wire) → v ≡ w → T (sameWire v w)
 unfolding sameWire

@@ -67,10 +67,6 @@ ClassesHaveEqualMarks =
     (c : Circuit) → CircuitGood c → (r s : Row) → RowOf c r → RowOf c s → T (sameClass r s)
     → (vector : List Value) → cell c vector r ≡ cell c vector s
 
--- the class of the row at a place, from 0
-abbrev pub classNumber : Circuit → ℕ → ℕ
-classNumber c r = getD (classesOf (rowsOf c)) r 0
-
 -- the class numbers of a circuit tell its classes
 abbrev pub ClassNumbers : Circuit → Type 0
 ClassNumbers c = NumbersTell sameClass (rowsOf c) (classesOf (rowsOf c))

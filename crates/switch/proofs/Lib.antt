@@ -1,7 +1,8 @@
 -- The laws of conduction, from paths to values in planes.
---   Paths, Channels, Deciding, MoreOn, Transistors,
+--   Paths, Channels, Deciding, MoreOn,
 --   Apart, Marks, Refinement, KnownOutputs            the statements of specs/Statements on paths
 --   Blocks                                            blocks of settings tell what all of them do
+--   Groups                                            groups of transistors link what their edges do
 --   Ranges                                            what a record tells that a file can give
 --   Outputs                                           the statements on planes
 --   Examples                                          a type that is accepted, and a record that the code takes
@@ -9,8 +10,8 @@ pub mod Paths
 pub mod Channels
 pub mod Deciding
 pub mod Blocks
+pub mod Groups
 pub mod MoreOn
-pub mod Transistors
 pub mod Apart
 pub mod Marks
 pub mod Refinement

@@ -4,7 +4,7 @@ use Prim.Native.Nat.{ℕ, zero, suc, _-_, _<_}
 use native.Mathlib.Nat.{not-suc-le-zero, le-of-suc-le-suc}
 use native.Mathlib.Omega.{arith}
 use mathlib.Core.Path.{_≡_, refl, ap, _∙_}
-use mathlib.Core.Bool.{Bool, true, false, _||_, not}
+use mathlib.Core.Bool.{Bool, true, false, not}
 use mathlib.Core.Logic.{_⊎_, inl, inr}
 use mathlib.Core.List.{List, [], _∷_, _++_, map, Memᴰ·append-left, Memᴰ·append-right, List·Memᴰ·append-cases}
 use lib.Dec.{T}
@@ -12,25 +12,15 @@ use lib.ListN.{length, getD}
 use Rattle.words.specs.Bits.{bit}
 use Rattle.words.proofs.Laws.{bit-not}
 use Rattle.switch.specs.Conduction.{Value, at0, at1, atX, Channel, p-channel, n-channel, Edge, transistorOn, Switching, byValues}
-use Rattle.switch.specs.Conduction.{anyOf, edgeOn, links, Link, Among, Joined}
+use Rattle.switch.specs.Conduction.{edgeOn, links, Link, Among, Joined}
 use Rattle.switch.specs.Statements.{Within, MoreOnMoreJoined, WordAt, Excluding, possibly, SureIsPossible}
 use Rattle.switch.specs.Records.{isSet, complement, byPlanes}
 use Rattle.switch.proofs.Paths.{more-links, links-more}
 
-or-more : (a b c d : Bool) → (T a → T c) → (T b → T d) → T (a || b) → T (c || d)
-or-more a b true d f g t = tt
-or-more true b false d f g t = absurd (f tt)
-or-more false b false d f g t = g t
-
-any-more : {A : Type 0} (f g : A → Bool) → ((a : A) → T (f a) → T (g a)) → (as′ : List A) → T (anyOf f as′) → T (anyOf g as′)
-unfolding anyOf
-any-more f g h [] t = t
-any-more f g h (a ∷ as′) t = or-more (f a) (anyOf f as′) (g a) (anyOf g as′) (h a) (any-more f g h as′) t
-
 module _ (on more : Switching) (within : Within on more) where
   edge-stays : (e : Edge) → T (edgeOn on e) → T (edgeOn more e)
   unfolding edgeOn
-  edge-stays e t = any-more (on (e .channel)) (more (e .channel)) (within (e .channel)) (e .labels) t
+  edge-stays e t = within (e .channel) (e .label) t
 
   link-stays : (es : List Edge) (w : Link) → Among w (links on es) → Among w (links more es)
   link-stays es = links-more on more es edge-stays

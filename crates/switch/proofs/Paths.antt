@@ -9,7 +9,7 @@ use mathlib.Core.List.{List, [], _∷_, List·Memᴰ·head, List·Memᴰ·tail, 
 use lib.Dec.{T, leb, ltb, ltb→lt}
 use lib.ListN.{length, getD}
 use Rattle.switch.specs.Conduction.{Value, Edge, Channel, n-channel, Link, Among, Joined, here, forth, back, between}
-use Rattle.switch.specs.Conduction.{transistorOn, Switching, byValues, anyOf, edgeOn, links}
+use Rattle.switch.specs.Conduction.{transistorOn, Switching, byValues, edgeOn, links}
 use Rattle.switch.specs.Modules.{ModuleType, allOf, typeInRange, edgeInRange, inRange, linksOf}
 use Rattle.switch.specs.Statements.{JoinedIsEquivalence, MoreLinks}
 
@@ -144,7 +144,7 @@ links-among on es d w = (on-at on d w es, λ a. of-on-at on d w es (a .place) (a
 pub links-more : (on more : Switching) (es : List Edge)
     → ((e : Edge) → T (edgeOn on e) → T (edgeOn more e)) → (w : Link) → Among w (links on es) → Among w (links more es)
 links-more on more es f w m =
-    let none : Edge = record { first = 0; second = 0; channel = n-channel; labels = [] } in
+    let none : Edge = record { first = 0; second = 0; channel = n-channel; label = 0 } in
     let a : OnAt on es none w = on-at on none w es m in
     of-on-at more none w es (a .place) (a .within) (f (getD es (a .place) none) (a .is-on)) (a .ends)
 
@@ -155,18 +155,10 @@ both true b t = (tt, t)
 both false b t = absurd t
 
 module _ (k : ℕ) (on other : Switching) (agree : (ch : Channel) (l : ℕ) → l < k → on ch l ≡ other ch l) where
-  any-cong : (ch : Channel) (ls : List ℕ) → T (allOf (λ (l : ℕ). ltb l k) ls) → anyOf (on ch) ls ≡ anyOf (other ch) ls
-  unfolding anyOf allOf
-  any-cong ch [] t = refl
-  any-cong ch (l ∷ ls) t =
-      let in-range = both (ltb l k) (allOf (λ (i : ℕ). ltb i k) ls) t in
-      rw (agree ch l (ltb→lt l k (in-range .0)), any-cong ch ls (in-range .1))
-
   edgeOn-cong : (h : ℕ) (e : Edge) → T (edgeInRange h k e) → edgeOn on e ≡ edgeOn other e
   unfolding edgeOn edgeInRange
   edgeOn-cong h e t =
-      let numbers : Bool = leb (e .first) h && leb (e .second) h && between 1 4 (length (e .labels)) in
-      any-cong (e .channel) (e .labels) ((both numbers (allOf (λ (l : ℕ). ltb l k) (e .labels)) t) .1)
+      agree (e .channel) (e .label) (ltb→lt (e .label) k ((both (leb (e .first) h && leb (e .second) h) (ltb (e .label) k) t) .1))
 
   pub links-cong : (h : ℕ) (es : List Edge) → T (allOf (edgeInRange h k) es) → links on es ≡ links other es
   unfolding links allOf

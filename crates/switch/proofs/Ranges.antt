@@ -1,6 +1,6 @@
--- What it tells of a type's record that a file can give it: its numbers are in 01's ranges, its labels and nodes are those that the code's tables hold.
--- Past the end of a list of edges stands an edge without labels, so each fact holds of every place. Assumes nothing.
-use Prim.Native.Nat.{ℕ, zero, suc, _≤_, _<_}
+-- What it tells of a type's record that a file can give it: its numbers are in 01's ranges, its nodes are those of the type, and an edge in range is the
+-- one that its record tells. Assumes nothing.
+use Prim.Native.Nat.{ℕ, zero, suc, _+_, _*_, _/_, _%_, _≤_, _<_}
 use native.Mathlib.Omega.{arith}
 use mathlib.Core.Path.{_≡_, ap, subst, _∙_}
 use mathlib.Core.Bool.{Bool, _&&_}
@@ -8,9 +8,10 @@ use mathlib.Core.List.{List, [], _∷_}
 use lib.Dec.{T, leb, ltb, leb→le, ltb→lt}
 use lib.ListN.{length, getD, take, List·getD-map}
 use lib.Seq.{getD-take}
-use Rattle.switch.specs.Conduction.{Edge, between}
+use Rattle.switch.specs.Conduction.{Channel, p-channel, n-channel, Edge, between}
 use Rattle.switch.specs.Modules.{allOf, typeInRange, edgeInRange, inRange}
-use Rattle.switch.specs.Records.{noEdge, edgeOf, edgesOf, typeOf, EdgesFit, TypeGiven}
+use Rattle.switch.specs.Records.{noEdge, channelBit, channelBy, gateOf, edgeRecord, firstIn, secondIn, gateIn, edgeOf, edgesOf, typeOf}
+use Rattle.switch.specs.Records.{TypeGiven}
 use Rattle.switch.specs.declared.Edge.{Edge as EdgeRecord}
 use Rattle.switch.specs.declared.ModuleType.{ModuleType as TypeRecord}
 use Rattle.switch.proofs.Paths.{both}
@@ -48,24 +49,47 @@ type-ranges h o k t =
 pub record EdgeRanges (h : ℕ) (e : Edge) : Type 0 where
   pub first : e .first ≤ h
   pub second : e .second ≤ h
-  pub labels : (j : ℕ) → getD (e .labels) j 0 < 12
+  pub label : e .label < 12
 
 edge-ranges : (h k : ℕ) → k ≤ 12 → (e : Edge) → T (edgeInRange h k e) → EdgeRanges h e
 unfolding edgeInRange
 edge-ranges h k hk e t =
-    let numbers = both (leb (e .first) h && leb (e .second) h && between 1 4 (length (e .labels))) (allOf (λ (l : ℕ). ltb l k) (e .labels)) t in
-    let nodes = both (leb (e .first) h && leb (e .second) h) (between 1 4 (length (e .labels))) (numbers .0) in
-    let ends = both (leb (e .first) h) (leb (e .second) h) (nodes .0) in
+    let parts = both (leb (e .first) h && leb (e .second) h) (ltb (e .label) k) t in
+    let ends = both (leb (e .first) h) (leb (e .second) h) (parts .0) in
     record {
       first = leb→le (e .first) h (ends .0);
       second = leb→le (e .second) h (ends .1);
-      labels =
-          every-place (λ (l : ℕ). l < 12) (λ (l : ℕ). ltb l k) 0 (omega arith) (λ l q. omega (arith, ltb→lt l k q)) (e .labels) (numbers .1);
+      label = omega (arith, ltb→lt (e .label) k (parts .1));
     }
+
+-- an edge that a code has room for is the one that its record tells
+module _ (a b l : ℕ) (ha : a < 32) (hb : b < 32) (hl : l < 16) where
+  abbrev coded : ℕ → EdgeRecord
+  coded gate = record { code = a + 32 * b + 1024 * gate }
+
+  parts : (gate : ℕ) → gate < 32 → (firstIn (coded gate) ≡ a) × (secondIn (coded gate) ≡ b) × (gateIn (coded gate) ≡ gate)
+  parts gate h = (omega arith, omega arith, omega arith)
+
+  its-record-by : (c : Channel)
+      → edgeOf (edgeRecord (record { first = a; second = b; channel = c; label = l })) ≡ record { first = a; second = b; channel = c; label = l }
+  unfolding edgeOf edgeRecord gateOf channelBit channelBy
+  its-record-by p-channel =
+      let its = parts (l + 16) (omega arith) in
+      let channel : (l + 16) / 16 ≡ 1 = omega arith in
+      let label : (l + 16) % 16 ≡ l = omega arith in
+      rw (its .0, its .1, its .2, channel, label)
+  its-record-by n-channel =
+      let its = parts (l + 0) (omega arith) in
+      let channel : (l + 0) / 16 ≡ 0 = omega arith in
+      let label : (l + 0) % 16 ≡ l = omega arith in
+      rw (its .0, its .1, its .2, channel, label)
+
+pub its-record : (e : Edge) → e .first < 32 → e .second < 32 → e .label < 16 → edgeOf (edgeRecord e) ≡ e
+its-record e ha hb hl = its-record-by (e .first) (e .second) (e .label) ha hb hl (e .channel)
 
 no-edge : (h : ℕ) → EdgeRanges h (edgeOf noEdge)
 unfolding edgeOf
-no-edge h = record { first = omega arith; second = omega arith; labels = λ j. omega arith }
+no-edge h = record { first = omega arith; second = omega arith; label = omega arith }
 
 -- ---- a record that a file can give
 
@@ -101,18 +125,3 @@ module _ (r : TypeRecord) (given : TypeGiven r) where
       (edgesOf (take (r .count) (r .edges)))
       given-edges
       i)
-
-  pub edges-fit : EdgesFit (r .edges) (r .count)
-  unfolding edgeOf
-  edges-fit = record {
-    places = given .places;
-    edges = λ i l. record {
-      places =
-          rw (getD-take (r .count) (r .edges) i noEdge l) at
-          (every-place (λ (e : EdgeRecord). e .count ≤ 4) (λ (e : EdgeRecord). leb (e .count) 4) noEdge (omega arith) (λ e q. leb→le (e .count) 4 q)
-          (take (r .count) (r .edges)) (given .label-places) i);
-      labels = λ j k.
-          let e = getD (r .edges) i noEdge in
-          rw (getD-take (e .count) (e .labels) j 0 k) at (given-edge i l .labels j);
-    };
-  }

@@ -1,5 +1,5 @@
--- 01, "Conduction": values 0, 1, X; channels, and the rule that gives them by position; transistors and edges that are on; paths over on
--- edges; joined nodes.
+-- 01, "Conduction": values 0, 1, X; channels, and the rule that gives them by position; edges that are on; paths over on edges; joined
+-- nodes. 02, "No more grouped transistors": an edge is one transistor (01's edges of several are in Grouped).
 use Prim.Native.Nat.{ℕ}
 use mathlib.Core.Bool.{Bool, true, false, cond, _&&_, _||_, not}
 use mathlib.Core.List.{List, [], _∷_, List·Memᴰ}
@@ -21,12 +21,12 @@ pub data Channel : Type 0 where
   p-channel : Channel
   n-channel : Channel
 
--- an edge of a module type: its two nodes, its channel, and the labels of its parallel transistors
+-- an edge of a module type, one transistor: its two nodes, its channel and its label
 pub record Edge : Type 0 where
   pub first : ℕ
   pub second : ℕ
   pub channel : Channel
-  pub labels : List ℕ
+  pub label : ℕ
 
 unfoldable pub between : ℕ → ℕ → ℕ → Bool
 between low high m = leb low m && leb m high
@@ -61,10 +61,6 @@ transistorOn n-channel at0 = false
 transistorOn n-channel at1 = true
 transistorOn n-channel atX = false
 
-unfoldable pub anyOf : {A : Type 0} → (A → Bool) → List A → Bool
-anyOf test [] = false
-anyOf test (a ∷ as′) = test a || anyOf test as′
-
 -- what switches on: whether a transistor is on, by its channel and its label. Conduction asks nothing else of the labels
 abbrev pub Switching : Type 0
 Switching = Channel → ℕ → Bool
@@ -73,9 +69,9 @@ Switching = Channel → ℕ → Bool
 abbrev pub byValues : (ℕ → Value) → Switching
 byValues values = λ (c : Channel) (l : ℕ). transistorOn c (values l)
 
--- an edge is on when at least one of its transistors is
+-- an edge is on when its transistor is
 unfoldable pub edgeOn : Switching → Edge → Bool
-edgeOn on e = anyOf (on (e .channel)) (e .labels)
+edgeOn on e = on (e .channel) (e .label)
 
 -- a link: the two nodes of an edge that is on, or of a bridge that is closed
 abbrev pub Link : Type 0

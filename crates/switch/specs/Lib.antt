@@ -2,6 +2,7 @@
 --   Conduction, Modules, Bridges   the words of 01; a reader needs these three
 --   Deciding                       Boolean tests that compute what the three say of paths
 --   Blocks                         a type judged over its settings 64 at a time
+--   Grouped                        edges of several transistors, as files had them before
 --   Records, Promises              the code's records in those words, and the words that a caller is promised
 --   Statements                     the theorems that all later crates rest on
 --   Examples                       the NAND: a type that is accepted, and a record that the code takes
@@ -10,6 +11,7 @@ pub mod Modules
 pub mod Bridges
 pub mod Deciding
 pub mod Blocks
+pub mod Grouped
 pub mod Records
 pub mod Promises
 pub mod Statements

@@ -1,24 +1,20 @@
 -- 01, "The circuit file" (tags 2 and 3) and "Conduction": a module type, its ranges, when it is complementary, and its output.
 use Prim.Native.Nat.{ℕ, zero, suc, _-_, _^_, _<_}
-use mathlib.Core.Bool.{Bool, true, _&&_}
+use mathlib.Core.Bool.{Bool, true, false, _&&_, _||_}
 use mathlib.Core.List.{List, [], _∷_}
 use lib.Dec.{leb, ltb}
-use lib.ListN.{length}
 use Rattle.words.specs.Bits.{bit}
 use Rattle.switch.specs.Conduction.{Value, at0, at1, atX, Edge, Link, Joined, between, byValues, links, ground, supply}
 
--- the limits of a module type: its edges, its nodes (0 to 31), its labels, and the labels of one edge
+-- the limits of a module type: its edges (02, "No more grouped transistors"), its nodes (0 to 31) and its labels
 abbrev pub mostEdges : ℕ
-mostEdges = 64
+mostEdges = 256
 
 abbrev pub mostNodes : ℕ
 mostNodes = 32
 
 abbrev pub mostLabels : ℕ
 mostLabels = 12
-
-abbrev pub mostParallel : ℕ
-mostParallel = 4
 
 -- a module type: highest node h, output node o, number of labels k, edges
 pub record ModuleType : Type 0 where
@@ -31,14 +27,17 @@ unfoldable pub allOf : {A : Type 0} → (A → Bool) → List A → Bool
 allOf test [] = true
 allOf test (a ∷ as′) = test a && allOf test as′
 
+unfoldable pub anyOf : {A : Type 0} → (A → Bool) → List A → Bool
+anyOf test [] = false
+anyOf test (a ∷ as′) = test a || anyOf test as′
+
 -- h is 2 to 31, o is 2 to h, k is 1 to 12
 unfoldable pub typeInRange : ℕ → ℕ → ℕ → Bool
 typeInRange h o k = between 2 (mostNodes - 1) h && between 2 h o && between 1 mostLabels k
 
--- two nodes 0 to h, then 1 to 4 labels 0 to k - 1
+-- two nodes 0 to h, and a label 0 to k - 1
 unfoldable pub edgeInRange : ℕ → ℕ → Edge → Bool
-edgeInRange h k e =
-    leb (e .first) h && leb (e .second) h && between 1 mostParallel (length (e .labels)) && allOf (λ (l : ℕ). ltb l k) (e .labels)
+edgeInRange h k e = leb (e .first) h && leb (e .second) h && ltb (e .label) k
 
 unfoldable pub inRange : ModuleType → Bool
 inRange t = typeInRange (t .highest) (t .output) (t .labels) && allOf (edgeInRange (t .highest) (t .labels)) (t .edges)

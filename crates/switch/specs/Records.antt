@@ -1,42 +1,50 @@
 -- The code's records in the words of Conduction and Modules: an edge record, a module type, planes of labels, and what a record must be to
 -- be one of 01's.
-use Prim.Native.Nat.{ℕ, zero, suc, _-_, _^_, _≤_, _<_}
+use Prim.Native.Nat.{ℕ, zero, suc, _+_, _-_, _*_, _/_, _%_, _^_, _≤_}
 use mathlib.Core.Path.{_≡_}
 use mathlib.Core.Bool.{Bool, true, false}
-use mathlib.Core.List.{List, [], map}
-use lib.Dec.{T, leb}
-use lib.ListN.{length, take, getD, replicate}
+use mathlib.Core.List.{List, map}
+use lib.Dec.{T}
+use lib.ListN.{length, take, getD}
 use Rattle.words.specs.Bits.{bit}
 use Rattle.switch.specs.Conduction.{Value, at0, at1, atX, Edge, Channel, p-channel, n-channel, Switching}
-use Rattle.switch.specs.Modules.{ModuleType, mostEdges, mostLabels, mostParallel, allOf, inRange}
+use Rattle.switch.specs.Modules.{ModuleType, mostEdges, inRange}
 use Rattle.switch.specs.declared.Edge.{Edge as EdgeRecord}
 use Rattle.switch.specs.declared.ModuleType.{ModuleType as TypeRecord}
 
--- what stands past the end of a list of edge records
-abbrev pub noEdge : EdgeRecord
-noEdge = record { first = 0; second = 0; «p_channel» = false; count = 0; labels = [] }
+-- the bit that tells a channel, and the channel that a bit tells
+unfoldable pub channelBit : Channel → ℕ
+channelBit p-channel = 1
+channelBit n-channel = 0
 
--- what stands in the places of a type that no edge fills
-abbrev pub unusedEdge : EdgeRecord
-unusedEdge = record { first = 0; second = 0; «p_channel» = false; count = 0; labels = replicate mostParallel 0 }
+unfoldable pub channelBy : ℕ → Channel
+channelBy zero = n-channel
+channelBy (suc b) = p-channel
 
--- the channel that a record tells, and how it tells one
-abbrev pub channelBy : Bool → Channel
-channelBy true = p-channel
-channelBy false = n-channel
+-- the gate of an edge, what switches it, as one number below 32: its label, and 16 more in a p-channel edge
+unfoldable pub gateOf : Edge → ℕ
+gateOf e = e .label + 16 * channelBit (e .channel)
 
-abbrev pub isP : Channel → Bool
-isP p-channel = true
-isP n-channel = false
+-- an edge is one number, from its lowest bit: five bits for the first node, five for the second, five for the gate
+unfoldable pub edgeRecord : Edge → EdgeRecord
+edgeRecord e = record { code = e .first + 32 * e .second + 1024 * gateOf e }
 
--- the edge of a record: of its four places for labels the first `count` are used
+abbrev pub firstIn : EdgeRecord → ℕ
+firstIn r = r .code % 32
+
+abbrev pub secondIn : EdgeRecord → ℕ
+secondIn r = r .code / 32 % 32
+
+abbrev pub gateIn : EdgeRecord → ℕ
+gateIn r = r .code / 1024 % 32
+
+-- the edge of a record
 unfoldable pub edgeOf : EdgeRecord → Edge
-edgeOf r = record {
-  first = r .first;
-  second = r .second;
-  channel = channelBy (r .«p_channel»);
-  labels = take (r .count) (r .labels);
-}
+edgeOf r = record { first = firstIn r; second = secondIn r; channel = channelBy (gateIn r / 16); label = gateIn r % 16 }
+
+-- what stands in the places of a type that no edge fills, and past the end of a list of edge records
+abbrev pub noEdge : EdgeRecord
+noEdge = record { code = 0 }
 
 unfoldable pub edgesOf : List EdgeRecord → List Edge
 edgesOf rs = map edgeOf rs
@@ -49,34 +57,14 @@ typeOf r = record { highest = r .highest; output = r .output; labels = r .labels
 unfoldable pub typeWith : ℕ → ℕ → ℕ → List EdgeRecord → ModuleType
 typeWith h o k rs = record { highest = h; output = o; labels = k; edges = edgesOf rs }
 
--- the labels of an edge record stand in its four places, each 0 to 11
-pub record LabelsFit (r : EdgeRecord) : Type 0 where
-  pub places : r .count ≤ mostParallel
-  pub labels : (j : ℕ) → j < r .count → getD (r .labels) j 0 < mostLabels
-
--- so of the first n edge records, which stand in 64 places
-pub record EdgesFit (rs : List EdgeRecord) (n : ℕ) : Type 0 where
-  pub places : n ≤ mostEdges
-  pub edges : (i : ℕ) → i < n → LabelsFit (getD rs i noEdge)
-
--- a record that holds a type's three numbers and the edges of a slice
-pub record Spread (rs : List EdgeRecord) (h o k : ℕ) (r : TypeRecord) : Type 0 where
-  pub highest : r .highest ≡ h
-  pub output : r .output ≡ o
-  pub labels : r .labels ≡ k
-  pub places : r .count ≤ mostEdges
-  pub edges : take (r .count) (r .edges) ≡ rs
-
 -- counts within the places, numbers within 01's ranges; refusals 8 and 9 are not asked
 pub record TypeGiven (r : TypeRecord) : Type 0 where
   pub places : r .count ≤ mostEdges
-  pub label-places : T (allOf (λ (e : EdgeRecord). leb (e .count) mostParallel) (take (r .count) (r .edges)))
   pub ranges : T (inRange (typeOf r))
 
 -- the same of three numbers and a list of edge records
 pub record EdgesGiven (h o k : ℕ) (rs : List EdgeRecord) : Type 0 where
   pub places : length rs ≤ mostEdges
-  pub label-places : T (allOf (λ (e : EdgeRecord). leb (e .count) mostParallel) rs)
   pub ranges : T (inRange (typeWith h o k rs))
 
 -- a value from its bit in the known-1 plane and in the known-0 plane. No file gives both; taken as 1, every pair of bits has a meaning

@@ -3,7 +3,7 @@ use Prim.Native.Nat.{ℕ, _^_, _<_}
 use mathlib.Core.Path.{_≡_}
 use mathlib.Core.Bool.{false, not}
 use mathlib.Core.Logic.{_⊎_, _↔_}
-use mathlib.Core.List.{List, [], _∷_, _++_, map}
+use mathlib.Core.List.{List, _++_, map}
 use lib.Dec.{T}
 use lib.ListN.{length, getD}
 use Rattle.words.specs.Bits.{bit}
@@ -69,21 +69,6 @@ pub record MoreJoined (on more : Switching) : Type 0 where
 
 abbrev pub MoreOnMoreJoined : Type 0
 MoreOnMoreJoined = (on more : Switching) → Within on more → MoreJoined on more
-
--- parallel transistors as edges of their own, one for each label, in order
-unfoldable pub ofEach : Edge → List ℕ → List Edge
-ofEach e [] = []
-ofEach e (l ∷ ls) = record { first = e .first; second = e .second; channel = e .channel; labels = l ∷ [] } ∷ ofEach e ls
-
-unfoldable pub transistors : List Edge → List Edge
-transistors [] = []
-transistors (e ∷ es) = ofEach e (e .labels) ++ transistors es
-
--- what edges join, their transistors join one by one, beside whatever else is closed
-abbrev pub TransistorsJoin : Type 0
-TransistorsJoin =
-    (on : Switching) (es : List Edge) (closed : List Link) (a b : ℕ)
-    → Joined (closed ++ links on es) a b ↔ Joined (closed ++ links on (transistors es)) a b
 
 -- a list has a word in this place
 abbrev pub WordAt : List ℕ → ℕ → Type 0

@@ -1,31 +1,20 @@
-// Switch-level modules: the limits of a module type and the records that the other crates hand on. No function: the code is in the crate `join_nodes`.
+// Switch-level modules: the limits of a module type and the records that the other crates hand on. The code is in the crate `join_nodes`.
+pub mod edges;
 
-// The limits of a module type: its edges, its nodes (0 to 31), its labels, and the labels of one edge.
-pub const MOST_EDGES: usize = 64;
+// The limits of a module type: its edges, its nodes (0 to 31) and its labels.
+pub const MOST_EDGES: usize = 256;
 
 pub const MOST_NODES: usize = 32;
 
 pub const MOST_LABELS: usize = 12;
 
-pub const MOST_PARALLEL: usize = 4;
-
-// An edge of a module type: two nodes, its channel, and one to four labels of parallel transistors.
+// An edge of a module type, one transistor: its two nodes, its label and its channel in one number, which `edges` makes and takes apart. So the edges of a type fill half a kilobyte.
 pub struct Edge {
-    pub first: u8,
-    pub second: u8,
-    pub p_channel: bool,
-    pub count: u8,
-    pub labels: [u8; MOST_PARALLEL],
+    pub code: u16,
 }
 
 // What stands in the places of a type that no edge fills.
-pub const NO_EDGE: Edge = Edge {
-    first: 0,
-    second: 0,
-    p_channel: false,
-    count: 0,
-    labels: [0u8; MOST_PARALLEL],
-};
+pub const NO_EDGE: Edge = Edge { code: 0 };
 
 // A module type: highest node, output node, number of labels, and its edges, in the first `count` places.
 pub struct ModuleType {

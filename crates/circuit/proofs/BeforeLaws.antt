@@ -16,7 +16,7 @@ use Rattle.circuit.specs.Limits.{mostBytes, mostTypes, mostBridges, most
 use Rattle.circuit.specs.Fields.{Cut, clean, broken, field, cutFrom, twoBytes}
 use Rattle.circuit.specs.Circuit.{Instance, Listed, noType, faultCount}
 use Rattle.circuit.specs.Order.{Tag, inputs-tag, type-tag, bridge-tag, instance-tag, vector-tag, tagOf, isKind, isEdge}
-use Rattle.circuit.specs.Known.{typeIn, edgeIn, listedIn, instanceIn, vectorIn, latest, withEdge, edgeAdded}
+use Rattle.circuit.specs.Known.{typeIn, edgesIn, listedIn, instanceIn, vectorIn, latest, withEdges, edgesAdded}
 use Rattle.circuit.specs.Table.{Test, Verdict, passes, refusedAt, firstOf, notComplementary, listedGood, isEmpty, inputsTests, typeTests, edgeTests, bridgeTests, instanceTests, vectorTests}
 use Rattle.circuit.specs.Records.{emptyCircuit}
 use Rattle.circuit.specs.Verdicts.{isRefused}
@@ -25,7 +25,7 @@ use Rattle.circuit.specs.Stages.{Stage, stageOf, stopped, ifPasses, sect
 use Rattle.circuit.specs.Laws.{Each, TypeSound, TypeGood, InstanceGood, CircuitGood, BeforeIsGood}
 use Rattle.circuit.proofs.StageLaws.{with-edge, with-type, more-edges, more-types, by-edge, by-type, by-other}
 use Rattle.circuit.proofs.GatheredLaws.{failing-refuses, gathered-is-before}
-use Rattle.circuit.proofs.Tested.{inputs-pass, type-pass, edge-pass, bridge-pass, faults-snoc, instance-pass, vector-pass, holds, length-snoc, getD-any, some-length, no-length, each-none, each-snoc}
+use Rattle.circuit.proofs.Tested.{inputs-pass, type-pass, edges-sound, bridge-pass, faults-snoc, instance-pass, vector-pass, holds, length-snoc, getD-any, some-length, no-length, each-none, each-snoc}
 use Rattle.circuit.proofs.Verdicts.{refused-passes}
 
 -- ---- a stage of one kind
@@ -132,7 +132,7 @@ before-good types s =
     }
 
 types-keep : (types : List ModuleType) (from cut : Cut) → TypesSound types → TypesGood (typeStage types from cut .gathered)
-unfolding typeStage edgeAdded
+unfolding typeStage edgesAdded
 types-keep types from clean s =
     verdict-keeps TypesGood (judged types (fieldPlace from) clean) (typesBefore types) from (stopped types clean) (before-good types s)
     (λ e. judged-types types (fieldPlace from) clean s e)
@@ -166,8 +166,8 @@ types-keep types from (field f rest) s =
     go true true em edges types′ = other types′
     go true false em edges types′ =
         verdict-keeps TypesGood (firstOf (edgeTests (latest types) (f .at) (f .body))) (typesBefore types) from (more-edges types f from rest) (before-good types s)
-        (λ e. edges (edge-keeps types (withEdge (latest types) (edgeIn (latest types .output) (f .body))) em s
-        (edge-pass (latest types) (f .at) (f .body) e (latest-sound types em s))))
+        (λ e. edges (edge-keeps types (withEdges (latest types) (edgesIn (latest types .output) (f .body))) em s
+        (edges-sound (latest types) (f .at) (f .body) e (latest-sound types em s))))
     go false em em′ edges types′ = other types′
 
 -- the types that the code's stage has read

@@ -14,7 +14,7 @@ use Rattle.circuit.specs.Limits.{mostBytes}
 use Rattle.circuit.specs.Fields.{Field, Cut, clean, broken, field, cutFrom, twoBytes}
 use Rattle.circuit.specs.Circuit.{Circuit, Instance, Listed}
 use Rattle.circuit.specs.Order.{Tag, inputs-tag, type-tag, edge-tag, bridge-tag, instance-tag, vector-tag, no-tag, tagOf, isKind, isEdge, isUnknown, rank, Previous, start-of-file, after-tag, reached, mayFollow}
-use Rattle.circuit.specs.Known.{Known, start, typeIn, edgeIn, latest, withEdge, edgeAdded, taken, typeAtAfter, knownAfter}
+use Rattle.circuit.specs.Known.{Known, start, typeIn, edgesIn, latest, withEdges, edgesAdded, taken, typeAtAfter, knownAfter}
 use Rattle.circuit.specs.Table.{Test, Verdict, passes, refusedAt, firstOf, misplaced, unjudged, notComplementary, isEmpty, inputsTests, typeTests, edgeTests, bodyTests, fieldTests}
 use Rattle.circuit.specs.Reading.{Reading, accepted, refusal, unless}
 use Rattle.circuit.specs.Records.{emptyCircuit}
@@ -237,7 +237,7 @@ module _ (P : ℕ) (next : List ModuleType → Cut → Circuit)
   types-gather : (types : List ModuleType) (previous : Previous) (from cut : Cut) → Before types previous
       → ((ts : List ModuleType) → next ts from ≡ withTypes P ts)
       → beforeFrom (knowing previous (fieldPlace from) (withTypes P types)) cut ≡ goesOn next (typeStage types from cut)
-  unfolding typeStage edgeAdded fieldPlace
+  unfolding typeStage edgesAdded fieldPlace
   types-gather types previous from clean b holds =
       judge types previous from clean (stopped types clean) _ b (holds (typesBefore types))
       (λ em fl. at-end types previous (fieldPlace from) (b .some em) fl)
@@ -266,7 +266,7 @@ module _ (P : ℕ) (next : List ModuleType → Cut → Circuit)
           let some = not-true (isEmpty types) (parts .1) in
           at-edge types previous from f rest (more-edges types f from rest) (kind-is edge-tag (tagOf (f .tag)) (parts .0)) (b .some some) (holds (typesBefore types))
           (later-edge (after-type (with-edge types f) (after-tag edge-tag)
-          (set-some types (length types - 1) (withEdge (latest types) (edgeIn (latest types .output) (f .body))) some) refl))
+          (set-some types (length types - 1) (withEdges (latest types) (edgesIn (latest types .output) (f .body))) some) refl))
       go false e later-edge later-type =
           judge types previous from (field f rest) (by-other types f from rest) _ b (holds (typesBefore types))
           (λ em fl. at-failing types previous from f rest (by-type types f from rest) (sym (and-true (isEdge (tagOf (f .tag)))) ∙ (rw em at e)) (b .some em) fl)

@@ -13,7 +13,7 @@ use Rattle.switch.specs.Modules.{ModuleType}
 use Rattle.circuit.specs.Fields.{Field, Cut, clean, broken, field, cutFrom, twoBytes}
 use Rattle.circuit.specs.Circuit.{Circuit, Instance, Listed}
 use Rattle.circuit.specs.Order.{Tag, inputs-tag, type-tag, edge-tag, bridge-tag, instance-tag, vector-tag, no-tag, tagOf, isKind, isEdge, isUnknown, rank, Previous, start-of-file, after-tag, reached, mayFollow}
-use Rattle.circuit.specs.Known.{Known, start, typeIn, edgeIn, listedIn, instanceIn, vectorIn, latest, withEdge, edgeAdded, taken, typeAtAfter, knownAfter}
+use Rattle.circuit.specs.Known.{Known, start, typeIn, edgesIn, listedIn, instanceIn, vectorIn, latest, withEdges, edgesAdded, taken, typeAtAfter, knownAfter}
 use Rattle.circuit.specs.Table.{Test, Verdict, passes, refusedAt, firstOf, misplaced, unjudged, notComplementary, isEmpty, inputsTests, typeTests, edgeTests, bridgeTests, instanceTests, vectorTests, bodyTests, fieldTests, endTests}
 use Rattle.circuit.specs.Reading.{Reading, accepted, unless, readFrom, readingWith}
 use Rattle.circuit.specs.Records.{emptyCircuit}
@@ -240,7 +240,7 @@ ready types previous cut b j behind = let h = b .high in record { low = b .low; 
 -- what a field makes of the types, as the next edge of the latest or as the next type, and the stage from there
 module _ (types : List ModuleType) (f : Field) where
   abbrev pub with-edge : List ModuleType
-  with-edge = edgeAdded types (edgeIn (latest types .output) (f .body))
+  with-edge = edgesAdded types (edgesIn (latest types .output) (f .body))
 
   abbrev pub with-type : List ModuleType
   with-type = types ++ (typeIn (f .body) ∷ [])
@@ -313,7 +313,7 @@ withTypes P types = record { inputs = P; types = types; bridges = []; instances 
 module _ (wanted : Bool) (size P : ℕ) (types : List ModuleType) (previous : Previous) (typeAt : ℕ) where
   read-edge : (f : Field) (rest : Cut) → tagOf (f .tag) ≡ edge-tag → unjudged previous ≡ true
       → readFrom wanted size (knowing previous typeAt (withTypes P types)) (field f rest)
-      ≡ unless (firstOf (edgeTests (latest types) (f .at) (f .body))) (readFrom wanted size (knowing (after-tag edge-tag) typeAt (withTypes P (edgeAdded types (edgeIn (latest types .output) (f .body))))) rest)
+      ≡ unless (firstOf (edgeTests (latest types) (f .at) (f .body))) (readFrom wanted size (knowing (after-tag edge-tag) typeAt (withTypes P (edgesAdded types (edgesIn (latest types .output) (f .body))))) rest)
   unfolding isKind mayFollow unjudged bodyTests taken
   read-edge f rest own u =
       read-own wanted size (knowing previous typeAt (withTypes P types)) f rest edge-tag own refl u (rw u)
@@ -372,7 +372,7 @@ module _ (wanted : Bool) (size P : ℕ) where
 
     types-read : (types : List ModuleType) (previous : Previous) (from cut : Cut) → Before types previous
         → readFrom wanted size (knowing previous (fieldPlace from) (withTypes P types)) cut ≡ afterStage (typeStage types from cut) next
-    unfolding typeStage afterStage edgeAdded unless fieldPlace
+    unfolding typeStage afterStage edgesAdded unless fieldPlace
     types-read types previous from clean b =
         judge types previous from clean (stopped types clean) b
         (λ em fl. failing-at-end wanted size P types previous (fieldPlace from) (typesBefore types) from (stopped types clean) next (b .some em) fl)
@@ -399,7 +399,7 @@ module _ (wanted : Bool) (size P : ℕ) where
             read-edge wanted size P types previous (fieldPlace from) f rest (kind-is edge-tag (tagOf (f .tag)) (parts .0)) (b .some some)
             ∙ unless-stage (firstOf (edgeTests (latest types) (f .at) (f .body))) _ (typesBefore types) from (more-edges types f from rest) next
             (more-edge (after-type (with-edge types f) (after-tag edge-tag)
-            (set-some types (length types - 1) (withEdge (latest types) (edgeIn (latest types .output) (f .body))) some) refl))
+            (set-some types (length types - 1) (withEdges (latest types) (edgesIn (latest types .output) (f .body))) some) refl))
         go false e more-edge more-type = judge types previous from (field f rest) (by-other types f from rest) b failing fine
           where
             failing : isEmpty types ≡ false → notComplementary types ≡ true → readFrom wanted size (knowing previous (fieldPlace from) (withTypes P types)) (field f rest)

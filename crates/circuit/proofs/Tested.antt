@@ -9,21 +9,21 @@ use native.Mathlib.Decide.{decLt}
 use native.Mathlib.Omega.{arith}
 use borrow.Author.Tests.{ltb-true, ltb-false, leb-false}
 use lib.Dec.{T, eqb, leb, ltb, leb→le, le→leb, eqb→eq, eqb·suc-zero}
-use lib.ListN.{length, getD, length-append, length-map, List·getD-append}
+use lib.ListN.{length, getD, drop, length-append, length-map, List·getD-append}
 use lib.Seq.{getD-append-seam}
-use Rattle.switch.specs.Conduction.{between}
-use Rattle.switch.specs.Modules.{ModuleType, mostEdges, allOf, typeInRange, edgeInRange, inRange}
+use Rattle.switch.specs.Conduction.{channelOf, badEnds, between}
+use Rattle.switch.specs.Modules.{ModuleType, allOf, typeInRange, inRange}
 use Rattle.switch.proofs.Paths.{both}
 use Rattle.switch.proofs.Deciding.{and-both}
 use Rattle.circuit.specs.Limits.{mostTypes, mostBridges, mostInstances, mostVectors, mostFaults}
 use Rattle.circuit.specs.Fields.{twoBytes}
 use Rattle.circuit.specs.Circuit.{Circuit, Instance, Listed, typeOfInstance, chosenSize, faultCount}
 use Rattle.circuit.specs.Numbers.{plus, minus, signed, choiceOf, choiceInRange, referenceGood}
-use Rattle.circuit.specs.Known.{typeIn, edgeIn, listedIn, instanceIn, letterOf, vectorIn, withEdge}
+use Rattle.circuit.specs.Known.{typeIn, edgesIn, listedIn, instanceIn, letterOf, vectorIn, withEdges}
 use Rattle.circuit.specs.Table.{Test, Verdict, passes, refusedAt, firstOf, isEmpty, listedGood, bridgeInRange, inputsTests, typeTests, edgeTests, edgeTestsOf, bridgeTests, instanceTests, instanceTestsOf, vectorTests}
 use Rattle.circuit.specs.Laws.{Each, endsGood, TypeSound, choiceGood, InstanceGood, RefusalGood}
 use Rattle.switch.proofs.Channels.{in-between}
-use Rattle.circuit.proofs.TypeLaws.{accepts, all-snoc}
+use Rattle.circuit.proofs.TypeLaws.{accepts, all-append, all-for, EdgesPass, edges-pass, field-ranges, length-edges-in, with-edges-ranges}
 use Rattle.circuit.proofs.Verdicts.{first-passes}
 
 -- ---- tests and lists
@@ -126,22 +126,26 @@ type-pass count at body e =
     let ranges = typeInRange (getD body 0 0) (getD body 1 0) (getD body 2 0) in
     (leb-false mostTypes count (six .0), record { ranges = and-both ranges true (accepts ranges (seven .0)) tt; few = omega arith; ends = tt })
 
-pub edge-pass : (t : ModuleType) (at : ℕ) (body : List ℕ) → firstOf (edgeTests t at body) ≡ passes → TypeSound t → TypeSound (withEdge t (edgeIn (t .output) body))
-unfolding edgeTests edgeTestsOf withEdge inRange endsGood edgeIn
-edge-pass t at body e sound =
-    let five = first-passes _ _ e in
-    let six = first-passes _ _ (five .1) in
-    let seven = first-passes _ _ (six .1) in
-    let eight = first-passes _ _ (seven .1) in
-    let new = edgeInRange (t .highest) (t .labels) in
-    let parts = both (typeInRange (t .highest) (t .output) (t .labels)) (allOf new (t .edges)) (sound .ranges) in
-    let few = leb-false mostEdges (length (t .edges)) (six .0) in
+all-true : (ls : List ℕ) → T (allOf (λ (l : ℕ). true) ls)
+unfolding allOf
+all-true [] = tt
+all-true (l ∷ ls) = all-true ls
+
+pub edges-sound : (t : ModuleType) (at : ℕ) (body : List ℕ) → firstOf (edgeTests t at body) ≡ passes → TypeSound t
+    → TypeSound (withEdges t (edgesIn (t .output) body))
+unfolding withEdges endsGood edgesIn
+edges-sound t at body e sound =
+    let p : EdgesPass t body = edges-pass t at body e in
+    let es = edgesIn (t .output) body in
+    let a = getD body 0 0 in
+    let b = getD body 1 0 in
+    let good = holds (not (badEnds (t .highest) (t .output) a b)) (ap not (p .ends)) in
     record {
-      ranges = and-both (typeInRange (t .highest) (t .output) (t .labels)) (allOf new (t .edges ++ (edgeIn (t .output) body ∷ []))) (parts .0)
-          (all-snoc new (t .edges) (edgeIn (t .output) body) (parts .1) (accepts (new (edgeIn (t .output) body)) (seven .0)));
-      few = omega (arith, length-snoc (t .edges) (edgeIn (t .output) body));
-      ends = all-snoc (endsGood (t .highest) (t .output)) (t .edges) (edgeIn (t .output) body) (sound .ends)
-          (holds (endsGood (t .highest) (t .output) (edgeIn (t .output) body)) (ap not (eight .0)));
+      ranges = with-edges-ranges t es (sound .ranges) (field-ranges (t .highest) (t .output) (t .labels) body (p .ranges));
+      few = omega (arith, length-append (t .edges) es, length-edges-in (t .output) body, p .few);
+      ends =
+          all-append (endsGood (t .highest) (t .output)) (t .edges) es (sound .ends)
+          (all-for (endsGood (t .highest) (t .output)) a b (channelOf (t .output) a b) (λ (l : ℕ). true) (λ l q. good) (drop 2 body) (all-true (drop 2 body)));
     }
 
 pub bridge-pass : (count at : ℕ) (body : List ℕ) → firstOf (bridgeTests count at body) ≡ passes

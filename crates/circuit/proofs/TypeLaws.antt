@@ -1,27 +1,27 @@
--- The laws of types and their edges: a type that is in range is told by its record, and an edge that passes its tests is in range.
-use Prim.Native.Nat.{ℕ, _+_, _-_, _<_, _≤_}
+-- The laws of types and their edges: a type that is in range is told by its record, and the edges of a field that passes its tests are in range.
+use Prim.Native.Nat.{ℕ, suc, _+_, _-_, _<_, _≤_}
 use mathlib.Core.Logic.{_⊎_, inl, inr}
 use mathlib.Core.Path.{_≡_, refl, sym, ap, subst, _∙_}
 use mathlib.Core.Bool.{Bool, true, false, not, _&&_}
 use mathlib.Core.List.{List, [], _∷_, _++_, map, map-append}
 use native.Mathlib.Numerals.{add-one}
 use native.Mathlib.Omega.{arith}
-use borrow.Author.Tests.{leb-false, not-false}
-use lib.Dec.{T, leb, ltb, le→leb}
-use lib.ListN.{length, getD, set, take, drop, length-append, length-take, length-map}
+use borrow.Author.Tests.{ltb-false, not-false}
+use lib.Dec.{T, leb, ltb}
+use lib.ListN.{length, getD, take, drop, length-append, length-take, length-drop, length-map}
 use lib.Seq.{drop-cons, ext-getD, getD-take}
 use Rattle.words.proofs.Tables.{length-table}
-use Rattle.switch.specs.Conduction.{Edge, Channel, p-channel, n-channel, between}
+use Rattle.switch.specs.Conduction.{Edge, edgesFor, Channel, channelOf, badEnds, between}
 use Rattle.switch.specs.Modules.{ModuleType, mostEdges, allOf, typeInRange, edgeInRange, inRange}
-use Rattle.switch.specs.Records.{unusedEdge, channelBy, isP, edgeOf, edgesOf, typeOf, TypeGiven}
-use Rattle.switch.specs.declared.Edge.{Edge as EdgeRecord}
+use Rattle.switch.specs.Records.{noEdge, edgeRecord, edgesOf, typeOf, TypeGiven}
 use Rattle.switch.proofs.Paths.{both}
 use Rattle.switch.proofs.Deciding.{and-both}
-use Rattle.circuit.specs.Known.{edgeIn, withEdge}
-use Rattle.circuit.specs.Table.{passes, firstOf, edgeTests, edgeTestsOf}
-use Rattle.circuit.specs.Records.{padded, edgeRecord, typeRecord}
-use Rattle.circuit.proofs.Padding.{getD-padded, padded-snoc}
 use Rattle.switch.proofs.Channels.{in-between}
+use Rattle.switch.proofs.Ranges.{type-ranges, edge-ranges, its-record}
+use Rattle.circuit.specs.Known.{edgesIn, withEdges}
+use Rattle.circuit.specs.Table.{passes, firstOf, edgesInRange, edgeTests, edgeTestsOf}
+use Rattle.circuit.specs.Records.{padded, typeRecord}
+use Rattle.circuit.proofs.Padding.{getD-padded}
 use Rattle.circuit.proofs.Verdicts.{first-passes}
 
 -- ---- tests of both and of all
@@ -41,12 +41,16 @@ pub all-from : {A : Type 0} (test : A → Bool) (as′ : List A) (i : ℕ) (d : 
 unfolding allOf
 all-from test as′ i d h = rw (add-one i, drop-cons as′ i d h)
 
+pub all-append : {A : Type 0} (test : A → Bool) (as′ bs : List A) → T (allOf test as′) → T (allOf test bs) → T (allOf test (as′ ++ bs))
+unfolding allOf
+all-append test [] bs p q = q
+all-append test (a ∷ as′) bs p q =
+    let parts = both (test a) (allOf test as′) p in
+    and-both (test a) (allOf test (as′ ++ bs)) (parts .0) (all-append test as′ bs (parts .1) q)
+
 pub all-snoc : {A : Type 0} (test : A → Bool) (as′ : List A) (a : A) → T (allOf test as′) → T (test a) → T (allOf test (as′ ++ (a ∷ [])))
 unfolding allOf
-all-snoc test [] a p q = and-both (test a) true q tt
-all-snoc test (b ∷ bs) a p q =
-    let parts = both (test b) (allOf test bs) p in
-    and-both (test b) (allOf test (bs ++ (a ∷ []))) (parts .0) (all-snoc test bs a (parts .1) q)
+all-snoc test as′ a p q = all-append test as′ (a ∷ []) p (and-both (test a) true q tt)
 
 -- ---- a type and its record
 
@@ -62,106 +66,108 @@ module _ {A : Type 0} (none : A) (n : ℕ) (as′ : List A) (h : length as′ �
       at : (i : ℕ) → i < length as′ → getD (take (length as′) (padded n none as′)) i none ≡ getD as′ i none
       at i q = getD-take (length as′) (padded n none as′) i none q ∙ getD-padded none n as′ none i (omega arith)
 
--- how many labels an edge in range has
-few-labels : (h k : ℕ) (e : Edge) → T (edgeInRange h k e) → length (e .labels) ≤ 4
-unfolding edgeInRange
-few-labels h k e t =
-    let ends : Bool = leb (e .first) h && leb (e .second) h in
-    let size : Bool = between 1 4 (length (e .labels)) in
-    let parts = both (ends && size) (allOf (λ (l : ℕ). ltb l k) (e .labels)) t in
-    in-between 1 4 (length (e .labels)) (both ends size (parts .0) .1) .1
-
-channel-back : (c : Channel) → channelBy (isP c) ≡ c
-channel-back p-channel = refl
-channel-back n-channel = refl
-
-edge-back : (e : Edge) → length (e .labels) ≤ 4 → edgeOf (edgeRecord e) ≡ e
-unfolding edgeOf edgeRecord
-edge-back e h = rw (take-padded 0 4 (e .labels) h, channel-back (e .channel))
-
-module _ (h k : ℕ) where
+module _ (h k : ℕ) (nodes : h < 32) (few : k ≤ 12) where
   edges-back : (es : List Edge) → T (allOf (edgeInRange h k) es) → edgesOf (map edgeRecord es) ≡ es
   unfolding edgesOf allOf
   edges-back [] t = refl
   edges-back (e ∷ es) t =
       let parts = both (edgeInRange h k e) (allOf (edgeInRange h k) es) t in
-      rw (edge-back e (few-labels h k e (parts .0))) (ap (λ (l : List Edge). e ∷ l) (edges-back es (parts .1)))
-
-  labels-fit : (es : List Edge) → T (allOf (edgeInRange h k) es) → T (allOf (λ (e : EdgeRecord). leb (e .count) 4) (map edgeRecord es))
-  unfolding allOf edgeRecord
-  labels-fit [] t = tt
-  labels-fit (e ∷ es) t =
-      let parts = both (edgeInRange h k e) (allOf (edgeInRange h k) es) t in
-      and-both (leb (length (e .labels)) 4) (allOf (λ (r : EdgeRecord). leb (r .count) 4) (map edgeRecord es))
-      (le→leb (length (e .labels)) 4 (few-labels h k e (parts .0))) (labels-fit es (parts .1))
+      let its = edge-ranges h k few e (parts .0) in
+      rw (its-record e (omega (arith, its .first)) (omega (arith, its .second)) (omega (arith, its .label)))
+      (ap (λ (l : List Edge). e ∷ l) (edges-back es (parts .1)))
 
 module _ (t : ModuleType) (ranges : T (inRange t)) (within : length (t .edges) ≤ mostEdges) where
   pub edges-ranges : T (typeInRange (t .highest) (t .output) (t .labels)) × T (allOf (edgeInRange (t .highest) (t .labels)) (t .edges))
   unfolding inRange
   edges-ranges = both (typeInRange (t .highest) (t .output) (t .labels)) (allOf (edgeInRange (t .highest) (t .labels)) (t .edges)) ranges
 
-  used-edges : take (length (t .edges)) (padded mostEdges unusedEdge (map edgeRecord (t .edges))) ≡ map edgeRecord (t .edges)
+  used-edges : take (length (t .edges)) (padded mostEdges noEdge (map edgeRecord (t .edges))) ≡ map edgeRecord (t .edges)
   used-edges =
       let same = length-map (t .edges) edgeRecord in
-      rw same at (take-padded unusedEdge mostEdges (map edgeRecord (t .edges)) (omega arith))
+      rw same at (take-padded noEdge mostEdges (map edgeRecord (t .edges)) (omega arith))
 
   -- a type in range is told by its record
   pub type-back : typeOf (typeRecord t) ≡ t
   unfolding typeOf typeRecord
   type-back =
+      let its = type-ranges (t .highest) (t .output) (t .labels) (edges-ranges .0) in
       ap (λ (es : List Edge). record { highest = t .highest; output = t .output; labels = t .labels; edges = es })
-      (ap edgesOf used-edges ∙ edges-back (t .highest) (t .labels) (t .edges) (edges-ranges .1))
+      (ap edgesOf used-edges ∙ edges-back (t .highest) (t .labels) (its .highest) (its .labels-high) (t .edges) (edges-ranges .1))
 
   pub type-given : TypeGiven (typeRecord t)
   unfolding typeRecord
-  type-given = record {
-    places = within;
-    label-places = rw used-edges (labels-fit (t .highest) (t .labels) (t .edges) (edges-ranges .1));
-    ranges = rw type-back ranges;
-  }
+  type-given = record { places = within; ranges = rw type-back ranges }
 
--- ---- an edge more
+-- ---- the edges of a field more
 
 -- what the tests of an edge field leave when none refuses
-pub record EdgePasses (t : ModuleType) (body : List ℕ) : Type 0 where
+pub record EdgesPass (t : ModuleType) (body : List ℕ) : Type 0 where
   pub long : 3 ≤ length body
   pub short : length body ≤ 6
-  pub few : length (t .edges) < mostEdges
-  pub ranges : T (edgeInRange (t .highest) (t .labels) (edgeIn (t .output) body))
+  pub few : length (t .edges) + (length body - 2) ≤ mostEdges
+  pub ranges : T (edgesInRange (t .highest) (t .labels) body)
+  pub ends : badEnds (t .highest) (t .output) (getD body 0 0) (getD body 1 0) ≡ false
 
-pub edge-passes : (t : ModuleType) (at : ℕ) (body : List ℕ) → firstOf (edgeTests t at body) ≡ passes → EdgePasses t body
+pub edges-pass : (t : ModuleType) (at : ℕ) (body : List ℕ) → firstOf (edgeTests t at body) ≡ passes → EdgesPass t body
 unfolding edgeTests edgeTestsOf
-edge-passes t at body e =
+edges-pass t at body e =
     let a = first-passes _ _ e in
     let b = first-passes _ _ (a .1) in
     let c = first-passes _ _ (b .1) in
+    let d = first-passes _ _ (c .1) in
     let size = in-between 3 6 (length body) (accepts (between 3 6 (length body)) (a .0)) in
     record {
       long = size .0;
       short = size .1;
-      few = leb-false mostEdges (length (t .edges)) (b .0);
-      ranges = accepts (edgeInRange (t .highest) (t .labels) (edgeIn (t .output) body)) (c .0);
+      few = ltb-false mostEdges (length (t .edges) + (length body - 2)) (b .0);
+      ranges = accepts (edgesInRange (t .highest) (t .labels) body) (c .0);
+      ends = d .0;
     }
 
-module _ (t : ModuleType) (e : Edge) where
-  pub with-edge-ranges : T (inRange t) → T (edgeInRange (t .highest) (t .labels) e) → T (inRange (withEdge t e))
-  unfolding inRange withEdge
-  with-edge-ranges p q =
+pub length-for : (a b : ℕ) (c : Channel) (ls : List ℕ) → length (edgesFor a b c ls) ≡ length ls
+unfolding edgesFor
+length-for a b c [] = refl
+length-for a b c (l ∷ ls) = ap suc (length-for a b c ls)
+
+pub length-edges-in : (o : ℕ) (body : List ℕ) → length (edgesIn o body) ≡ length body - 2
+unfolding edgesIn
+length-edges-in o body = length-for (getD body 0 0) (getD body 1 0) (channelOf o (getD body 0 0) (getD body 1 0)) (drop 2 body) ∙ length-drop 2 body
+
+-- what holds of an edge with each of the labels holds of all of them
+pub all-for : (test : Edge → Bool) (a b : ℕ) (c : Channel) (label : ℕ → Bool)
+    → ((l : ℕ) → T (label l) → T (test (record { first = a; second = b; channel = c; label = l })))
+    → (ls : List ℕ) → T (allOf label ls) → T (allOf test (edgesFor a b c ls))
+unfolding allOf edgesFor
+all-for test a b c label each [] t = tt
+all-for test a b c label each (l ∷ ls) t =
+    let parts = both (label l) (allOf label ls) t in
+    and-both (test (record { first = a; second = b; channel = c; label = l })) (allOf test (edgesFor a b c ls)) (each l (parts .0))
+    (all-for test a b c label each ls (parts .1))
+
+-- the edges of a field in range are in range
+pub field-ranges : (h o k : ℕ) (body : List ℕ) → T (edgesInRange h k body) → T (allOf (edgeInRange h k) (edgesIn o body))
+unfolding edgesInRange edgeInRange edgesIn
+field-ranges h o k body t =
+    let a = getD body 0 0 in
+    let b = getD body 1 0 in
+    let parts = both (leb a h && leb b h) (allOf (λ (l : ℕ). ltb l k) (drop 2 body)) t in
+    all-for (edgeInRange h k) a b (channelOf o a b) (λ (l : ℕ). ltb l k) (λ l q. and-both (leb a h && leb b h) (ltb l k) (parts .0) q) (drop 2 body) (parts .1)
+
+module _ (t : ModuleType) (es : List Edge) where
+  pub with-edges-ranges : T (inRange t) → T (allOf (edgeInRange (t .highest) (t .labels)) es) → T (inRange (withEdges t es))
+  unfolding inRange withEdges
+  with-edges-ranges p q =
       let parts = both (typeInRange (t .highest) (t .output) (t .labels)) (allOf (edgeInRange (t .highest) (t .labels)) (t .edges)) p in
       and-both (typeInRange (t .highest) (t .output) (t .labels)) _ (parts .0)
-      (all-snoc (edgeInRange (t .highest) (t .labels)) (t .edges) e (parts .1) q)
+      (all-append (edgeInRange (t .highest) (t .labels)) (t .edges) es (parts .1) q)
 
-  -- the record of a type with one edge more
-  pub with-edge-record : length (t .edges) < mostEdges
-      → typeRecord (withEdge t e) ≡ record {
-        highest = t .highest;
-        output = t .output;
-        labels = t .labels;
-        count = length (t .edges) + 1;
-        edges = set (padded mostEdges unusedEdge (map edgeRecord (t .edges))) (length (t .edges)) (edgeRecord e);
-      }
-  unfolding typeRecord withEdge
-  with-edge-record few =
-      let same = length-map (t .edges) edgeRecord in
-      let more = padded-snoc unusedEdge mostEdges (map edgeRecord (t .edges)) (edgeRecord e) (omega arith) in
-      rw (length-append (t .edges) (e ∷ []), map-append edgeRecord (t .edges) (e ∷ []), ← more, same)
+  -- the record of a type with these edges more
+  pub with-edges-record : typeRecord (withEdges t es) ≡ record {
+    highest = t .highest;
+    output = t .output;
+    labels = t .labels;
+    count = length (t .edges) + length es;
+    edges = padded mostEdges noEdge (map edgeRecord (t .edges) ++ map edgeRecord es);
+  }
+  unfolding typeRecord withEdges
+  with-edges-record = rw (length-append (t .edges) es, map-append edgeRecord (t .edges) es)

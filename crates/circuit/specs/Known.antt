@@ -5,7 +5,7 @@ use mathlib.Core.List.{List, [], _∷_, _++_, map}
 use lib.Dec.{eqb}
 use lib.ListN.{length, getD, drop, set}
 use Rattle.words.specs.Tables.{table}
-use Rattle.switch.specs.Conduction.{Value, at0, at1, atX, Edge, channelOf}
+use Rattle.switch.specs.Conduction.{Value, at0, at1, atX, Edge, edgesFor, channelOf}
 use Rattle.switch.specs.Modules.{ModuleType}
 use Rattle.switch.specs.Bridges.{Bridge, nodes, input}
 use Rattle.circuit.specs.Fields.{Field, twoBytes}
@@ -32,14 +32,11 @@ start = record {
 unfoldable pub typeIn : List ℕ → ModuleType
 typeIn body = record { highest = getD body 0 0; output = getD body 1 0; labels = getD body 2 0; edges = [] }
 
--- in a type with the output node o: an edge's channel is that of its position
-unfoldable pub edgeIn : ℕ → List ℕ → Edge
-edgeIn o body = record {
-  first = getD body 0 0;
-  second = getD body 1 0;
-  channel = channelOf o (getD body 0 0) (getD body 1 0);
-  labels = drop 2 body;
-}
+-- in a type with the output node o: one edge for each label, in order (02, "No more grouped transistors"), all between the same two nodes,
+-- with the channel of their position
+unfoldable pub edgesIn : ℕ → List ℕ → List Edge
+edgesIn o body =
+    let a = getD body 0 0 in let b = getD body 1 0 in edgesFor a b (channelOf o a b) (drop 2 body)
 
 -- kind 0 joins two nodes, kind 1 a node and a label
 unfoldable pub bridgeOf : ℕ → ℕ → ℕ → Bridge
@@ -69,11 +66,11 @@ vectorIn body = map letterOf body
 unfoldable pub latest : List ModuleType → ModuleType
 latest types = getD types (length types - 1) noType
 
-unfoldable pub withEdge : ModuleType → Edge → ModuleType
-withEdge t e = record { highest = t .highest; output = t .output; labels = t .labels; edges = t .edges ++ (e ∷ []) }
+unfoldable pub withEdges : ModuleType → List Edge → ModuleType
+withEdges t es = record { highest = t .highest; output = t .output; labels = t .labels; edges = t .edges ++ es }
 
-unfoldable pub edgeAdded : List ModuleType → Edge → List ModuleType
-edgeAdded types e = set types (length types - 1) (withEdge (latest types) e)
+unfoldable pub edgesAdded : List ModuleType → List Edge → List ModuleType
+edgesAdded types es = set types (length types - 1) (withEdges (latest types) es)
 
 unfoldable pub taken : Tag → Circuit → List ℕ → Circuit
 taken inputs-tag c body =
@@ -89,7 +86,7 @@ taken type-tag c body =
 taken edge-tag c body =
     record {
       inputs = c .inputs;
-      types = edgeAdded (c .types) (edgeIn (latest (c .types) .output) body);
+      types = edgesAdded (c .types) (edgesIn (latest (c .types) .output) body);
       bridges = c .bridges;
       instances = c .instances;
       vectors = c .vectors;

@@ -5,12 +5,11 @@ use mathlib.Core.List.{List, [], map}
 use lib.ListN.{length, getD, replicate}
 use Rattle.words.specs.Bits.{pack}
 use Rattle.words.specs.Tables.{table}
-use Rattle.switch.specs.Conduction.{Value, atX, Edge}
+use Rattle.switch.specs.Conduction.{Value, atX}
 use Rattle.switch.specs.Modules.{ModuleType, mostEdges}
 use Rattle.switch.specs.Bridges.{Bridge, nodes, input}
-use Rattle.switch.specs.Records.{isP, unusedEdge}
+use Rattle.switch.specs.Records.{noEdge, edgeRecord}
 use Rattle.switch.specs.Promises.{isAt0, isAt1}
-use Rattle.switch.specs.declared.Edge.{Edge as EdgeRecord}
 use Rattle.switch.specs.declared.ModuleType.{ModuleType as TypeRecord}
 use Rattle.circuit.specs.Limits.{mostTypes, mostBridges, mostInstances, mostVectors}
 use Rattle.circuit.specs.Circuit.{Circuit, Instance, Listed, Reference, primary, outputOf, Choice, exhaustive, no-faults, list}
@@ -25,17 +24,8 @@ use Rattle.circuit.specs.declared.Circuit.{Circuit as CircuitRecord}
 unfoldable pub padded : {A : Type 0} → ℕ → A → List A → List A
 padded n none as′ = table n (λ (i : ℕ). getD as′ i none)
 
-unfoldable pub edgeRecord : Edge → EdgeRecord
-edgeRecord e = record {
-  first = e .first;
-  second = e .second;
-  «p_channel» = isP (e .channel);
-  count = length (e .labels);
-  labels = padded 4 0 (e .labels);
-}
-
 abbrev pub unusedType : TypeRecord
-unusedType = record { highest = 0; output = 0; labels = 0; count = 0; edges = replicate mostEdges unusedEdge }
+unusedType = record { highest = 0; output = 0; labels = 0; count = 0; edges = replicate mostEdges noEdge }
 
 unfoldable pub typeRecord : ModuleType → TypeRecord
 typeRecord t = record {
@@ -43,7 +33,7 @@ typeRecord t = record {
   output = t .output;
   labels = t .labels;
   count = length (t .edges);
-  edges = padded mostEdges unusedEdge (map edgeRecord (t .edges));
+  edges = padded mostEdges noEdge (map edgeRecord (t .edges));
 }
 
 abbrev pub unusedBridge : BridgeRecord

@@ -12,7 +12,7 @@ use Rattle.circuit.specs.Fields.{Cut, clean, broken, field, cutFrom, two
 use Rattle.circuit.specs.Circuit.{Circuit, Instance, Listed}
 use Rattle.circuit.specs.Order.{Tag, inputs-tag, type-tag, edge-tag, bridge-tag, instance-tag, vector-tag, tagOf, isKind, isEdge}
 use Rattle.circuit.specs.Order.{isUnknown, after-tag}
-use Rattle.circuit.specs.Known.{typeIn, edgeIn, listedIn, instanceIn, vectorIn, latest, withEdge, edgeAdded}
+use Rattle.circuit.specs.Known.{typeIn, edgesIn, listedIn, instanceIn, vectorIn, latest, withEdges, edgesAdded}
 use Rattle.circuit.specs.Table.{Test, Verdict, passes, refusedAt, firstOf, misplaced, notComplementary, isEmpty, inputsTests}
 use Rattle.circuit.specs.Table.{typeTests, edgeTests, bridgeTests, instanceTests, vectorTests}
 use Rattle.circuit.specs.Reading.{Reading, accepted, refusal, unless}
@@ -50,7 +50,7 @@ section kind tests add sofar (field f rest) =
     cond (isKind kind (tagOf (f .tag))) tested (stopped sofar (field f rest))
 
 abbrev pub edgeStage : ModuleType → Cut → Stage ModuleType
-edgeStage = section edge-tag edgeTests (λ (t : ModuleType) (body : List ℕ). withEdge t (edgeIn (t .output) body))
+edgeStage = section edge-tag edgeTests (λ (t : ModuleType) (body : List ℕ). withEdges t (edgesIn (t .output) body))
 
 abbrev pub bridgeStage : List Listed → Cut → Stage (List Listed)
 bridgeStage =
@@ -99,7 +99,7 @@ typeStage types from clean = ifPasses (judged types (fieldPlace from) clean) (ty
 typeStage types from (broken at) =
     ifPasses (judged types (fieldPlace from) (broken at)) (typesBefore types) from (stopped types (broken at))
 typeStage types from (field f rest) =
-    let moreEdges = typeStage (edgeAdded types (edgeIn (latest types .output) (f .body))) from rest in
+    let moreEdges = typeStage (edgesAdded types (edgesIn (latest types .output) (f .body))) from rest in
     let moreTypes = typeStage (types ++ (typeIn (f .body) ∷ [])) (field f rest) rest in
     let edge = ifPasses (firstOf (edgeTests (latest types) (f .at) (f .body))) (typesBefore types) from moreEdges in
     let type = ifPasses (firstOf (typeTests (length types) (f .at) (f .body))) types (field f rest) moreTypes in

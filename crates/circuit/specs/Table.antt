@@ -1,12 +1,12 @@
 -- 01, "Refusal numbers": the table. For each field a list of numbered tests in the order in which they are looked at, and one list for the
 -- end of the file. In one field by number, except that 9 comes right after 4. A place is the offset of the field's tag byte.
-use Prim.Native.Nat.{ℕ, _+_, _%_}
+use Prim.Native.Nat.{ℕ, _+_, _-_, _%_}
 use mathlib.Core.Bool.{Bool, true, false, cond, not, _&&_, _||_}
 use mathlib.Core.List.{List, [], _∷_}
 use lib.Dec.{eqb, leb, ltb}
-use lib.ListN.{length, getD}
+use lib.ListN.{length, getD, drop}
 use Rattle.switch.specs.Conduction.{between, badEnds}
-use Rattle.switch.specs.Modules.{ModuleType, mostEdges, allOf, typeInRange, edgeInRange}
+use Rattle.switch.specs.Modules.{ModuleType, mostEdges, allOf, typeInRange}
 use Rattle.switch.specs.Bridges.{Bridge, nodes, input}
 use Rattle.switch.specs.Deciding.{isComplementary}
 use Rattle.circuit.specs.Limits.{mostTypes, mostBridges, mostInstances, mostVectors, mostFaults}
@@ -16,7 +16,7 @@ use Rattle.circuit.specs.Circuit.{faultCount}
 use Rattle.circuit.specs.Numbers.{signed, choiceInRange, referenceGood}
 use Rattle.circuit.specs.Order.{Tag, inputs-tag, type-tag, edge-tag, bridge-tag, instance-tag, vector-tag, no-tag, tagOf, isEdge}
 use Rattle.circuit.specs.Order.{isUnknown, Previous, atStart, inType, mayFollow}
-use Rattle.circuit.specs.Known.{Known, edgeIn, bridgeOf, instanceIn, latest}
+use Rattle.circuit.specs.Known.{Known, bridgeOf, instanceIn, latest}
 
 -- a test of the table: its number, whether it refuses, and the place that it gives
 pub record Test : Type 0 where
@@ -104,12 +104,16 @@ typeTests count at body =
     ∷ test 7 (not (typeInRange (getD body 0 0) (getD body 1 0) (getD body 2 0))) at
     ∷ []
 
--- in a type with h, o, k and `count` edges so far
+-- two nodes 0 to h, then labels 0 to k - 1
+unfoldable pub edgesInRange : ℕ → ℕ → List ℕ → Bool
+edgesInRange h k body = leb (getD body 0 0) h && leb (getD body 1 0) h && allOf (λ (l : ℕ). ltb l k) (drop 2 body)
+
+-- in a type with h, o, k and `count` edges so far; a field has an edge for each of its labels, and is refused whole where they are too many
 unfoldable pub edgeTestsOf : ℕ → ℕ → ℕ → ℕ → ℕ → List ℕ → List Test
 edgeTestsOf h o k count at body =
     test 5 (not (between 3 6 (length body))) at
-    ∷ test 6 (leb mostEdges count) at
-    ∷ test 7 (not (edgeInRange h k (edgeIn o body))) at
+    ∷ test 6 (ltb mostEdges (count + (length body - 2))) at
+    ∷ test 7 (not (edgesInRange h k body)) at
     ∷ test 8 (badEnds h o (getD body 0 0) (getD body 1 0)) at
     ∷ []
 

@@ -1,5 +1,5 @@
 // The limits of a circuit file; that of a type's edges is in the crate `switch`.
-pub const MOST_BYTES: usize = 32768;
+pub const MOST_BYTES: usize = 57344;
 
 pub const MOST_TYPES: usize = 16;
 

@@ -34,7 +34,7 @@ pub record TypeRanges (h o k : ℕ) : Type 0 where
   pub labels-low : 1 ≤ k
   pub labels-high : k ≤ 12
 
-type-ranges : (h o k : ℕ) → T (typeInRange h o k) → TypeRanges h o k
+pub type-ranges : (h o k : ℕ) → T (typeInRange h o k) → TypeRanges h o k
 unfolding typeInRange
 type-ranges h o k t =
     let parts = both (between 2 31 h && between 2 h o) (between 1 12 k) t in
@@ -51,7 +51,7 @@ pub record EdgeRanges (h : ℕ) (e : Edge) : Type 0 where
   pub second : e .second ≤ h
   pub label : e .label < 12
 
-edge-ranges : (h k : ℕ) → k ≤ 12 → (e : Edge) → T (edgeInRange h k e) → EdgeRanges h e
+pub edge-ranges : (h k : ℕ) → k ≤ 12 → (e : Edge) → T (edgeInRange h k e) → EdgeRanges h e
 unfolding edgeInRange
 edge-ranges h k hk e t =
     let parts = both (leb (e .first) h && leb (e .second) h) (ltb (e .label) k) t in

@@ -28,6 +28,11 @@ pub record Edge : Type 0 where
   pub channel : Channel
   pub label : ℕ
 
+-- parallel transistors: an edge for each of their labels, in order
+unfoldable pub edgesFor : ℕ → ℕ → Channel → List ℕ → List Edge
+edgesFor a b c [] = []
+edgesFor a b c (l ∷ ls) = record { first = a; second = b; channel = c; label = l } ∷ edgesFor a b c ls
+
 unfoldable pub between : ℕ → ℕ → ℕ → Bool
 between low high m = leb low m && leb m high
 

@@ -5,7 +5,7 @@ use mathlib.Core.Path.{_≡_}
 use mathlib.Core.Bool.{Bool, cond}
 use mathlib.Core.Logic.{_↔_}
 use mathlib.Core.List.{List, [], _∷_, _++_}
-use Rattle.switch.specs.Conduction.{Channel, Edge, Switching, links, Link, Among, LinkPath, here, forth, back}
+use Rattle.switch.specs.Conduction.{Channel, Edge, edgesFor, Switching, links, Link, Among, LinkPath, here, forth, back}
 use Rattle.switch.specs.Modules.{anyOf}
 
 -- two nodes, a channel, and the labels of the parallel transistors
@@ -25,10 +25,6 @@ groupLinks on [] = []
 groupLinks on (g ∷ gs) = let rest = groupLinks on gs in cond (groupOn on g) ((g .first, g .second) ∷ rest) rest
 
 -- one edge for each label, in order
-unfoldable pub edgesFor : ℕ → ℕ → Channel → List ℕ → List Edge
-edgesFor a b c [] = []
-edgesFor a b c (l ∷ ls) = record { first = a; second = b; channel = c; label = l } ∷ edgesFor a b c ls
-
 unfoldable pub ofGroups : List Group → List Edge
 ofGroups [] = []
 ofGroups (g ∷ gs) = edgesFor (g .first) (g .second) (g .channel) (g .labels) ++ ofGroups gs

@@ -5,7 +5,7 @@ use Prim.Native.Nat.{ℕ}
 use Prim.Native.String.{String}
 use Rattle.words.specs.Bits.{bit}
 use Rattle.words.specs.Tables.{table}
-use Rattle.switch.specs.Conduction.{at0, at1, atX, p-channel, n-channel, nEnd, nEnds, badEnds, transistorOn, channelOf, pEnds, edgeOn, anyOf, between, links}
+use Rattle.switch.specs.Conduction.{at0, at1, atX, p-channel, n-channel, nEnd, nEnds, badEnds, transistorOn, channelOf, pEnds, edgeOn, edgesFor, between, links}
 use Rattle.switch.specs.Modules.{allOf, inRange, typeInRange, edgeInRange, linksOf, settingOf, valueOfBit}
 use Rattle.switch.specs.Bridges.{nodes, input}
 use Rattle.switch.specs.Deciding.{joins, renamings, partIn, rename, allBelow, oneRail, isComplementary}
@@ -15,8 +15,8 @@ use Rattle.circuit.specs.Fields.{twoBytes, cutIn, cutFrom}
 use Rattle.circuit.specs.Circuit.{Circuit, primary, outputOf, exhaustive, no-faults, list, joinLists, numbered, exhaustiveSize, chosenSize, faultCount, userList}
 use Rattle.circuit.specs.Numbers.{signed, choiceOf, choiceInRange, referenceOf, referenceGood}
 use Rattle.circuit.specs.Order.{tagOf, isKind, mayFollow}
-use Rattle.circuit.specs.Known.{typeIn, edgeIn, referencesIn, instanceIn, letterOf, vectorIn, latest, withEdge, edgeAdded, taken, typeAtAfter, knownAfter}
-use Rattle.circuit.specs.Table.{firstOf, unjudged, notComplementary, isEmpty, listUnsuited, listEmpty, isLetter, inputsTests, typeTests, edgeTests, edgeTestsOf, bridgeTests, instanceTests, instanceTestsOf, vectorTests, bodyTests, fieldTests, endTests}
+use Rattle.circuit.specs.Known.{typeIn, edgesIn, referencesIn, instanceIn, letterOf, vectorIn, latest, withEdges, edgesAdded, taken, typeAtAfter, knownAfter}
+use Rattle.circuit.specs.Table.{firstOf, unjudged, notComplementary, isEmpty, listUnsuited, listEmpty, isLetter, edgesInRange, inputsTests, typeTests, edgeTests, edgeTestsOf, bridgeTests, instanceTests, instanceTestsOf, vectorTests, bodyTests, fieldTests, endTests}
 use Rattle.circuit.specs.Reading.{accepted, unless, readFrom, readingWith}
 use Rattle.circuit.specs.Verdicts.{isRefused}
 use Rattle.circuit.specs.Before.{typesBefore, finished, beforeFrom, readBefore}
@@ -28,7 +28,7 @@ use Rattle.print_circuit.specs.Listing.{numberedLines, groupedLines, typ
 inverter : Circuit
 inverter = record {
   inputs = 1;
-  types = record { highest = 2; output = 2; labels = 1; edges = record { first = 1; second = 2; channel = p-channel; labels = 0 ∷ [] } ∷ record { first = 0; second = 2; channel = n-channel; labels = 0 ∷ [] } ∷ [] } ∷ [];
+  types = record { highest = 2; output = 2; labels = 1; edges = record { first = 1; second = 2; channel = p-channel; label = 0 } ∷ record { first = 0; second = 2; channel = n-channel; label = 0 } ∷ [] } ∷ [];
   bridges = [];
   instances = record { type = 1; choice = exhaustive; references = primary 1 ∷ [] } ∷ [];
   vectors = (at0 ∷ []) ∷ (at1 ∷ []) ∷ (atX ∷ []) ∷ [];
@@ -45,7 +45,7 @@ inverter-listing = refl
 other-lines :
     (bridgeLine (record { list = 7; bridge = nodes 0 12 }) ≡ bytesOf "bridge 7 n 0 12\n")
     × (bridgeLine (record { list = 127; bridge = input 2 3 }) ≡ bytesOf "bridge 127 i 2 3\n")
-    × (edgeLine (record { first = 31; second = 2; channel = n-channel; labels = 0 ∷ 11 ∷ [] }) ≡ bytesOf "edge 31 2 0 11\n")
+    × (edgeLine (record { first = 31; second = 2; channel = n-channel; label = 11 }) ≡ bytesOf "edge 31 2 11\n")
     × (instanceLine 12 (record { type = 2; choice = no-faults; references = outputOf 11 ∷ primary 64 ∷ [] }) ≡ bytesOf "instance 12 2 0 -11 64\n")
     × (instanceLine 3 (record { type = 1; choice = list 5; references = outputOf 2 ∷ [] }) ≡ bytesOf "instance 3 1 5 -2\n")
     × (vectorLine 10 (at1 ∷ atX ∷ at0 ∷ []) ≡ bytesOf "vector 10 1X0\n")
@@ -67,5 +67,5 @@ refused-listings :
     ≡ linesOf ("inputs 1\n" ∷ "type 1 2 2 1\n" ∷ "edge 1 2 0\n" ∷ "edge 0 2 0\n" ∷ "refused 10 at 23\n" ∷ []))
     × (listingOfFile (begin ++ edges ++ (3 ∷ 0 ∷ 3 ∷ 0 ∷ 2 ∷ 1 ∷ [])) ≡ linesOf ("inputs 1\n" ∷ "refused 7 at 23\n" ∷ []))
     × (listingOfFile [] ≡ linesOf ("refused 14 at 0\n" ∷ []))
-unfolding begin edges linesOf listingOf refusalLines circuitLines inputsLines groupedLines typeLines numberedLines inputsLine typeLine edgeLine refusalLine spaced joinLists decimal digitsOf lengthIn isRefused typesBefore finished beforeFrom readBefore nEnd nEnds badEnds readingWith readFrom unless fieldTests endTests firstOf bodyTests inputsTests typeTests edgeTests edgeTestsOf bridgeTests instanceTests instanceTestsOf vectorTests isKind mayFollow unjudged notComplementary isEmpty listUnsuited listEmpty isLetter tagOf typeIn edgeIn referencesIn instanceIn letterOf vectorIn latest withEdge edgeAdded taken typeAtAfter knownAfter signed choiceOf choiceInRange referenceOf referenceGood twoBytes cutIn cutFrom numbered exhaustiveSize chosenSize faultCount userList bit table joins renamings partIn rename allBelow oneRail isComplementary allOf inRange typeInRange edgeInRange linksOf settingOf valueOfBit transistorOn channelOf pEnds edgeOn anyOf between links
+unfolding begin edges linesOf listingOf refusalLines circuitLines inputsLines groupedLines typeLines numberedLines inputsLine typeLine edgeLine refusalLine spaced joinLists decimal digitsOf lengthIn isRefused typesBefore finished beforeFrom readBefore nEnd nEnds badEnds readingWith readFrom unless fieldTests endTests firstOf bodyTests inputsTests typeTests edgeTests edgeTestsOf bridgeTests instanceTests instanceTestsOf vectorTests isKind mayFollow unjudged notComplementary isEmpty listUnsuited listEmpty isLetter tagOf typeIn edgesIn referencesIn instanceIn letterOf vectorIn latest withEdges edgesAdded taken typeAtAfter knownAfter signed choiceOf choiceInRange referenceOf referenceGood twoBytes cutIn cutFrom numbered exhaustiveSize chosenSize faultCount userList bit table joins renamings partIn rename allBelow oneRail isComplementary allOf inRange typeInRange edgeInRange linksOf settingOf valueOfBit transistorOn channelOf pEnds edgeOn edgesFor edgesInRange between links
 refused-listings = (refl, refl, refl)

@@ -21,9 +21,9 @@ inputsLine inputs = bytesOf "inputs" ++ spaced inputs ++ newline
 unfoldable pub typeLine : ℕ → ModuleType → List ℕ
 typeLine number t = bytesOf "type" ++ spaced number ++ spaced (t .highest) ++ spaced (t .output) ++ spaced (t .labels) ++ newline
 
--- edge A B L ..
+-- edge A B L
 unfoldable pub edgeLine : Edge → List ℕ
-edgeLine e = bytesOf "edge" ++ spaced (e .first) ++ spaced (e .second) ++ joinLists (map spaced (e .labels)) ++ newline
+edgeLine e = bytesOf "edge" ++ spaced (e .first) ++ spaced (e .second) ++ spaced (e .label) ++ newline
 
 -- n for kind 0, i for kind 1
 unfoldable pub kindText : ℕ → List ℕ

@@ -19,8 +19,10 @@ use print_lines::put_bytes;
 use print_lines::put_number;
 use switch::Edge;
 use switch::MOST_LABELS;
-use switch::MOST_PARALLEL;
 use switch::ModuleType;
+use switch::edges::first_of;
+use switch::edges::label_of;
+use switch::edges::second_of;
 
 // A space and a number.
 fn put_spaced(out: &mut [u8], at: usize, n: u64) -> usize
@@ -54,33 +56,19 @@ pub fn type_line(out: &mut [u8], at: usize, number: usize, t: ModuleType) -> usi
     put_byte(out, at, b'\n')
 }
 
-// `edge A B L ..`
+// `edge A B L`
 pub fn edge_line(out: &mut [u8], at: usize, e: Edge) -> usize
     requires { ⌜ at + 512 ≤ length (now out) ⌝ }
     ensures { λ r. ⌜ Puts (edgeLine (edgeOf e)) (now (out .entry)) at r (now (out .exit)) ⌝ }
 {
-    let labels = e.labels;
+    let first = first_of(e) as u64;
+    let second = second_of(e) as u64;
+    let label = label_of(e) as u64;
     let at = put_bytes(out, at, b"edge");
-    let at = put_spaced(out, at, e.first as u64);
-    let at = put_spaced(out, at, e.second as u64);
-    let at = put_labels(out, at, labels, e.count as usize);
+    let at = put_spaced(out, at, first);
+    let at = put_spaced(out, at, second);
+    let at = put_spaced(out, at, label);
     put_byte(out, at, b'\n')
-}
-
-// The labels of an edge.
-fn put_labels(out: &mut [u8], at: usize, labels: [u8; MOST_PARALLEL], count: usize) -> usize
-    requires { ⌜ at + 88 ≤ length (now out) ⌝ }
-    ensures { λ r. ⌜ Puts (joinLists (map spaced (take count labels))) (now (out .entry)) at r (now (out .exit)) ⌝ }
-    ensures { λ r. ⌜ r ≤ at + 88 ⌝ }
-{
-    let used = at_most(count, MOST_PARALLEL);
-    let mut end = at;
-    let mut i: usize = 0;
-    while i < used {
-        end = put_spaced(out, end, labels[i] as u64);
-        i += 1;
-    }
-    end
 }
 
 // `bridge N n A B` or `bridge N i A L`

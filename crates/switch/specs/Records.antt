@@ -38,9 +38,12 @@ secondIn r = r .code / 32 % 32
 abbrev pub gateIn : EdgeRecord → ℕ
 gateIn r = r .code / 1024 % 32
 
+abbrev pub labelIn : EdgeRecord → ℕ
+labelIn r = gateIn r % 16
+
 -- the edge of a record
 unfoldable pub edgeOf : EdgeRecord → Edge
-edgeOf r = record { first = firstIn r; second = secondIn r; channel = channelBy (gateIn r / 16); label = gateIn r % 16 }
+edgeOf r = record { first = firstIn r; second = secondIn r; channel = channelBy (gateIn r / 16); label = labelIn r }
 
 -- what stands in the places of a type that no edge fills, and past the end of a list of edge records
 abbrev pub noEdge : EdgeRecord

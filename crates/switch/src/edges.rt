@@ -4,7 +4,7 @@ ghost use mathlib.Core.Bool.{cond};
 ghost use mathlib.Core.Path.{_≡_};
 ghost use Prim.Native.Nat.{_<_};
 ghost use Rattle.switch.specs.Conduction.{p-channel, n-channel};
-ghost use Rattle.switch.specs.Records.{edgeRecord, firstIn, secondIn, gateIn};
+ghost use Rattle.switch.specs.Records.{edgeRecord, firstIn, secondIn, labelIn, gateIn};
 
 // The edge with these ends and this label.
 pub fn edge_with(first: u8, second: u8, label: u8, p_channel: bool) -> Edge
@@ -28,6 +28,12 @@ pub fn second_of(e: Edge) -> u8
     ensures { λ r. ⌜ r ≡ secondIn e ⌝ }
 {
     (e.code / 32 % 32) as u8
+}
+
+pub fn label_of(e: Edge) -> u8
+    ensures { λ r. ⌜ r ≡ labelIn e ⌝ }
+{
+    (e.code / 1024 % 16) as u8
 }
 
 // What switches the edge: its label, and 16 more in a p-channel edge.

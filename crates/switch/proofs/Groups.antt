@@ -88,7 +88,7 @@ module _ (on : Switching) where
 -- ---- paths
 
 -- beside other links
-beside : (closed ws us : List Link) → ((w : Link) → Among w ws → Among w us) → (w : Link) → Among w (closed ++ ws) → Among w (closed ++ us)
+pub beside : (closed ws us : List Link) → ((w : Link) → Among w ws → Among w us) → (w : Link) → Among w (closed ++ ws) → Among w (closed ++ us)
 beside closed ws us kept w m =
     ⊎-elim (λ (k : Among w closed). Memᴰ·append-left us k) (λ (k : Among w ws). Memᴰ·append-right closed (kept w k)) (List·Memᴰ·append-cases closed m)
 

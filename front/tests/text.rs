@@ -2,6 +2,7 @@
 
 use front::text::{make, Slip};
 use second::builder::FileBuilder;
+use second::fields::cut;
 use second::make::made_file;
 use second::random::Random;
 use second::read::read;
@@ -33,13 +34,37 @@ fn a_text_is_its_file() {
     assert_eq!(make(NAND.as_bytes()), Ok(nand_file()));
 }
 
+/// Whether an edge field has several labels, as in old files.
+fn has_group(file: &[u8]) -> bool {
+    let mut place = 0;
+    while place < file.len() {
+        let field = cut(file, place).expect("an accepted file is whole");
+        if field.tag == 3 && field.body.len() > 3 {
+            return true;
+        }
+        place = field.end();
+    }
+    false
+}
+
+/// What is shown has a line for each edge. So a file comes back byte for byte if it has
+/// a field for each, and else as the file of the same circuit that does.
 #[test]
 fn samples_and_made_files_come_back() {
     let made = (0..1000).map(|index| made_file(14, index));
     let samples = sample_files().into_iter().map(|file| file.bytes);
+    let mut grouped = 0;
     for file in samples.chain(made) {
-        assert_eq!(make(show_of(&file).as_bytes()), Ok(file));
+        let back = make(show_of(&file).as_bytes()).expect("what is shown is text");
+        assert_eq!(read(&back), read(&file));
+        assert!(!has_group(&back));
+        if has_group(&file) {
+            grouped += 1;
+        } else {
+            assert_eq!(back, file);
+        }
     }
+    assert!((300..700).contains(&grouped), "{grouped}");
 }
 
 #[test]

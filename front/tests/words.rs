@@ -32,7 +32,7 @@ fn an_accepted_file_has_no_words() {
 #[test]
 fn the_frame_of_a_file() {
     check(
-        FileBuilder::default().resized(32_769),
+        FileBuilder::default().resized(57_345),
         "refused 1 at 0: the whole file",
         "here: it has more than that.",
     );
@@ -115,11 +115,11 @@ fn lengths_and_counts() {
         "refused 6 at 293: type 17, bytes 293 to 298",
         "here: this is type 17.",
     );
-    let edges = inverter().times(63, |file| file.field(3, &[1, 2, 0]));
+    let edges = inverter().times(255, |file| file.field(3, &[1, 2, 0]));
     check(
         edges,
-        "refused 6 at 395: edge 65 of type 1, bytes 395 to 400",
-        "here: this is edge 65 of type 1.",
+        "refused 6 at 1547: edge 257 of type 1, bytes 1547 to 1552",
+        "here: this is edge 257 of type 1.",
     );
     let bridges = inverter().times(257, |file| file.bridge(1, 0, 0, 1));
     check(
@@ -223,7 +223,7 @@ fn edges_and_types() {
         "here: with label 0 at 1 the output, node 2, is joined to neither supply nor ground.",
     );
     let shorted = one_input().module(3, 2, 2, &[(1, 2, &[0, 1]), (2, 3, &[0]), (3, 0, &[0, 1])]);
-    check(shorted, "refused 9 at 5: type 1, bytes 5 to 10, with 3 edges up to byte 30", "here: with label 0 at 1 and label 1 at 0 the output, node 2, is joined to both supply (by 1-2) and ground (by 0-3-2).");
+    check(shorted, "refused 9 at 5: type 1, bytes 5 to 10, with 5 edges up to byte 30", "here: with label 0 at 1 and label 1 at 0 the output, node 2, is joined to both supply (by 1-2) and ground (by 0-3-2).");
 }
 
 #[test]

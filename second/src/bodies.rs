@@ -17,14 +17,17 @@ pub fn module_of(body: &[u8]) -> ModuleType {
     }
 }
 
-/// An edge of a type with this output; none if it has no channel.
-pub fn edge_of(body: &[u8], output: u8) -> Option<Edge> {
+/// The edges of a field, one for each label, in a type with this output; none if
+/// its ends have no channel.
+pub fn edges_of(body: &[u8], output: u8) -> Option<Vec<Edge>> {
     let ends = [body[0], body[1]];
-    Some(Edge {
+    let channel = channel(output, ends)?;
+    let edge = |&label: &u8| Edge {
         ends,
-        channel: channel(output, ends)?,
-        labels: body[2..].to_vec(),
-    })
+        channel,
+        label,
+    };
+    Some(body[2..].iter().map(edge).collect())
 }
 
 /// None if there is no such kind.

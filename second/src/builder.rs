@@ -1,6 +1,8 @@
 //! Building circuit files by hand, field by field, good or bad. It uses none of
 //! the crate's own writing, so that a slip there cannot hide here.
 
+/// Two nodes and the labels of one edge field: a single one, or up to four, as old
+/// files group them.
 pub type EdgeRow<'a> = (u8, u8, &'a [u8]);
 
 pub const INVERTER: &[EdgeRow] = &[(1, 2, &[0]), (0, 2, &[0])];

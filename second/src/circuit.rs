@@ -27,11 +27,12 @@ pub enum Channel {
     N,
 }
 
-#[derive(Clone, Debug, PartialEq, Eq)]
+/// One transistor.
+#[derive(Clone, Copy, Debug, PartialEq, Eq)]
 pub struct Edge {
     pub ends: [u8; 2],
     pub channel: Channel,
-    pub labels: Vec<u8>,
+    pub label: u8,
 }
 
 #[derive(Clone, Debug, PartialEq, Eq)]

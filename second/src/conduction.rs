@@ -27,9 +27,7 @@ pub fn is_on(edge: &Edge, labels: &[Value]) -> bool {
         Channel::P => Value::Zero,
         Channel::N => Value::One,
     };
-    edge.labels
-        .iter()
-        .any(|&label| labels[usize::from(label)] == needed)
+    labels[usize::from(edge.label)] == needed
 }
 
 /// Nodes and the wires between them; bit b of `near[a]` is a wire from a to b.

@@ -1,23 +1,23 @@
 //! Damaged circuit files from a seed: a made circuit with one to three damages,
 //! chosen so that every refusal number from 1 to 14 is reached and numbers meet.
 
-use crate::circuit::{Bridge, Circuit, Instance, Kind, ListedBridge};
+use crate::circuit::{Bridge, Instance, Kind, ListedBridge};
 use crate::faults::{user_list, EXHAUSTIVE};
 use crate::format::{
-    Tag, HIGHEST_LIST, LONGEST_FILE, MOST_BRIDGES, MOST_EDGES, MOST_INSTANCES, MOST_TYPES,
-    MOST_VECTORS,
+    Tag, HIGHEST_LIST, LONGEST_FILE, MOST_BRIDGES, MOST_EDGES, MOST_GROUPED, MOST_INSTANCES,
+    MOST_TYPES, MOST_VECTORS,
 };
-use crate::make::{full_circuit, small_circuit};
+use crate::make::{full_circuit, small_circuit, Made};
 use crate::random::Random;
 use crate::spoil::{spoil, spoil_length};
 use crate::types::gate_type;
-use crate::write::{bridge_field, bytes_of, fields_of, type_fields, LooseField};
+use crate::write::{bridge_field, bytes_of, type_fields, LooseField};
 
 type Fields = Vec<LooseField>;
 type FieldDamage = fn(&mut Random, &mut Fields);
 type ByteDamage = fn(&mut Random, &mut Vec<u8>);
 
-const FIELD_DAMAGES: [FieldDamage; 23] = [
+const FIELD_DAMAGES: [FieldDamage; 24] = [
     drop_field,
     double_field,
     swap_any,
@@ -37,7 +37,8 @@ const FIELD_DAMAGES: [FieldDamage; 23] = [
     break_type_and_next,
     drop_all_of_a_tag,
     keep_only_a_start,
-    exceed_types_or_edges,
+    exceed_types,
+    exceed_edges,
     exceed_bridges,
     exceed_instances,
     exceed_vectors,
@@ -60,7 +61,7 @@ pub fn damaged_file(seed: u64, index: u64) -> Vec<u8> {
     if kind == kinds - 1 {
         return exceed_faults(random);
     }
-    let mut fields = fields_of(&few_vectors(random));
+    let mut fields = few_vectors(random).fields();
     let mut late = None;
     match FIELD_DAMAGES.get(kind) {
         Some(damage) => damage(random, &mut fields),
@@ -80,12 +81,12 @@ pub fn damaged_file(seed: u64, index: u64) -> Vec<u8> {
 }
 
 /// Most damages are met before the vectors, so few of them are kept.
-fn few_vectors(random: &mut Random) -> Circuit {
-    let mut circuit = small_circuit(random);
+fn few_vectors(random: &mut Random) -> Made {
+    let mut made = small_circuit(random);
     if !random.one_in(8) {
-        circuit.vectors.truncate(3);
+        made.circuit.vectors.truncate(3);
     }
-    circuit
+    made
 }
 
 fn any_index(random: &mut Random, fields: &Fields) -> Option<usize> {
@@ -270,10 +271,7 @@ fn is_before_bridges(field: &LooseField) -> bool {
     field.tag < Tag::Bridge.byte()
 }
 
-fn exceed_types_or_edges(random: &mut Random, fields: &mut Fields) {
-    if random.one_in(2) {
-        return exceed_edges(random, fields);
-    }
+fn exceed_types(random: &mut Random, fields: &mut Fields) {
     let present = fields.iter().filter(|field| field.is(Tag::Type)).count();
     let more = (MOST_TYPES + random.between(0, 2)).saturating_sub(present);
     let mut added = Vec::new();
@@ -290,19 +288,29 @@ fn exceed_types_or_edges(random: &mut Random, fields: &mut Fields) {
     }
 }
 
+/// Repeats the last edge of a type, in fields of one to four labels, up to the limit
+/// or just past it, and sometimes spoils the last field.
 fn exceed_edges(random: &mut Random, fields: &mut Fields) {
     let Some(index) = any_of_tag(random, fields, Tag::Type) else {
         return;
     };
-    let edges = edges_after(fields, index);
-    if edges > 0 {
-        let more = (MOST_EDGES + random.between(0, 2)).saturating_sub(edges);
-        let copy = fields[index + edges].clone();
-        let end = index + edges + 1;
-        fields.splice(end..end, vec![copy; more]);
-        if random.one_in(2) {
-            spoil(random, fields, end + more - 1);
-        }
+    let end = index + 1 + edges_after(fields, index);
+    let Some(last) = fields[index + 1..end].last() else {
+        return;
+    };
+    // A field that is damaged already may be too short for two ends and a label.
+    let label = last.body.get(2).copied().unwrap_or(0);
+    let mut copy = last.clone();
+    let each = random.between(1, MOST_GROUPED);
+    copy.body.truncate(2);
+    copy.body.resize(2 + each, label);
+    let labels_in = |field: &LooseField| field.body.len().saturating_sub(2);
+    let edges: usize = fields[index + 1..end].iter().map(labels_in).sum();
+    let most = MOST_EDGES + random.between(0, each);
+    let more = most.saturating_sub(edges) / each;
+    fields.splice(end..end, vec![copy; more]);
+    if random.one_in(2) {
+        spoil(random, fields, end + more - 1);
     }
 }
 
@@ -338,12 +346,12 @@ fn exceed_vectors(random: &mut Random, fields: &mut Fields) {
 
 /// Past 2,048 faults, by one or by many, sometimes with another damage.
 fn exceed_faults(random: &mut Random) -> Vec<u8> {
-    let circuit = if random.one_in(3) {
+    let made = if random.one_in(3) {
         one_fault_too_many(random)
     } else {
         many_exhaustive_lists(random)
     };
-    let mut fields = fields_of(&circuit);
+    let mut fields = made.fields();
     if random.one_in(4) {
         spoil_one(random, &mut fields);
     }
@@ -351,8 +359,9 @@ fn exceed_faults(random: &mut Random) -> Vec<u8> {
 }
 
 /// A full-size circuit in which an instance without faults takes a list of one.
-fn one_fault_too_many(random: &mut Random) -> Circuit {
-    let mut circuit = full_circuit(random);
+fn one_fault_too_many(random: &mut Random) -> Made {
+    let mut made = full_circuit(random);
+    let circuit = &mut made.circuit;
     circuit.vectors.truncate(2);
     let single = (1..=i8::MAX).find(|&list| user_list(&circuit.bridges, list).len() == 1);
     let idle: Vec<usize> = (0..circuit.instances.len())
@@ -361,20 +370,21 @@ fn one_fault_too_many(random: &mut Random) -> Circuit {
     if let (Some(list), false) = (single, idle.is_empty()) {
         circuit.instances[random.pick(&idle)].choice = list;
     }
-    circuit
+    made
 }
 
-fn many_exhaustive_lists(random: &mut Random) -> Circuit {
-    let mut circuit = few_vectors(random);
-    let pattern = circuit.instances.clone();
+fn many_exhaustive_lists(random: &mut Random) -> Made {
+    let mut made = few_vectors(random);
+    let instances = &mut made.circuit.instances;
+    let pattern = instances.clone();
     for instance in pattern.iter().cycle().take(MOST_INSTANCES - pattern.len()) {
         let choice = EXHAUSTIVE;
-        circuit.instances.push(Instance {
+        instances.push(Instance {
             choice,
             ..instance.clone()
         });
     }
-    circuit
+    made
 }
 
 fn flip_bits(random: &mut Random, bytes: &mut Vec<u8>) {

@@ -2,10 +2,11 @@
 //! their lengths and their words. All else takes them from here but the builder
 //! and the files of `limits`, which write them out, so that a slip here shows there.
 
-pub const LONGEST_FILE: usize = 32_768;
+pub const LONGEST_FILE: usize = 57_344;
 pub const MOST_INPUTS: usize = 64;
 pub const MOST_TYPES: usize = 16;
-pub const MOST_EDGES: usize = 64;
+/// In one type, counted by label.
+pub const MOST_EDGES: usize = 256;
 pub const MOST_BRIDGES: usize = 256;
 pub const MOST_INSTANCES: usize = 128;
 pub const MOST_VECTORS: usize = 256;
@@ -14,8 +15,9 @@ pub const MOST_FAULTS: usize = 2_048;
 pub const HIGHEST_NODE: u8 = 31;
 pub const MOST_LABELS: u8 = 12;
 pub const HIGHEST_LIST: u8 = 127;
-/// The most transistors on one edge.
-pub const MOST_PARALLEL: usize = 4;
+/// The most labels in one edge field. Old files group transistors so; each label is
+/// an edge of its own.
+pub const MOST_GROUPED: usize = 4;
 
 /// The bytes of a field before its body: the tag and the length.
 pub const HEAD: usize = 3;
@@ -103,7 +105,7 @@ impl Tag {
         match self {
             Tag::Inputs => length == 2,
             Tag::Type => length == 3,
-            Tag::Edge => (3..=2 + MOST_PARALLEL).contains(&length),
+            Tag::Edge => (3..=2 + MOST_GROUPED).contains(&length),
             Tag::Bridge => length == 4,
             Tag::Instance => {
                 length % 2 == 0 && (4..=2 + 2 * usize::from(MOST_LABELS)).contains(&length)

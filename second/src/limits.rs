@@ -12,6 +12,7 @@ mod bytes;
 mod choices;
 mod counts;
 mod cuts;
+mod edge_counts;
 mod edges;
 mod frame;
 mod inputs;
@@ -34,6 +35,7 @@ fn named(name: impl Display, file: FileBuilder) -> NamedFile {
 pub fn limit_files() -> Vec<NamedFile> {
     [
         counts::files(),
+        edge_counts::files(),
         bytes::files(),
         cuts::files(),
         lengths::files(),

@@ -1,48 +1,91 @@
 //! Whole circuits from a seed, all of them accepted: types, user lists, chains of
-//! instances and vectors, small ones, ones at a word's border and full-size ones.
+//! instances and vectors, small ones, ones at a word's border and full-size ones; with
+//! a field for each edge, or with grouped fields as old files have them.
 
 use crate::circuit::{Bridge, Circuit, Instance, Kind, ListedBridge, ModuleType, Value};
 use crate::faults::{exhaustive_list, faults_of, fits, user_list, EXHAUSTIVE};
 use crate::format::{
-    HIGHEST_LIST, MOST_BRIDGES, MOST_FAULTS, MOST_INPUTS, MOST_INSTANCES, MOST_TYPES, MOST_VECTORS,
+    HIGHEST_LIST, MOST_BRIDGES, MOST_EDGES, MOST_FAULTS, MOST_INPUTS, MOST_INSTANCES, MOST_TYPES,
+    MOST_VECTORS,
 };
+use crate::networks::Drawn;
 use crate::random::Random;
-use crate::types::{full_type, gate_type, made_type};
-use crate::write::{bytes_of, fields_of};
+use crate::types::{crowded_type, full_type, gate_type, made_type, MOST_OLD_FIELDS};
+use crate::write::{bytes_of, fields_of, grouped, LooseField};
 
 const FULL_SIZE_EVERY: u64 = 32;
+const CROWDED_TYPE_ONE_IN: usize = 16;
 /// Sizes of the lists of a full-size file; together 256 bridges, and any number
 /// of faults up to 2,048 is a sum of few of them.
 const FULL_LISTS: [usize; 9] = [128, 64, 32, 16, 8, 4, 2, 1, 1];
 
+/// A circuit, and the sizes of the groups in which the edges of all its types are
+/// written, in order.
+#[derive(Clone, Debug, Default)]
+pub struct Made {
+    pub circuit: Circuit,
+    sizes: Vec<usize>,
+}
+
+impl Made {
+    fn of_inputs(inputs: usize) -> Made {
+        let mut made = Made::default();
+        made.circuit.inputs = inputs;
+        made
+    }
+
+    fn add_type(&mut self, drawn: Drawn) {
+        self.circuit.types.push(drawn.module);
+        self.sizes.extend(drawn.sizes);
+    }
+
+    /// As layout extracts them now: a field for each edge.
+    fn ungroup(&mut self) {
+        let edges = self.circuit.types.iter().map(|module| module.edges.len());
+        self.sizes = vec![1; edges.sum()];
+    }
+
+    pub fn fields(&self) -> Vec<LooseField> {
+        grouped(fields_of(&self.circuit), &self.sizes)
+    }
+}
+
 pub fn made_file(seed: u64, index: u64) -> Vec<u8> {
-    bytes_of(&fields_of(&made_circuit(seed, index)))
+    bytes_of(&made(seed, index).fields())
+}
+
+pub fn made_circuit(seed: u64, index: u64) -> Circuit {
+    made(seed, index).circuit
 }
 
 /// Every 32nd circuit is full-size, so that a short run holds some.
-pub fn made_circuit(seed: u64, index: u64) -> Circuit {
+fn made(seed: u64, index: u64) -> Made {
     let mut random = Random::for_file(seed, index);
+    let random = &mut random;
     if index % FULL_SIZE_EVERY != FULL_SIZE_EVERY - 1 {
-        small_circuit(&mut random)
-    } else if random.one_in(3) {
-        deep_circuit(&mut random)
-    } else {
-        full_circuit(&mut random)
+        return small_circuit(random);
+    }
+    match random.below(4) {
+        0 => deep_circuit(random),
+        1 => full_circuit(random),
+        _ => crowded_circuit(random),
     }
 }
 
-pub fn small_circuit(random: &mut Random) -> Circuit {
-    let mut circuit = Circuit {
-        inputs: match random.below(6) {
-            0 => 1,
-            1 => random.between(1, MOST_INPUTS),
-            _ => random.between(2, 8),
-        },
-        ..Circuit::default()
+pub fn small_circuit(random: &mut Random) -> Made {
+    let inputs = match random.below(6) {
+        0 => 1,
+        1 => random.between(1, MOST_INPUTS),
+        _ => random.between(2, 8),
     };
+    let mut made = Made::of_inputs(inputs);
     for _ in 0..random.between(1, 4) {
-        circuit.types.push(made_type(random));
+        made.add_type(small_or_crowded_type(random));
     }
+    if random.one_in(2) {
+        made.ungroup();
+    }
+    let circuit = &mut made.circuit;
     circuit.bridges = user_lists(random, &circuit.types);
     let count = match random.below(8) {
         0 => 1,
@@ -50,49 +93,74 @@ pub fn small_circuit(random: &mut Random) -> Circuit {
         _ => random.between(2, 7),
     };
     let chained = random.one_in(4);
-    add_instances(random, &mut circuit, count, chained);
-    choose_lists(random, &mut circuit);
+    add_instances(random, circuit, count, chained);
+    choose_lists(random, circuit);
     let vectors = vector_count(random);
-    add_vectors(random, &mut circuit, vectors);
-    circuit
+    add_vectors(random, circuit, vectors);
+    made
 }
 
-/// Everything at its limit; the lists are laid so that there are 2,048 faults.
-pub fn full_circuit(random: &mut Random) -> Circuit {
-    let mut circuit = Circuit {
-        inputs: random.pick(&[1, 3, 16, MOST_INPUTS]),
-        ..Circuit::default()
-    };
-    while circuit.types.len() < MOST_TYPES {
-        let module = if random.one_in(6) {
+/// Now and then a type with more edges than a type once had fields.
+fn small_or_crowded_type(random: &mut Random) -> Drawn {
+    if random.one_in(CROWDED_TYPE_ONE_IN) {
+        let edges = random.between(MOST_OLD_FIELDS + 1, MOST_EDGES);
+        crowded_type(random, edges)
+    } else {
+        made_type(random)
+    }
+}
+
+/// An old file with everything at its limit.
+pub fn full_circuit(random: &mut Random) -> Made {
+    let inputs = random.pick(&[1, 3, 16, MOST_INPUTS]);
+    filled(random, inputs, full_type)
+}
+
+/// A file with everything at its limit. With many inputs and a field for each edge it
+/// is longer than an old one could be.
+fn crowded_circuit(random: &mut Random) -> Made {
+    let inputs = random.pick(&[16, MOST_INPUTS, MOST_INPUTS]);
+    let mut made = filled(random, inputs, |random| crowded_type(random, MOST_EDGES));
+    if random.one_in(2) {
+        made.ungroup();
+    }
+    made
+}
+
+/// As much as there may be of everything; most types are full ones. The lists are
+/// laid so that there are 2,048 faults.
+fn filled(random: &mut Random, inputs: usize, full: fn(&mut Random) -> Drawn) -> Made {
+    let mut made = Made::of_inputs(inputs);
+    while made.circuit.types.len() < MOST_TYPES {
+        let drawn = if random.one_in(6) {
             made_type(random)
         } else {
-            full_type(random)
+            full(random)
         };
-        circuit.types.push(module);
+        made.add_type(drawn);
     }
+    let circuit = &mut made.circuit;
     circuit.bridges = full_lists(random, &circuit.types);
     let chained = random.one_in(2);
-    add_instances(random, &mut circuit, MOST_INSTANCES, chained);
-    choose_lists(random, &mut circuit);
-    fill_faults(&mut circuit);
-    add_vectors(random, &mut circuit, MOST_VECTORS);
-    circuit
+    add_instances(random, circuit, MOST_INSTANCES, chained);
+    choose_lists(random, circuit);
+    fill_faults(circuit);
+    add_vectors(random, circuit, MOST_VECTORS);
+    made
 }
 
 /// A chain 128 deep of simple gates, so that values come through to its end.
-fn deep_circuit(random: &mut Random) -> Circuit {
-    let mut circuit = Circuit {
-        inputs: random.between(1, 6),
-        ..Circuit::default()
-    };
+fn deep_circuit(random: &mut Random) -> Made {
+    let mut made = Made::of_inputs(random.between(1, 6));
     for _ in 0..random.between(1, 3) {
-        circuit.types.push(gate_type(random));
+        made.circuit.types.push(gate_type(random));
     }
-    add_instances(random, &mut circuit, MOST_INSTANCES, true);
-    choose_lists(random, &mut circuit);
-    add_vectors(random, &mut circuit, MOST_VECTORS);
-    circuit
+    made.ungroup();
+    let circuit = &mut made.circuit;
+    add_instances(random, circuit, MOST_INSTANCES, true);
+    choose_lists(random, circuit);
+    add_vectors(random, circuit, MOST_VECTORS);
+    made
 }
 
 fn vector_count(random: &mut Random) -> usize {

@@ -3,7 +3,7 @@
 
 use crate::circuit::{Channel, Edge, ModuleType};
 use crate::conduction::{GROUND, SUPPLY};
-use crate::format::{HIGHEST_NODE, MOST_EDGES, MOST_PARALLEL};
+use crate::format::{HIGHEST_NODE, MOST_EDGES, MOST_GROUPED};
 use crate::random::Random;
 
 /// Nodes 2 to 31 without the output.
@@ -65,13 +65,24 @@ pub enum End {
     InnerN(usize),
 }
 
+/// Two ends and the labels of edges between them that an old file would have in one
+/// field.
+type Group = ([End; 2], Vec<u8>);
+
 /// The two networks of a module whose inner nodes have no numbers yet.
 #[derive(Clone, Debug)]
 pub struct Sketch {
     labels: u8,
     inner_p: usize,
     inner_n: usize,
-    edges: Vec<([End; 2], Vec<u8>)>,
+    groups: Vec<Group>,
+}
+
+/// A type, and the sizes of the groups that its edges make, in order.
+#[derive(Clone, Debug)]
+pub struct Drawn {
+    pub module: ModuleType,
+    pub sizes: Vec<usize>,
 }
 
 impl Sketch {
@@ -80,12 +91,16 @@ impl Sketch {
             labels,
             inner_p: 0,
             inner_n: 0,
-            edges: Vec::new(),
+            groups: Vec::new(),
         }
     }
 
-    pub fn add_edge(&mut self, ends: [End; 2], labels: &[u8]) {
-        self.edges.push((ends, labels.to_vec()));
+    pub fn add_edge(&mut self, ends: [End; 2], label: u8) {
+        self.groups.push((ends, vec![label]));
+    }
+
+    fn edges(&self) -> usize {
+        self.groups.iter().map(|(_, labels)| labels.len()).sum()
     }
 
     pub fn add_inner(&mut self, channel: Channel) -> End {
@@ -102,7 +117,7 @@ impl Sketch {
     }
 
     pub fn has_room(&self) -> bool {
-        self.inner_p + self.inner_n <= MOST_INNER && self.edges.len() <= MOST_EDGES
+        self.inner_p + self.inner_n <= MOST_INNER && self.edges() <= MOST_EDGES
     }
 
     fn has_free_node(&self) -> bool {
@@ -112,7 +127,7 @@ impl Sketch {
     /// Lays a tree between two ends as part of the network of this channel.
     pub fn lay(&mut self, tree: &Tree, channel: Channel, ends: [End; 2]) {
         match tree {
-            Tree::Leaf(label) => self.add_edge(ends, &[*label]),
+            Tree::Leaf(label) => self.add_edge(ends, *label),
             Tree::Parallel(children) => {
                 for child in children {
                     self.lay(child, channel, ends);
@@ -141,39 +156,62 @@ impl Sketch {
         self.lay(&dual, Channel::P, rails(Channel::P));
     }
 
-    /// Puts some parallel transistors on one edge, as a layout would.
+    /// Groups some parallel transistors, as layouts once did.
     pub fn group_parallel(&mut self, random: &mut Random) {
-        let mut grouped: Vec<([End; 2], Vec<u8>)> = Vec::new();
-        for (ends, labels) in self.edges.drain(..) {
+        let mut grouped: Vec<Group> = Vec::new();
+        for (ends, labels) in self.groups.drain(..) {
             let partner = grouped
                 .iter_mut()
-                .find(|(other, held)| *other == ends && held.len() + labels.len() <= MOST_PARALLEL);
+                .find(|(other, held)| *other == ends && held.len() + labels.len() <= MOST_GROUPED);
             match partner {
                 Some((_, held)) if !random.one_in(4) => held.extend(labels),
                 _ => grouped.push((ends, labels)),
             }
         }
-        self.edges = grouped;
+        self.groups = grouped;
     }
 
     pub fn repeat_label(&mut self, random: &mut Random) {
-        let chosen = random.below(self.edges.len());
-        let labels = &mut self.edges[chosen].1;
-        if labels.len() < MOST_PARALLEL {
+        let chosen = random.below(self.groups.len());
+        let has_room = self.edges() < MOST_EDGES;
+        let labels = &mut self.groups[chosen].1;
+        if has_room && labels.len() < MOST_GROUPED {
             let label = random.pick(labels);
             labels.insert(random.below(labels.len() + 1), label);
         }
     }
 
-    /// Adds an edge beside one that is there, with some of its labels: nothing
-    /// is joined that was not.
+    /// Edges beside some that are there, with some of their labels: nothing is joined
+    /// that was not.
+    fn group_beside(&self, random: &mut Random) -> Group {
+        let (ends, labels) = &self.groups[random.below(self.groups.len())];
+        let count = random.between(1, MOST_GROUPED);
+        (*ends, (0..count).map(|_| random.pick(labels)).collect())
+    }
+
     pub fn double_edge(&mut self, random: &mut Random) {
-        let (ends, labels) = &self.edges[random.below(self.edges.len())];
-        let count = random.between(1, MOST_PARALLEL);
-        let some: Vec<u8> = (0..count).map(|_| random.pick(labels)).collect();
-        let ends = *ends;
-        if self.edges.len() < MOST_EDGES {
-            self.add_edge(ends, &some);
+        let group = self.group_beside(random);
+        if self.edges() + group.1.len() <= MOST_EDGES {
+            self.groups.push(group);
+        }
+    }
+
+    /// Doubles edges as long as there are fewer groups than this.
+    pub fn fill_groups(&mut self, random: &mut Random, most: usize) {
+        for _ in 0..most {
+            let group = self.group_beside(random);
+            if self.groups.len() < most {
+                self.groups.push(group);
+            }
+        }
+    }
+
+    /// Doubles edges until there are this many.
+    pub fn fill_edges(&mut self, random: &mut Random, count: usize) {
+        while self.edges() < count {
+            let (ends, mut labels) = self.group_beside(random);
+            labels.truncate(count - self.edges());
+            self.groups.push((ends, labels));
         }
     }
 
@@ -187,17 +225,17 @@ impl Sketch {
 
     /// Adds a node that one edge reaches, so that it floats or follows its neighbour.
     pub fn add_branch(&mut self, random: &mut Random) {
-        if self.has_free_node() && self.edges.len() < MOST_EDGES {
-            let (ends, _) = self.edges[random.below(self.edges.len())];
+        if self.has_free_node() && self.edges() < MOST_EDGES {
+            let (ends, _) = self.groups[random.below(self.groups.len())];
             let tip = self.add_inner(channel_of(ends));
             let label = random.below(usize::from(self.labels)) as u8;
-            self.add_edge([random.pick(&ends), tip], &[label]);
+            self.add_edge([random.pick(&ends), tip], label);
         }
     }
 
     /// Adds an edge between two nodes of one network; it may break the type.
     pub fn add_shortcut(&mut self, random: &mut Random) {
-        let (ends, _) = self.edges[random.below(self.edges.len())];
+        let (ends, _) = self.groups[random.below(self.groups.len())];
         let channel = channel_of(ends);
         let mut nodes = rails(channel).to_vec();
         match channel {
@@ -206,11 +244,11 @@ impl Sketch {
         }
         random.shuffle(&mut nodes);
         let label = random.below(usize::from(self.labels)) as u8;
-        self.add_edge([nodes[0], nodes[1]], &[label]);
+        self.add_edge([nodes[0], nodes[1]], label);
     }
 
-    /// Numbers the inner nodes and orders the edges at random, within the channel rule.
-    pub fn numbered(&self, random: &mut Random) -> ModuleType {
+    /// Numbers the inner nodes and orders the groups at random, within the channel rule.
+    pub fn numbered(&self, random: &mut Random) -> Drawn {
         let output = 2 + self.inner_p as u8;
         let mut p_numbers: Vec<u8> = (2..output).collect();
         let mut n_numbers: Vec<u8> = (output + 1..=output + self.inner_n as u8).collect();
@@ -223,25 +261,29 @@ impl Sketch {
             End::InnerP(index) => p_numbers[index],
             End::InnerN(index) => n_numbers[index],
         };
-        let mut edges: Vec<Edge> = Vec::new();
-        for (sketched, labels) in &self.edges {
+        let mut groups: Vec<Vec<Edge>> = Vec::new();
+        for (sketched, labels) in &self.groups {
             let mut ends = sketched.map(number);
             if random.one_in(2) {
                 ends.swap(0, 1);
             }
-            edges.push(Edge {
+            let channel = channel_of(*sketched);
+            let edge = |&label: &u8| Edge {
                 ends,
-                channel: channel_of(*sketched),
-                labels: labels.clone(),
-            });
+                channel,
+                label,
+            };
+            groups.push(labels.iter().map(edge).collect());
         }
-        random.shuffle(&mut edges);
-        ModuleType {
+        random.shuffle(&mut groups);
+        let module = ModuleType {
             highest: output + self.inner_n as u8,
             output,
             labels: self.labels,
-            edges,
-        }
+            edges: groups.concat(),
+        };
+        let sizes = groups.iter().map(Vec::len).collect();
+        Drawn { module, sizes }
     }
 }
 

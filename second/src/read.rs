@@ -2,7 +2,7 @@
 //! then a function for each tag. Tests stand in the order of their numbers, 9
 //! right after 4.
 
-use crate::bodies::{bridge_of, edge_of, inputs_of, instance_of, module_of, vector_of};
+use crate::bodies::{bridge_of, edges_of, inputs_of, instance_of, module_of, vector_of};
 use crate::circuit::{Circuit, Instance, Kind, ListedBridge};
 use crate::conduction::is_complementary;
 use crate::faults::{faults_of, fits, user_list, EXHAUSTIVE};
@@ -119,13 +119,14 @@ impl Reading {
         let Some(module) = self.circuit.types.last_mut() else {
             return Err(refused(4, field));
         };
-        refuse_if(module.edges.len() == MOST_EDGES, 6, field.place)?;
         let (ends, labels) = field.body.split_at(2);
+        let edges = module.edges.len() + labels.len();
+        refuse_if(edges > MOST_EDGES, 6, field.place)?;
         let in_range = ends.iter().all(|&node| node <= module.highest)
             && labels.iter().all(|&label| label < module.labels);
         refuse_if(!in_range, 7, field.place)?;
-        let edge = edge_of(field.body, module.output).ok_or(refused(8, field))?;
-        module.edges.push(edge);
+        let edges = edges_of(field.body, module.output).ok_or(refused(8, field))?;
+        module.edges.extend(edges);
         Ok(())
     }
 

@@ -5,7 +5,7 @@ use crate::builder::{FileBuilder, NamedFile, CARRY, SUM};
 use crate::make::full_circuit;
 use crate::random::Random;
 use crate::starts::{inverter_file, nand_under, nothing};
-use crate::write::{bytes_of, fields_of};
+use crate::write::bytes_of;
 
 /// A seed that gives 64 inputs too, and X for a quarter of the vectors' bytes.
 const FULL_SEED: u64 = 14;
@@ -145,6 +145,6 @@ fn adder() -> FileBuilder {
 }
 
 fn full() -> FileBuilder {
-    let circuit = full_circuit(&mut Random::for_file(FULL_SEED, 0));
-    nothing().raw(&bytes_of(&fields_of(&circuit)))
+    let made = full_circuit(&mut Random::for_file(FULL_SEED, 0));
+    nothing().raw(&bytes_of(&made.fields()))
 }

@@ -1,5 +1,6 @@
-//! Showing a circuit: a line for each field that was read, in file order, and
-//! last the line of a refusal. A file has its fields in the order of the records.
+//! Showing a circuit: a line for each record that was read, in file order, and last
+//! the line of a refusal. An edge is one transistor, so an old file's grouped field
+//! has a line for each of its labels.
 
 use std::fmt::Display;
 
@@ -47,7 +48,7 @@ fn type_line(number: usize, module: &ModuleType) -> String {
 }
 
 fn edge_line(edge: &Edge) -> String {
-    line(Tag::Edge, &spaced(edge.ends.iter().chain(&edge.labels)))
+    line(Tag::Edge, &spaced(edge.ends.iter().chain([&edge.label])))
 }
 
 fn bridge_line(listed: &ListedBridge) -> String {

@@ -85,7 +85,7 @@ pub fn nand_under(vectors: &[&str]) -> FileBuilder {
         .vectors(vectors)
 }
 
-/// Every tag, edges with one to four labels and a repeated one, both kinds of
+/// Every tag, edge fields with one to four labels and a repeated one, both kinds of
 /// bridge, every kind of list choice and of reference, every vector byte.
 pub fn every_kind_file() -> FileBuilder {
     FileBuilder::inputs(3)

@@ -1,16 +1,19 @@
 //! Recipes for complementary module types: series-parallel ones with their
-//! duals, bridge networks, mirror adders, cut networks and types found by search.
+//! duals, bridge networks, mirror adders, cut networks and types found by search;
+//! and full ones, by the limits of old files and by those of today.
 
 use crate::circuit::{Channel, ModuleType};
 use crate::conduction::is_complementary;
-use crate::format::{HIGHEST_NODE, MOST_EDGES, MOST_LABELS};
-use crate::networks::{minimal_cuts, rails, Sketch, Tree};
+use crate::format::{HIGHEST_NODE, MOST_LABELS};
+use crate::networks::{minimal_cuts, rails, Drawn, Sketch, Tree};
 use crate::random::Random;
 
 /// The search for shortcuts judges many types, so their settings are kept few.
 const MOST_SEARCHED_LABELS: u8 = 6;
+/// As many as a type could have while a field was one edge with up to four labels.
+pub const MOST_OLD_FIELDS: usize = 64;
 
-pub fn made_type(random: &mut Random) -> ModuleType {
+pub fn made_type(random: &mut Random) -> Drawn {
     let mut sketch = match random.below(10) {
         0 => simple_gate(random),
         1 => wheatstone(random),
@@ -33,24 +36,36 @@ pub fn made_type(random: &mut Random) -> ModuleType {
 }
 
 pub fn gate_type(random: &mut Random) -> ModuleType {
-    simple_gate(random).numbered(random)
+    simple_gate(random).numbered(random).module
 }
 
-/// A type with 64 edges and, as far as the nodes reach, the highest node 31.
-pub fn full_type(random: &mut Random) -> ModuleType {
-    let leaves = random.between(8, 29);
-    let labels = random.pick(&[1, 2, 6, MOST_LABELS]);
-    let mut sketch = series_parallel(random, leaves, labels);
+/// A type with 64 groups of edges and, as far as the nodes reach, the highest node 31.
+pub fn full_type(random: &mut Random) -> Drawn {
+    let mut sketch = many_leaves(random);
     if random.one_in(2) {
         sketch.group_parallel(random);
     }
     for _ in 0..HIGHEST_NODE {
         sketch.add_idle_node(random);
     }
-    for _ in 0..MOST_EDGES {
-        sketch.double_edge(random);
-    }
+    sketch.fill_groups(random, MOST_OLD_FIELDS);
     sketch.numbered(random)
+}
+
+/// A type with this many edges, most of them beside others, and some idle nodes.
+pub fn crowded_type(random: &mut Random, edges: usize) -> Drawn {
+    let mut sketch = many_leaves(random);
+    for _ in 0..random.pick(&[0, 3, HIGHEST_NODE]) {
+        sketch.add_idle_node(random);
+    }
+    sketch.fill_edges(random, edges);
+    sketch.numbered(random)
+}
+
+fn many_leaves(random: &mut Random) -> Sketch {
+    let leaves = random.between(8, 29);
+    let labels = random.pick(&[1, 2, 6, MOST_LABELS]);
+    series_parallel(random, leaves, labels)
 }
 
 fn decorate(random: &mut Random, sketch: &mut Sketch) {
@@ -109,7 +124,7 @@ fn wheatstone(random: &mut Random) -> Sketch {
             [right, bottom],
         ];
         for (ends, index) in places.into_iter().zip(order) {
-            sketch.add_edge(ends, &[labels[index]]);
+            sketch.add_edge(ends, labels[index]);
         }
     }
     sketch
@@ -163,7 +178,7 @@ fn cut_sketch(
     let mut ends = rails(graph_side).to_vec();
     ends.extend((2..nodes).map(|_| sketch.add_inner(graph_side)));
     for (&(a, b), &label) in edges.iter().zip(labels) {
-        sketch.add_edge([ends[a], ends[b]], &[label]);
+        sketch.add_edge([ends[a], ends[b]], label);
     }
     let cut_side = match graph_side {
         Channel::P => Channel::N,
@@ -184,7 +199,7 @@ fn searched(random: &mut Random) -> Sketch {
     for _ in 0..12 {
         let mut tried = sketch.clone();
         tried.add_shortcut(random);
-        if tried.has_room() && is_complementary(&tried.numbered(random)) {
+        if tried.has_room() && is_complementary(&tried.numbered(random).module) {
             sketch = tried;
         }
     }

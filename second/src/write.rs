@@ -1,7 +1,8 @@
 //! A circuit written as loose fields and then as bytes. Loose fields may be
-//! changed in between, and may state a length that is not their body's.
+//! changed in between, may be grouped as in old files, and may state a length that is
+//! not their body's.
 
-use crate::circuit::{Circuit, Instance, ListedBridge, ModuleType, Value};
+use crate::circuit::{Circuit, Edge, Instance, ListedBridge, ModuleType, Value};
 use crate::format::Tag;
 
 #[derive(Clone, Debug, PartialEq, Eq)]
@@ -51,12 +52,31 @@ pub fn fields_of(circuit: &Circuit) -> Vec<LooseField> {
 pub fn type_fields(module: &ModuleType) -> Vec<LooseField> {
     let numbers = vec![module.highest, module.output, module.labels];
     let mut fields = vec![LooseField::new(Tag::Type, numbers)];
-    for edge in &module.edges {
-        let mut body = edge.ends.to_vec();
-        body.extend_from_slice(&edge.labels);
-        fields.push(LooseField::new(Tag::Edge, body));
-    }
+    fields.extend(module.edges.iter().map(edge_field));
     fields
+}
+
+fn edge_field(edge: &Edge) -> LooseField {
+    let [a, b] = edge.ends;
+    LooseField::new(Tag::Edge, vec![a, b, edge.label])
+}
+
+/// The same fields, but with the edges in groups of these sizes, as old files may
+/// have them. The edges of a group stand one after another and have the same ends.
+pub fn grouped(fields: Vec<LooseField>, sizes: &[usize]) -> Vec<LooseField> {
+    let mut fields = fields.into_iter();
+    let mut sizes = sizes.iter();
+    let mut grouped = Vec::new();
+    while let Some(mut field) = fields.next() {
+        if field.is(Tag::Edge) {
+            let size = sizes.next().copied().unwrap_or(1);
+            for other in fields.by_ref().take(size - 1) {
+                field.body.extend_from_slice(&other.body[2..]);
+            }
+        }
+        grouped.push(field);
+    }
+    grouped
 }
 
 pub fn bridge_field(listed: &ListedBridge) -> LooseField {

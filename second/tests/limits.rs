@@ -16,9 +16,22 @@ fn check(name: &str, most: usize, number: u8, place: usize) {
     assert_eq!(refusal_with(most + 1), Some((number, place)), "{name}");
 }
 
+/// Counted by label, in fields of one label or of more. The single ones stand before
+/// the groups, the last of which is refused as a whole.
 #[test]
-fn edges_64() {
-    check("edges", 64, 6, 23 + 62 * 9);
+fn edges_256() {
+    for group in 1..=4 {
+        let refusal_with = |count: usize| {
+            let name = format!("edges-{count}-by-{group}.cir");
+            refusal(&limit_file(&name))
+        };
+        for count in [64, 65, 255, 256] {
+            assert_eq!(refusal_with(count), None, "{count} by {group}");
+        }
+        let (singles, groups) = (257 % group, 257 / group - 1);
+        let place = 11 + 6 * singles + (5 + group) * groups;
+        assert_eq!(refusal_with(257), Some((6, place)), "257 by {group}");
+    }
 }
 
 #[test]
@@ -53,19 +66,28 @@ fn faults_2048() {
     assert_eq!(ask(8_192, 2_047), refused(22, 2_048));
 }
 
-/// An accepted file cannot reach 32,768 bytes, so at the limit another number is
+/// An accepted file cannot reach 57,344 bytes, so at the limit another number is
 /// given, and one past it number 1.
 #[test]
-fn bytes_32768() {
-    let file = limit_file("bytes-31973-fullest.cir");
-    assert_eq!(file.len(), 31_973);
+fn bytes_57344() {
+    let file = limit_file("bytes-47333-fullest.cir");
+    assert_eq!(file.len(), 47_333);
     assert_eq!(refusal(&file), None);
     let mut longer = file;
-    longer.extend([6, 3, 24]);
-    longer.resize(32_768, b'0');
-    assert_eq!(refusal(&longer), Some((5, 31_973)));
+    longer.extend([6, 39, 24]);
+    longer.resize(57_344, b'0');
+    assert_eq!(refusal(&longer), Some((5, 47_333)));
     longer.push(b'0');
     assert_eq!(refusal(&longer), Some((1, 0)));
+}
+
+/// Around the limit that there once was, and further on.
+#[test]
+fn accepted_files_of_more_than_32768_bytes() {
+    for length in [32_767, 32_768, 32_769, 32_770, 40_000, 47_000] {
+        let file = limit_file(&format!("bytes-{length}-fewer-edges.cir"));
+        assert_eq!((file.len(), refusal(&file)), (length, None));
+    }
 }
 
 #[test]

@@ -5,15 +5,17 @@ mod support;
 
 use second::circuit::{Circuit, Kind, ModuleType, Value};
 use second::damage::damaged_file;
+use second::fields::cut;
 use second::grade::{Graded, Row};
 use second::make::{made_circuit, made_file};
 use second::read::read;
+use second::refusal::Refusal;
 use second::write::{bytes_of, fields_of};
 use support::answer;
 
 const SEED: u64 = 20;
 const MADE: u64 = 320;
-const DAMAGED: u64 = 1_080;
+const DAMAGED: u64 = 1_085;
 
 fn made_circuits() -> impl Iterator<Item = Circuit> {
     (0..MADE).map(|index| made_circuit(SEED, index))
@@ -41,8 +43,49 @@ fn made_files_reach_the_limits() {
     assert!(any(|circuit| circuit.vectors.len() == 256));
     assert!(any(|circuit| graded(circuit).rows.len() == 2_048));
     assert!(any(|circuit| circuit.types.iter().any(|module| {
-        (module.edges.len(), module.highest, module.labels) == (64, 31, 12)
+        (module.edges.len(), module.highest, module.labels) == (256, 31, 12)
     })));
+}
+
+/// The labels of each edge field of a made file.
+fn edge_fields(index: u64) -> Vec<Vec<u8>> {
+    let bytes = made_file(SEED, index);
+    let mut labels = Vec::new();
+    let mut place = 0;
+    while place < bytes.len() {
+        let field = cut(&bytes, place).expect("made files are whole");
+        if field.tag == 3 {
+            labels.push(field.body[2..].to_vec());
+        }
+        place = field.end();
+    }
+    labels
+}
+
+/// Old files and new ones: a third at least of either kind, and groups of each size.
+#[test]
+fn some_made_files_have_grouped_fields_and_some_have_none() {
+    let mut sizes = [0; 5];
+    let mut grouped = 0;
+    for index in 0..MADE {
+        let fields = edge_fields(index);
+        for labels in &fields {
+            sizes[labels.len()] += 1;
+        }
+        grouped += u64::from(fields.iter().any(|labels| labels.len() > 1));
+    }
+    assert!((MADE / 3..=2 * MADE / 3).contains(&grouped), "{grouped}");
+    assert!(sizes[1..].iter().all(|&count| count > 200), "{sizes:?}");
+}
+
+/// Longer than an old file could be, and types with more edges than one had fields.
+#[test]
+fn some_made_files_pass_the_old_limits() {
+    let lengths = (0..MADE).map(|index| made_file(SEED, index).len());
+    assert!(lengths.filter(|&length| length > 32_768).count() > 1);
+    let is_crowded = |circuit: &Circuit| circuit.types.iter().any(|one| one.edges.len() > 64);
+    let crowded = made_circuits().filter(is_crowded).count();
+    assert!(crowded as u64 > MADE / 10, "{crowded}");
 }
 
 /// The greatest number of instances one after another from an input on.
@@ -80,11 +123,8 @@ fn made_files_are_varied() {
         let graded = graded(circuit);
         usize::from(graded.classes) < graded.rows.len()
     }));
-    assert!(any(|circuit| circuit.types.iter().any(|module| {
-        let repeats =
-            |labels: &[u8]| (1..labels.len()).any(|at| labels[..at].contains(&labels[at]));
-        module.edges.iter().any(|edge| repeats(&edge.labels))
-    })));
+    let repeats = |labels: &Vec<u8>| (1..labels.len()).any(|at| labels[..at].contains(&labels[at]));
+    assert!((0..MADE).any(|index| edge_fields(index).iter().any(repeats)));
     assert!(any(|circuit| circuit
         .vectors
         .iter()
@@ -104,6 +144,21 @@ fn damaged_files_reach_every_number() {
     }
 }
 
+/// One edge too many, in fields of one to four labels.
+#[test]
+fn damaged_files_pass_the_limit_of_edges_by_fields_of_each_size() {
+    let mut sizes = [0; 5];
+    for index in 0..DAMAGED {
+        let bytes = damaged_file(SEED, index);
+        if let Err(Refusal { number: 6, place }) = read(&bytes) {
+            if bytes[place] == 3 {
+                sizes[usize::from(bytes[place + 2]) - 2] += 1;
+            }
+        }
+    }
+    assert!(sizes[1..].iter().all(|&count| count > 0), "{sizes:?}");
+}
+
 /// FNV-1a over the files, so that a change of the makers, or a machine on which
 /// they differ, shows here.
 #[test]
@@ -114,8 +169,8 @@ fn files_are_the_same_everywhere() {
             (sum ^ u64::from(byte)).wrapping_mul(0x100_0000_01b3)
         })
     };
-    assert_eq!(checksum(made_file), 0x3974_48c3_15d4_9f52);
-    assert_eq!(checksum(damaged_file), 0x17de_c1c2_00c8_8ea4);
+    assert_eq!(checksum(made_file), 0x004f_5e49_c3d8_7cd8);
+    assert_eq!(checksum(damaged_file), 0x2929_4a9a_76b7_1cf0);
 }
 
 /// In an exhaustive list the bridges to the rails show which nodes and labels are

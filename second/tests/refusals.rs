@@ -28,12 +28,12 @@ fn check_at_field(cases: Vec<Case>) {
 
 #[test]
 fn number_1_comes_before_all() {
-    let junk = vec![255; 32_769];
+    let junk = vec![255; 57_345];
     assert_eq!(refusal(&junk), Some((1, 0)));
     assert_eq!(refusal(&junk[1..]), Some((2, 0)));
     let mut zeros = with_vector().bytes;
     let end = zeros.len();
-    zeros.resize(32_768, 0);
+    zeros.resize(57_344, 0);
     assert_eq!(refusal(&zeros), Some((3, end)));
     zeros.push(0);
     assert_eq!(refusal(&zeros), Some((1, 0)));
@@ -140,7 +140,14 @@ fn number_5_for_lengths() {
         ("short vector", with_instance(), 6, b"0", 5),
         ("long vector", with_instance(), 6, b"000", 5),
         ("5 before 6, type", with_types(16), 2, &[2, 2], 5),
-        ("5 before 6, edge", with_edges(64), 3, &[1, 2], 5),
+        ("5 before 6, edge", with_edges(256), 3, &[1, 2], 5),
+        (
+            "5 before 6, five",
+            with_edges(255),
+            3,
+            &[1, 2, 0, 0, 0, 0, 0],
+            5,
+        ),
         ("5 before 6, bridge", with_many_bridges(256), 4, &[1], 5),
         ("5 before 6, instance", with_instances(128), 5, &[1, 0], 5),
         ("5 before 6, vector", with_vectors(256), 6, b"0", 5),
@@ -159,16 +166,20 @@ fn number_5_for_lengths() {
 fn number_6_for_one_too_many() {
     check_at_field(vec![
         ("17th type", with_types(16), 2, &[2, 2, 1], 6),
-        ("65th edge", with_edges(64), 3, &[1, 2, 0], 6),
+        ("257th edge", with_edges(256), 3, &[1, 2, 0], 6),
+        ("256th and 257th", with_edges(255), 3, &[1, 2, 0, 0], 6),
+        ("254th to 257th", with_edges(253), 3, &[1, 2, 0, 0, 0, 0], 6),
         ("257th bridge", with_many_bridges(256), 4, &[1, 0, 0, 1], 6),
         ("129th instance", with_instances(128), 5, &[1, 0, 0, 1], 6),
         ("257th vector", with_vectors(256), 6, b"00", 6),
         ("6 before 7, type", with_types(16), 2, &[0, 0, 0], 6),
-        ("6 before 7, edge", with_edges(64), 3, &[9, 9, 9], 6),
+        ("6 before 7, edge", with_edges(256), 3, &[9, 9, 9], 6),
+        ("6 before 7, pair", with_edges(255), 3, &[1, 2, 9, 0], 6),
         ("6 before 7, bridge", with_many_bridges(256), 4, &[0; 4], 6),
         ("6 before 7, instance", with_instances(128), 5, &[0; 4], 6),
         ("6 before 7, vector", with_vectors(256), 6, b"xx", 6),
-        ("6 before 8", with_edges(64), 3, &[0, 1, 0], 6),
+        ("6 before 8", with_edges(256), 3, &[0, 1, 0], 6),
+        ("6 before 8, pair", with_edges(255), 3, &[0, 1, 0, 0], 6),
         ("6 before 10", with_instances(128), 5, &[1, 0, 0, 0], 6),
         ("6 before 11", with_instances(128), 5, &[1, 2, 0, 1], 6),
         ("6 before 12", with_instances(128), 5, &[1, 9, 0, 1], 6),

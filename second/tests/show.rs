@@ -24,12 +24,18 @@ type 1 2 2 1
 edge 1 2 0
 edge 0 2 0
 type 2 3 2 2
-edge 1 2 0 1 0
+edge 1 2 0
+edge 1 2 1
+edge 1 2 0
 edge 2 3 0
 edge 3 0 1
 type 3 5 3 4
-edge 1 2 0 1
-edge 2 3 2 3 2 2
+edge 1 2 0
+edge 1 2 1
+edge 2 3 2
+edge 2 3 3
+edge 2 3 2
+edge 2 3 2
 edge 3 4 0
 edge 4 0 1
 edge 0 5 2
@@ -80,7 +86,7 @@ fn largest_numbers() {
 fn refused_files() {
     assert_eq!(show_of(&[]), "refused 14 at 0\n");
     assert_eq!(show_of(&[1]), "refused 2 at 0\n");
-    assert_eq!(show_of(&[1; 32_769]), "refused 1 at 0\n");
+    assert_eq!(show_of(&[1; 57_345]), "refused 1 at 0\n");
     let misfit = with_type().bridge(1, 0, 0, 3).instance(1, 1, &[1]);
     let before = "inputs 2\ntype 1 2 2 1\nedge 1 2 0\nedge 0 2 0\nbridge 1 n 0 3\n";
     assert_eq!(
@@ -132,19 +138,25 @@ fn unfinished_types() {
     assert_eq!(show_of(&with_type().bytes), refused(14, 23));
 }
 
-/// Each line stands for one field of the file, its word for the field's tag.
+/// Each field of the file has a line, its word for the field's tag. An edge field has
+/// one for each of its labels.
 #[test]
-fn a_line_for_each_field_of_a_made_file() {
+fn lines_for_each_field_of_a_made_file() {
     for index in 0..40 {
         let bytes = made_file(11, index);
         let shown = show_of(&bytes);
+        let mut lines = shown.lines();
         let mut place = 0;
-        for line in shown.lines() {
-            let word = line.split(' ').next();
+        while place < bytes.len() {
+            let length = 256 * usize::from(bytes[place + 1]) + usize::from(bytes[place + 2]);
+            let count = if bytes[place] == 3 { length - 2 } else { 1 };
             let tags = ["inputs", "type", "edge", "bridge", "instance", "vector"];
-            assert_eq!(word, Some(tags[usize::from(bytes[place]) - 1]));
-            place += 3 + 256 * usize::from(bytes[place + 1]) + usize::from(bytes[place + 2]);
+            let word = tags[usize::from(bytes[place]) - 1];
+            for line in lines.by_ref().take(count) {
+                assert_eq!(line.split(' ').next(), Some(word));
+            }
+            place += 3 + length;
         }
-        assert_eq!(place, bytes.len());
+        assert_eq!((place, lines.next()), (bytes.len(), None));
     }
 }

@@ -1,6 +1,6 @@
 //! What the fields before a place say. They are good ones: the refusal is the first.
 
-use second::bodies::{bridge_of, edge_of, inputs_of, instance_of, module_of};
+use second::bodies::{bridge_of, edges_of, inputs_of, instance_of, module_of};
 use second::circuit::Circuit;
 use second::faults::faults_of;
 use second::fields::{cut, Field};
@@ -49,9 +49,9 @@ impl Before {
     fn take_edge(&mut self, body: &[u8]) {
         let latest = self.circuit.types.last_mut();
         let module = latest.expect("an edge that is not refused stands after its type");
-        let edge = edge_of(body, module.output);
-        let edge = edge.expect("an edge that is not refused has a channel");
-        module.edges.push(edge);
+        let edges = edges_of(body, module.output);
+        let edges = edges.expect("an edge that is not refused has a channel");
+        module.edges.extend(edges);
     }
 
     fn take_bridge(&mut self, field: &Field) {

@@ -2,7 +2,7 @@
 //! length, cut fields, tags, their order, lengths of fields, counts, and the end.
 
 use second::format::{
-    Tag, HEAD, LONGEST_FILE, MOST_BRIDGES, MOST_EDGES, MOST_INSTANCES, MOST_LABELS, MOST_PARALLEL,
+    Tag, HEAD, LONGEST_FILE, MOST_BRIDGES, MOST_EDGES, MOST_GROUPED, MOST_INSTANCES, MOST_LABELS,
     MOST_TYPES, MOST_VECTORS,
 };
 
@@ -99,8 +99,8 @@ pub fn wrong_length(scene: &Scene) -> Told {
             "a type takes 3 bytes: highest node, output node, number of labels.".to_string()
         }
         Tag::Edge => format!(
-            "an edge takes 3 to {} bytes: two nodes and 1 to {MOST_PARALLEL} labels.",
-            2 + MOST_PARALLEL
+            "an edge takes 3 to {} bytes: two nodes and 1 to {MOST_GROUPED} labels.",
+            2 + MOST_GROUPED
         ),
         Tag::Bridge => "a bridge takes 4 bytes: list, kind, first and second end.".to_string(),
         Tag::Instance => format!(

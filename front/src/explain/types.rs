@@ -1,7 +1,7 @@
 //! Refusals 8 and 9: an edge that has no channel, and a type whose output is joined
 //! to both rails or to neither under some setting of its labels.
 
-use second::bodies::{edge_of, module_of};
+use second::bodies::{edges_of, module_of};
 use second::circuit::ModuleType;
 use second::conduction::{is_on, values_in, GROUND, SUPPLY};
 use second::fields::{cut, Field};
@@ -42,10 +42,10 @@ pub fn not_complementary(scene: &Scene, bytes: &[u8]) -> (String, Told) {
     let mut end = scene.field.end();
     let is_edge = |next: &Field| Tag::of(next.tag).is_some_and(Tag::is_edge);
     while let Some(next) = cut(bytes, end).ok().filter(is_edge) {
-        let edge = edge_of(next.body, module.output);
+        let edges = edges_of(next.body, module.output);
         module
             .edges
-            .push(edge.expect("an edge of a type that is judged has a channel"));
+            .extend(edges.expect("an edge of a type that is judged has a channel"));
         end = next.end();
     }
     let name = scene.before.next_of(scene.tag());

@@ -1,24 +1,35 @@
-//! Files of 32,768 bytes, of one more, and far longer. No accepted file is that
-//! long, so at the limit another number is given.
+//! Files of 57,344 bytes, of one more, and far longer; accepted files around 32,768
+//! bytes, which once was the limit, and up to the longest there can be. No accepted
+//! file has 57,344 bytes, so at the limit another number is given.
 
 use super::{named, NamedFile};
 use crate::builder::FileBuilder;
 use crate::starts::inverter_file;
 
 /// 65,578 is 42 more than two bytes hold, as the inverter's file is long.
-const LENGTHS: [usize; 9] = [
-    32_767, 32_768, 32_769, 32_770, 65_535, 65_536, 65_578, 131_114, 1_000_000,
+const LENGTHS: [usize; 12] = [
+    32_767, 32_768, 32_769, 57_343, 57_344, 57_345, 57_346, 65_535, 65_536, 65_578, 131_114,
+    1_000_000,
 ];
 
+const GOOD_LENGTHS: [usize; 6] = [32_767, 32_768, 32_769, 32_770, 40_000, 47_000];
+
 pub fn files() -> Vec<NamedFile> {
-    let mut files = vec![named("bytes-31973-fullest", fullest())];
+    let mut files = vec![
+        named("bytes-47333-fullest", fullest()),
+        named("bytes-31973-fullest-by-4", filled(&[[4; 64]; 16])),
+    ];
+    for length in GOOD_LENGTHS {
+        let name = format!("bytes-{length}-fewer-edges");
+        files.push(named(name, with_fewer_edges(length)));
+    }
     for length in LENGTHS {
         let zeros = inverter_file().resized(length);
         let junk = FileBuilder::default().raw(&vec![255; length]);
         files.push(named(format!("bytes-{length}-inverter-then-zeros"), zeros));
         files.push(named(format!("bytes-{length}-all-255"), junk));
     }
-    for length in 32_767..=32_770 {
+    for length in 57_343..=57_346 {
         let name = format!("bytes-{length}-fullest-then-long-vector");
         files.push(named(name, with_long_vector(length, 0)));
         let name = format!("bytes-{length}-fullest-then-cut-vector");
@@ -27,19 +38,40 @@ pub fn files() -> Vec<NamedFile> {
     files
 }
 
-/// The fullest file that the other limits allow: 31,973 bytes.
-fn fullest() -> FileBuilder {
-    let module = |file: FileBuilder| {
-        let file = file.field(2, &[31, 31, 12]);
-        let file = file.times(32, |file| file.field(3, &[1, 31, 0, 0, 0, 0]));
-        file.times(32, |file| file.field(3, &[31, 0, 0, 0, 0, 0]))
-    };
+/// All but the edges at the limit. For each type, the labels in each of its edge
+/// fields, which lead from supply and to ground in turn.
+fn filled(types: &[impl AsRef<[usize]>]) -> FileBuilder {
     let vector = "10X1".repeat(16);
-    FileBuilder::inputs(64)
-        .times(16, module)
+    types
+        .iter()
+        .fold(FileBuilder::inputs(64), |file, sizes| {
+            with_type(file, sizes.as_ref())
+        })
         .times(256, |file| file.bridge(1, 0, 0, 1))
         .times(128, |file| file.instance(16, 0, &[64; 12]))
         .times(256, |file| file.vectors(&[vector.as_str()]))
+}
+
+fn with_type(file: FileBuilder, sizes: &[usize]) -> FileBuilder {
+    let ends = [[1, 31], [31, 0]].into_iter().cycle();
+    let edges = sizes.iter().zip(ends);
+    edges.fold(file.field(2, &[31, 31, 12]), |file, (&size, ends)| {
+        file.field(3, &[&ends[..], &vec![0; size]].concat())
+    })
+}
+
+/// The fullest file that the other limits allow: 47,333 bytes.
+fn fullest() -> FileBuilder {
+    filled(&[[1; 256]; 16])
+}
+
+/// A field of one label takes 6 bytes, one of two labels 7.
+fn with_fewer_edges(length: usize) -> FileBuilder {
+    let bytes = length - filled(&[[]; 16]).end();
+    let mut sizes = vec![1; bytes / 6];
+    sizes[..bytes % 6].fill(2);
+    let types: Vec<&[usize]> = sizes.chunks(sizes.len().div_ceil(16)).collect();
+    filled(&types)
 }
 
 /// One vector to the end of the file, which states `missing` bytes more.

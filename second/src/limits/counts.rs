@@ -1,8 +1,8 @@
-//! How many edges, types, bridges, instances, vectors and faults: at each limit,
-//! one below and one past it, and vectors around the ends of 64-bit words.
+//! How many types, bridges, instances, vectors and faults: at each limit, one below
+//! and one past it, and vectors around the ends of 64-bit words.
 
 use super::{named, NamedFile};
-use crate::builder::{FileBuilder, INVERTER};
+use crate::builder::FileBuilder;
 
 const WORD_ENDS: [usize; 9] = [1, 63, 64, 65, 127, 128, 129, 192, 193];
 
@@ -10,8 +10,7 @@ const WORD_ENDS: [usize; 9] = [1, 63, 64, 65, 127, 128, 129, 192, 193];
 type Counted = (&'static str, usize, fn(usize) -> FileBuilder);
 
 pub fn files() -> Vec<NamedFile> {
-    let kinds: [Counted; 7] = [
-        ("edges", 64, edges),
+    let kinds: [Counted; 6] = [
         ("types", 16, types),
         ("bridges", 256, bridges),
         ("instances", 128, instances),
@@ -26,17 +25,8 @@ pub fn files() -> Vec<NamedFile> {
     }
     let word_ends = WORD_ENDS.iter();
     files.extend(word_ends.map(|&count| named(format!("vectors-{count}"), vectors(count))));
-    files.extend(edges_of_later_types());
     files.extend(faults_of_many_instances());
     files
-}
-
-fn edges(count: usize) -> FileBuilder {
-    FileBuilder::inputs(1)
-        .module(2, 2, 1, INVERTER)
-        .times(count - 2, |file| file.field(3, &[2, 1, 0, 0, 0, 0]))
-        .instance(1, -1, &[1])
-        .vectors(&["0"])
 }
 
 fn types(count: usize) -> FileBuilder {
@@ -95,24 +85,6 @@ fn faults_exhaustive_last(count: usize) -> FileBuilder {
 
 fn largest_type() -> FileBuilder {
     FileBuilder::inputs(1).module(31, 31, 12, &[(1, 31, &[0]), (31, 0, &[0])])
-}
-
-/// The limit of edges is for one type, not for all of them.
-fn edges_of_later_types() -> Vec<NamedFile> {
-    let file = |more: usize| {
-        FileBuilder::inputs(1)
-            .times(16, |file| {
-                file.inverter()
-                    .times(62, |file| file.field(3, &[2, 0, 0, 0]))
-            })
-            .times(more, |file| file.field(3, &[2, 0, 0, 0]))
-            .instance(16, -1, &[1])
-            .vectors(&["1"])
-    };
-    vec![
-        named("edges-64-in-each-of-16-types", file(0)),
-        named("edges-65-in-type-16", file(1)),
-    ]
 }
 
 /// Totals of none, of the limit in as many instances as there may be, and past

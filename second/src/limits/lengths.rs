@@ -5,9 +5,10 @@ use super::frame::{framed, good_body};
 use super::{named, NamedFile};
 use crate::builder::{FileBuilder, INVERTER};
 
-/// 256 more than each good length, their neighbours, and long ones.
-const HIGH_BYTE: [usize; 12] = [
-    255, 256, 257, 258, 259, 260, 261, 262, 263, 282, 4_096, 30_000,
+/// 256 more than each good length, their neighbours, and long ones, some with the
+/// highest bit set.
+const HIGH_BYTE: [usize; 15] = [
+    255, 256, 257, 258, 259, 260, 261, 262, 263, 282, 4_096, 30_000, 32_770, 32_771, 32_772,
 ];
 
 pub fn files() -> Vec<NamedFile> {

@@ -167,7 +167,7 @@ fn series(from: u8, labels: &[u8]) -> Vec<EdgeRow<'_>> {
         .collect()
 }
 
-/// As few edges as hold all labels.
+/// As few fields as hold all labels.
 fn parallel(a: u8, b: u8, labels: &[u8]) -> Vec<EdgeRow<'_>> {
     labels.chunks(4).map(|some| (a, b, some)).collect()
 }

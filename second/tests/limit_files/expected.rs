@@ -11,10 +11,6 @@ use crate::support::refusal;
 type Expected = (&'static str, Option<(u8, usize)>);
 
 const COUNTS: &[Expected] = &[
-    ("edges-64", None),
-    ("edges-65", Some((6, 581))),
-    ("edges-64-in-each-of-16-types", None),
-    ("edges-65-in-type-16", Some((6, 7_237))),
     ("types-16", None),
     ("types-17", Some((6, 293))),
     ("bridges-256", None),
@@ -38,14 +34,55 @@ const COUNTS: &[Expected] = &[
     ("faults-112640-exhaustive", Some((13, 81))),
 ];
 
+/// By one label to four, the 257th edge is in field 257, 129, 87 and 65. There are as
+/// many single fields before the groups as the count leaves over.
+const EDGES: &[Expected] = &[
+    ("edges-65-by-1", None),
+    ("edges-65-by-4", None),
+    ("edges-256-by-1", None),
+    ("edges-257-by-1", Some((6, 11 + 256 * 6))),
+    ("edges-256-by-2", None),
+    ("edges-257-by-2", Some((6, 11 + 6 + 127 * 7))),
+    ("edges-258-by-2", Some((6, 11 + 128 * 7))),
+    ("edges-256-by-3", None),
+    ("edges-258-by-3", Some((6, 11 + 85 * 8))),
+    ("edges-256-by-4", None),
+    ("edges-257-by-4", Some((6, 11 + 6 + 63 * 9))),
+    ("edges-260-by-4", Some((6, 11 + 64 * 9))),
+    ("edges-254-by-1-then-2", None),
+    ("edges-255-by-1-then-2", Some((6, 11 + 255 * 6))),
+    ("edges-252-by-4-then-4", None),
+    ("edges-253-by-4-then-4", Some((6, 11 + 6 + 63 * 9))),
+    ("edges-256-by-4-then-1", Some((6, 11 + 64 * 9))),
+    ("edges-256-by-1-of-which-256-breaks", Some((9, 5))),
+    ("edges-256-by-1-of-which-256-is-needed", None),
+    ("edges-256-by-4-of-which-64-breaks", Some((9, 5))),
+    ("edges-256-by-4-of-which-65-is-needed", None),
+    ("edges-256-by-1-in-each-of-16-types", None),
+    (
+        "edges-256-by-1-then-1-in-type-16",
+        Some((6, 5 + 16 * (6 + 256 * 6))),
+    ),
+    ("edges-256-by-4-in-each-of-16-types", None),
+    (
+        "edges-256-by-4-then-1-in-type-16",
+        Some((6, 5 + 16 * (6 + 64 * 9))),
+    ),
+];
+
 const BYTES_AND_CUTS: &[Expected] = &[
-    ("bytes-31973-fullest", None),
-    ("bytes-32768-inverter-then-zeros", Some((3, 42))),
-    ("bytes-32769-inverter-then-zeros", Some((1, 0))),
-    ("bytes-32768-all-255", Some((2, 0))),
-    ("bytes-32769-all-255", Some((1, 0))),
-    ("bytes-32768-fullest-then-long-vector", Some((5, 31_973))),
-    ("bytes-32768-fullest-then-cut-vector", Some((2, 31_973))),
+    ("bytes-31973-fullest-by-4", None),
+    ("bytes-32768-fewer-edges", None),
+    ("bytes-32769-fewer-edges", None),
+    ("bytes-32769-inverter-then-zeros", Some((3, 42))),
+    ("bytes-47000-fewer-edges", None),
+    ("bytes-47333-fullest", None),
+    ("bytes-57344-inverter-then-zeros", Some((3, 42))),
+    ("bytes-57345-inverter-then-zeros", Some((1, 0))),
+    ("bytes-57344-all-255", Some((2, 0))),
+    ("bytes-57345-all-255", Some((1, 0))),
+    ("bytes-57344-fullest-then-long-vector", Some((5, 47_333))),
+    ("bytes-57344-fullest-then-cut-vector", Some((2, 47_333))),
     ("bytes-65578-inverter-then-zeros", Some((1, 0))),
     ("bytes-1000000-all-255", Some((1, 0))),
     ("cut-inverter-0-of-42", Some((14, 0))),
@@ -199,6 +236,9 @@ const TAGS_AND_ORDERS: &[Expected] = &[
     ("order-2-before-9-head", Some((2, 17))),
     ("order-9-before-5-tag4", Some((9, 5))),
     ("order-9-before-5-tag4-mended", Some((5, 23))),
+    ("order-5-before-6-tag3-five", Some((5, 11 + 253 * 6))),
+    ("order-6-before-7-pair-first-label", Some((6, 23 + 253 * 6))),
+    ("order-6-before-8-four-channel", Some((6, 23 + 251 * 6))),
     ("order-6-before-13", Some((6, 2_711))),
     ("order-6-before-13-mended", Some((13, 2_704))),
     ("order-11-before-13", Some((11, 1_899))),
@@ -219,6 +259,11 @@ fn check(table: &[Expected]) {
 #[test]
 fn counts() {
     check(COUNTS);
+}
+
+#[test]
+fn edges() {
+    check(EDGES);
 }
 
 #[test]

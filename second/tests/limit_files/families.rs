@@ -55,7 +55,7 @@ fn field_lengths() {
             (_, numbers) => good(numbers[0], &[64]),
         };
         let more = if tag == 6 { 8 } else { 0 };
-        assert_eq!(check(&format!("length-tag{tag}-"), rule), 31 + 12 + more);
+        assert_eq!(check(&format!("length-tag{tag}-"), rule), 31 + 15 + more);
     }
 }
 
@@ -66,7 +66,7 @@ fn instance_lengths() {
         [length, ..] if length % 2 == 1 || *length < 4 || *length > 26 => 5,
         _ => 10,
     };
-    assert_eq!(check("length-tag5-", rule), 31 + 12 + 31);
+    assert_eq!(check("length-tag5-", rule), 31 + 15 + 31);
 }
 
 #[test]
@@ -110,6 +110,20 @@ fn edges() {
         7 * u8::from(labels.iter().any(|label| label >= k))
     };
     assert!(check("edge-labels-", labels) > 100);
+}
+
+/// Labels count, not fields; a number behind `then` is of one field more.
+#[test]
+fn edge_counts() {
+    let rule = |rest: &str, numbers: &[usize]| {
+        let more = if rest.contains("then") { numbers[2] } else { 0 };
+        match numbers[0] + more {
+            0..=256 if rest.ends_with("breaks") => 9,
+            0..=256 => 0,
+            _ => 6,
+        }
+    };
+    assert_eq!(check("edges-", rule), 4 * 10 + 2 * (20 + 14 + 2));
 }
 
 #[test]

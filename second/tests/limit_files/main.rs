@@ -37,6 +37,6 @@ fn every_number_is_reached() {
         tally[usize::from(number)] += 1;
     }
     // As the README says.
-    assert_eq!((files.len(), tally[0]), (3_849, 751));
+    assert_eq!((files.len(), tally[0]), (4_009, 815));
     assert!(tally.iter().all(|&count| count >= 17), "{tally:?}");
 }

@@ -14,6 +14,7 @@ pub fn meetings() -> Vec<Meeting> {
         lengths_and_numbers(),
         lengths_and_instances(),
         counts_and_numbers(),
+        edges_and_numbers(),
         counts_and_instances(),
         numbers_and_others(),
         references_and_lists(),
@@ -23,9 +24,11 @@ pub fn meetings() -> Vec<Meeting> {
 
 fn lengths_and_counts() -> Vec<Meeting> {
     let (short, good): (&[u8], &[u8]) = (&[1, 0], &[1, 0, 0, 1]);
+    let (five, four): (&[u8], &[u8]) = (&[1, 2, 0, 0, 0, 0, 0], &[1, 2, 0, 0, 0, 0]);
     vec![
         within((5, 6, "tag2"), with_types(16), 2, &[2, 2], &[2, 2, 1]),
-        within((5, 6, "tag3"), with_edges(64), 3, &[1, 2], &[1, 2, 0]),
+        within((5, 6, "tag3"), with_edges(256), 3, &[1, 2], &[1, 2, 0]),
+        within((5, 6, "tag3-five"), with_edges(253), 3, five, four),
         within((5, 6, "tag4"), with_many_bridges(256), 4, short, good),
         within((5, 6, "tag5"), with_instances(128), 5, short, good),
         within((5, 6, "tag6"), with_vectors(256), 6, b"0", b"00"),
@@ -72,15 +75,9 @@ fn lengths_and_instances() -> Vec<Meeting> {
 
 fn counts_and_numbers() -> Vec<Meeting> {
     let (few, many) = (with_many_bridges(255), with_many_bridges(256));
-    let one_less = with_type().times(61, |file| file.field(3, &[1, 2, 0]));
-    let full = one_less.clone().field(3, &[1, 2, 0]);
-    let edge = |number: u8, what: &'static str, body: &[u8]| {
-        after((6, number, what), full.clone(), one_less.clone(), (3, body))
-    };
     let instances = with_instances;
     vec![
         after((6, 7, "tag2"), with_types(16), with_types(15), (2, &[0; 3])),
-        edge(7, "tag3", &[9, 9, 9]),
         after((6, 7, "tag4"), many, few, (4, &[0; 4])),
         after((6, 7, "tag5"), instances(128), instances(127), (5, &[0; 4])),
         after(
@@ -89,8 +86,31 @@ fn counts_and_numbers() -> Vec<Meeting> {
             with_vectors(255),
             (6, b"xx"),
         ),
-        edge(8, "channel", &[0, 1, 0]),
-        edge(8, "equal", &[1, 1, 0]),
+    ]
+}
+
+/// A field that passes the limit is refused as a whole, whatever is wrong with a
+/// label or an end that would still fit.
+fn edges_and_numbers() -> Vec<Meeting> {
+    let edges = |count: usize| with_type().times(count - 2, |file| file.field(3, &[1, 2, 0]));
+    let field = |number: u8, what: &'static str, body: &[u8]| {
+        let fitting = 256 - (body.len() - 2);
+        let case = (6, number, what);
+        after(case, edges(fitting + 1), edges(fitting), (3, body))
+    };
+    vec![
+        field(7, "tag3", &[9, 9, 9]),
+        field(7, "pair-node", &[1, 9, 0, 0]),
+        field(7, "pair-first-label", &[1, 2, 9, 0]),
+        field(7, "pair-last-label", &[1, 2, 0, 9]),
+        field(7, "four-first-label", &[1, 2, 9, 0, 0, 0]),
+        field(7, "four-last-label", &[1, 2, 0, 0, 0, 9]),
+        field(8, "channel", &[0, 1, 0]),
+        field(8, "equal", &[1, 1, 0]),
+        field(8, "pair-channel", &[0, 1, 0, 0]),
+        field(8, "pair-equal", &[1, 1, 0, 0]),
+        field(8, "four-channel", &[0, 1, 0, 0, 0, 0]),
+        field(8, "four-equal", &[1, 1, 0, 0, 0, 0]),
     ]
 }
 

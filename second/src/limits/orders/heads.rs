@@ -52,7 +52,7 @@ fn lengths_out_of_place() -> Vec<Meeting> {
 /// The limit is reached, and the place for one more is past.
 fn counts_out_of_place() -> Vec<Meeting> {
     let types = with_types(16);
-    let edges = with_type().times(62, |file| file.field(3, &[1, 2, 0]));
+    let edges = with_type().times(254, |file| file.field(3, &[1, 2, 0]));
     let bridges = with_many_bridges(256);
     let instances = with_instances(128);
     let past = [
@@ -129,10 +129,11 @@ fn edges_of_broken_types() -> Vec<Meeting> {
     let edge = |number: u8, what: &'static str, body: &[u8]| {
         within((number, 9, what), broken_type(), 3, body, &[1, 2, 0])
     };
-    let one_too_many = with_edges(65);
+    let pair: (u8, &[u8]) = (3, &[1, 2, 0, 0]);
     vec![
         edge(5, "", &[1, 2]),
-        (6, 9, "", one_too_many, with_edges(64)),
+        (6, 9, "", with_edges(257), with_edges(256)),
+        after((6, 9, "pair"), with_edges(255), with_edges(254), pair),
         edge(7, "node", &[1, 3, 0]),
         edge(7, "label", &[1, 2, 1]),
         edge(8, "channel", &[1, 0, 0]),

@@ -8,7 +8,7 @@ use crate::starts::{
     broken_type, two_inputs, with_bridges, with_faults_2048, with_instance, with_type, with_types,
 };
 
-const TOO_LONG: usize = 32_769;
+const TOO_LONG: usize = 57_345;
 
 pub fn meetings() -> Vec<Meeting> {
     let mut meetings = Vec::new();

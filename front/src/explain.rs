@@ -61,7 +61,12 @@ impl Scene<'_> {
         Tag::of(self.field.tag).expect("a field that has passed 3 has a tag")
     }
 
-    /// The type that a refused edge would belong to, and its number.
+    /// The name of a field that has passed 4.
+    fn name(&self) -> String {
+        self.before.next_of(self.tag(), self.field.body)
+    }
+
+    /// The type that refused edges would belong to, and its number.
     fn latest_type(&self) -> (usize, &ModuleType) {
         let types = &self.before.circuit.types;
         let module = types.last();
@@ -107,7 +112,7 @@ fn at_field(bytes: &[u8], refusal: Refusal) -> (String, Told) {
     };
     let name = match refusal.number {
         3 | 4 => scene.before.next_field(),
-        _ => scene.before.next_of(scene.tag()),
+        _ => scene.name(),
     };
     let span = span(refusal.place, scene.field.end());
     (format!("{name}, {span}"), told)

@@ -1,4 +1,4 @@
-//! The text form, a line for each field, read into the bytes of a circuit file.
+//! The text form, a field for each line, read into the bytes of a circuit file.
 //! It does not judge the circuit: order, ranges and counts are left to the grader.
 
 use second::bodies::value_of;
@@ -130,6 +130,7 @@ fn inputs(words: &mut Words) -> Result<Vec<u8>, String> {
     Ok((count as u16).to_be_bytes().to_vec())
 }
 
+/// Several labels are several edges in one field, as in old files.
 fn edge(words: &mut Words) -> Result<Vec<u8>, String> {
     let mut body = vec![words.byte("a node")?, words.byte("a second node")?];
     loop {

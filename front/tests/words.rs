@@ -115,11 +115,26 @@ fn lengths_and_counts() {
         "refused 6 at 293: type 17, bytes 293 to 298",
         "here: this is type 17.",
     );
-    let edges = inverter().times(255, |file| file.field(3, &[1, 2, 0]));
+    let edges = |count: usize| inverter().times(count - 2, |file| file.field(3, &[1, 2, 0]));
     check(
-        edges,
+        edges(257),
         "refused 6 at 1547: edge 257 of type 1, bytes 1547 to 1552",
         "here: this is edge 257 of type 1.",
+    );
+    check(
+        edges(255).field(3, &[1, 2, 0, 0]),
+        "refused 6 at 1541: edges 256 and 257 of type 1, bytes 1541 to 1547",
+        "here: these are edges 256 and 257 of type 1.",
+    );
+    check(
+        edges(256).field(3, &[1, 2, 0, 0, 0, 0]),
+        "refused 6 at 1547: edges 257 to 260 of type 1, bytes 1547 to 1555",
+        "here: these are edges 257 to 260 of type 1.",
+    );
+    check(
+        inverter().field(3, &[1, 2, 0, 0, 0, 0, 0]),
+        "refused 5 at 23: edge 3 of type 1, bytes 23 to 32",
+        "here: its length says 7 bytes.",
     );
     let bridges = inverter().times(257, |file| file.bridge(1, 0, 0, 1));
     check(
@@ -127,6 +142,33 @@ fn lengths_and_counts() {
         "refused 6 at 1815: bridge 257, bytes 1815 to 1821",
         "here: this is bridge 257.",
     );
+}
+
+/// The second line, where the rule has a limit that files meet by their edges.
+#[test]
+fn rules_of_lengths_and_edges() {
+    let rules = [
+        (
+            FileBuilder::default().resized(57_345),
+            "rule: a circuit file has at most 57344 bytes.",
+        ),
+        (
+            inverter().field(3, &[1, 2]),
+            "rule: an edge field takes 3 to 6 bytes: two nodes and 1 to 4 labels, each label an edge.",
+        ),
+        (
+            inverter().times(64, |file| file.field(3, &[1, 2, 0, 0, 0, 0])),
+            "rule: a type has at most 256 edges, counted by label.",
+        ),
+        (
+            inverter().field(3, &[1, 2, 1]),
+            "rule: an edge has two nodes and a label of its type; type 1 has nodes 0 to 2 and label 0.",
+        ),
+    ];
+    for (file, rule) in rules {
+        let explanation = explain(&file.bytes).expect(rule);
+        assert_eq!(explanation.lines()[1], rule);
+    }
 }
 
 #[test]
@@ -148,8 +190,8 @@ fn numbers_and_letters() {
     );
     check(
         inverter().field(3, &[3, 2, 0, 1]),
-        "refused 7 at 23: edge 3 of type 1, bytes 23 to 29",
-        "here: the first node is 3; transistor 2 has label 1.",
+        "refused 7 at 23: edges 3 and 4 of type 1, bytes 23 to 29",
+        "here: the first node is 3; edge 4 has label 1.",
     );
     check(
         inverter().bridge(0, 2, 32, 99),

@@ -4,7 +4,7 @@ use second::bodies::{bridge_of, edges_of, inputs_of, instance_of, module_of};
 use second::circuit::Circuit;
 use second::faults::faults_of;
 use second::fields::{cut, Field};
-use second::format::Tag;
+use second::format::{Tag, MOST_GROUPED};
 
 #[derive(Default)]
 pub struct Before {
@@ -72,20 +72,33 @@ impl Before {
         format!("field {}", self.fields + 1)
     }
 
-    /// The name of the next field if it has this tag.
-    pub fn next_of(&self, tag: Tag) -> String {
+    /// The number of the first edge that the next field has, if it is an edge field.
+    pub fn next_edge(&self) -> usize {
+        let latest = self.circuit.types.last();
+        1 + latest.map_or(0, |module| module.edges.len())
+    }
+
+    /// The name of the next field if it has this tag and this body.
+    pub fn next_of(&self, tag: Tag, body: &[u8]) -> String {
         let circuit = &self.circuit;
         let types = circuit.types.len();
         match tag {
             Tag::Inputs => "the number of inputs".to_string(),
             Tag::Type => format!("type {}", types + 1),
-            Tag::Edge => {
-                let edges = circuit.types.last().map_or(0, |module| module.edges.len());
-                format!("edge {} of type {types}", edges + 1)
-            }
+            Tag::Edge => format!("{} of type {types}", self.next_edges(body)),
             Tag::Bridge => format!("bridge {}", circuit.bridges.len() + 1),
             Tag::Instance => format!("instance {}", circuit.instances.len() + 1),
             Tag::Vector => format!("vector {}", self.vectors + 1),
+        }
+    }
+
+    /// An old file's field may hold several; one of a wrong length counts as one edge.
+    fn next_edges(&self, body: &[u8]) -> String {
+        let first = self.next_edge();
+        match body.len().saturating_sub(2) {
+            2 => format!("edges {first} and {}", first + 1),
+            labels @ 3..=MOST_GROUPED => format!("edges {first} to {}", first + labels - 1),
+            _ => format!("edge {first}"),
         }
     }
 }

@@ -99,7 +99,8 @@ pub fn wrong_length(scene: &Scene) -> Told {
             "a type takes 3 bytes: highest node, output node, number of labels.".to_string()
         }
         Tag::Edge => format!(
-            "an edge takes 3 to {} bytes: two nodes and 1 to {MOST_GROUPED} labels.",
+            "an edge field takes 3 to {} bytes: two nodes and 1 to {MOST_GROUPED} labels, each \
+             label an edge.",
             2 + MOST_GROUPED
         ),
         Tag::Bridge => "a bridge takes 4 bytes: list, kind, first and second end.".to_string(),
@@ -117,15 +118,16 @@ pub fn wrong_length(scene: &Scene) -> Told {
 pub fn one_too_many(scene: &Scene) -> Told {
     let (owner, most, things) = match scene.tag() {
         Tag::Type => ("a file", MOST_TYPES, "types"),
-        Tag::Edge => ("a type", MOST_EDGES, "edges"),
+        Tag::Edge => ("a type", MOST_EDGES, "edges, counted by label"),
         Tag::Bridge => ("a file", MOST_BRIDGES, "bridges"),
         Tag::Instance => ("a file", MOST_INSTANCES, "instances"),
         Tag::Vector => ("a file", MOST_VECTORS, "vectors"),
         Tag::Inputs => unreachable!("a second number of inputs is out of order"),
     };
     let rule = format!("{owner} has at most {most} {things}.");
-    let this = scene.before.next_of(scene.tag());
-    Told::new(rule, format!("this is {this}."))
+    let is_several = scene.tag().is_edge() && scene.field.body.len() > 3;
+    let these = if is_several { "these are" } else { "this is" };
+    Told::new(rule, format!("{these} {}.", scene.name()))
 }
 
 pub fn ended(before: &Before) -> (String, Told) {

@@ -64,7 +64,7 @@ fn edge(scene: &Scene, body: &[u8]) -> (String, Vec<String>) {
     let (number, module) = scene.latest_type();
     let (highest, labels) = (module.highest, module.labels);
     let rule = format!(
-        "an edge has nodes and labels of its type; {}.",
+        "an edge has two nodes and a label of its type; {}.",
         has(number, module)
     );
     let (nodes, own_labels) = body.split_at(2);
@@ -72,9 +72,9 @@ fn edge(scene: &Scene, body: &[u8]) -> (String, Vec<String>) {
         ("the first node", nodes[0], nodes[0] <= highest),
         ("the second node", nodes[1], nodes[1] <= highest),
     ]);
-    for (index, label) in own_labels.iter().enumerate() {
+    for (edge, label) in (scene.before.next_edge()..).zip(own_labels) {
         if *label >= labels {
-            slips.push(format!("transistor {} has label {label}", index + 1));
+            slips.push(format!("edge {edge} has label {label}"));
         }
     }
     (rule, slips)

@@ -48,7 +48,7 @@ pub fn not_complementary(scene: &Scene, bytes: &[u8]) -> (String, Told) {
             .extend(edges.expect("an edge of a type that is judged has a channel"));
         end = next.end();
     }
-    let name = scene.before.next_of(scene.tag());
+    let name = scene.name();
     let place = span(scene.field.place, scene.field.end());
     let field = match module.edges.len() {
         0 => format!("{name}, {place}, without edges"),

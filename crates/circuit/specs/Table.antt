@@ -109,6 +109,7 @@ unfoldable pub edgesInRange : ℕ → ℕ → List ℕ → Bool
 edgesInRange h k body = leb (getD body 0 0) h && leb (getD body 1 0) h && allOf (λ (l : ℕ). ltb l k) (drop 2 body)
 
 -- in a type with h, o, k and `count` edges so far; a field has an edge for each of its labels, and is refused whole where they are too many
+-- (02, "No more grouped transistors")
 unfoldable pub edgeTestsOf : ℕ → ℕ → ℕ → ℕ → ℕ → List ℕ → List Test
 edgeTestsOf h o k count at body =
     test 5 (not (between 3 6 (length body))) at

@@ -36,7 +36,10 @@ use Rattle.demands.proofs.UniqueProof.{unique}
 use Rattle.demands.proofs.MetProof.{met-by-every-file}
 use Rattle.demands.proofs.KnownProof.{all-known}
 use Rattle.switch.proofs.Blocks.{blocks-tell}
+use Rattle.switch.proofs.Groups.{groups-link-alike}
 use Rattle.demands.proofs.ModuleCheckProof.{nine-as-before, wrong-checks-are-wrong}
+use Rattle.demands.proofs.SingleTransistorsProof.{answered-as-before, accepted-as-before}
+use Rattle.demands.proofs.WrongEdges.{grouped-fields-read, wrong-edges-are-wrong}
 use Rattle.demands.proofs.WrongProof.{refuses-every-is-wrong, skips-nine-is-wrong, skips-fourteen-is-wrong, marks-all-is-wrong, marks-never-is-wrong, leaves-matrix-is-wrong}
 use Rattle.demands.proofs.WrongProof.{first-word-only-is-wrong, invents-found-is-wrong, sweeps-once-is-wrong, one-plane-is-wrong, marks-floating-is-wrong, counts-rows-is-wrong}
 use Rattle.demands.proofs.WrongProof.{spills-is-wrong, wraps-is-wrong, goes-on-is-wrong, watches-outputs-is-wrong, holds-levels-is-wrong, counts-twice-is-wrong}
@@ -91,6 +94,11 @@ all-proved = record {
   blocks-tell = blocks-tell;
   nine-as-before = nine-as-before;
   wrong-checks-are-wrong = wrong-checks-are-wrong;
+  groups-link-alike = groups-link-alike;
+  answered-as-before = answered-as-before;
+  accepted-as-before = accepted-as-before;
+  grouped-fields-read = grouped-fields-read;
+  wrong-edges-are-wrong = wrong-edges-are-wrong;
   grade-is-kept = grade-is-kept;
   entry-is-kept = entry-is-kept;
   grade-circuit-is-kept = grade-circuit-is-kept;

@@ -8,7 +8,7 @@ use lib.Dec.{T}
 use lib.ListN.{length, getD, replicate}
 use denote.Ref.{RefT}
 use Rattle.switch.specs.Modules.{inRange}
-use Rattle.switch.specs.Records.{unusedEdge, edgesOf, typeOf, typeWith, TypeGiven, EdgesGiven}
+use Rattle.switch.specs.Records.{noEdge, edgesOf, typeOf, typeWith, TypeGiven, EdgesGiven}
 use Rattle.switch.specs.declared.ModuleType.{ModuleType}
 use Rattle.circuit.specs.Answers.{Tells}
 use Rattle.circuit.specs.Refusals.{numberedVerdict, refusalNumber, refusalPlace, verdictOf}
@@ -48,15 +48,15 @@ emptyField = record { at = 0; tag = 0; body = 0; len = 0 }
 
 -- a type with the inverter's numbers, and no edges
 abbrev pub bareType : ModuleType
-bareType = record { highest = 2; output = 2; labels = 1; count = 0; edges = replicate 64 unusedEdge }
+bareType = record { highest = 2; output = 2; labels = 1; count = 0; edges = replicate 256 noEdge }
 
 pub edges-given : EdgesGiven 2 2 1 []
 unfolding computing inRange typeWith edgesOf
-edges-given = record { places = omega arith; label-places = tt; ranges = tt }
+edges-given = record { places = omega arith; ranges = tt }
 
 pub type-given : TypeGiven bareType
 unfolding computing inRange typeOf edgesOf
-type-given = record { places = omega arith; label-places = tt; ranges = tt }
+type-given = record { places = omega arith; ranges = tt }
 
 -- no bridges
 abbrev pub noBridges : List Bridge

@@ -6,17 +6,18 @@ use lib.ListN.{replicate}
 use Rattle.words.specs.Bits.{bit, pack, word, sumTo}
 use Rattle.words.specs.Tables.{table, upTo}
 use Rattle.words.specs.Rows.{rowOf}
-use Rattle.switch.specs.Conduction.{between, pEnds, nEnd, nEnds, badEnds, channelOf, transistorOn, anyOf, edgeOn, links}
+use Rattle.switch.specs.Conduction.{between, pEnds, nEnd, nEnds, badEnds, channelOf, transistorOn, edgesFor, edgeOn, links}
 use Rattle.switch.specs.Modules.{allOf, typeInRange, edgeInRange, linksOf, valueOfBit, settingOf}
 use Rattle.switch.specs.Bridges.{toLabel, closing}
+use Rattle.switch.specs.Grouped.{anyOf}
 use Rattle.switch.specs.Deciding.{rename, partIn, renamings, joins, allBelow, oneRail, isComplementary, levelIn, isMarked}
 use Rattle.circuit.specs.Fields.{twoBytes, cutIn, cutFrom}
 use Rattle.circuit.specs.Circuit.{Circuit, numbered, joinLists, nodePairs, nodeInputs, exhaustiveList, exhaustiveSize, userList, chosen, chosenSize, faultsOf, faultCount}
 use Rattle.circuit.specs.Numbers.{signed, choiceOf, choiceInRange, referenceOf, referenceGood}
 use Rattle.circuit.specs.Order.{tagOf, isKind, mayFollow}
-use Rattle.circuit.specs.Known.{typeIn, edgeIn, bridgeOf, listedIn, referencesIn, instanceIn, letterOf, vectorIn, latest, withEdge, edgeAdded, taken, typeAtAfter, knownAfter}
+use Rattle.circuit.specs.Known.{typeIn, edgesIn, bridgeOf, listedIn, referencesIn, instanceIn, letterOf, vectorIn, latest, withEdges, edgesAdded, taken, typeAtAfter, knownAfter}
 use Rattle.circuit.specs.Records.{choiceByte, emptyCircuit}
-use Rattle.circuit.specs.Table.{firstOf, unjudged, notComplementary, bridgeGood, listedGood, bridgeInRange, bridgeSuits, isEmpty, listUnsuited, listEmpty, isLetter, inputsTests, typeTests, edgeTestsOf, edgeTests, bridgeTests, instanceTests, instanceTestsOf, vectorTests, bodyTests, fieldTests, endTests}
+use Rattle.circuit.specs.Table.{firstOf, unjudged, notComplementary, bridgeGood, listedGood, bridgeInRange, bridgeSuits, isEmpty, listUnsuited, listEmpty, isLetter, edgesInRange, inputsTests, typeTests, edgeTestsOf, edgeTests, bridgeTests, instanceTests, instanceTestsOf, vectorTests, bodyTests, fieldTests, endTests}
 use Rattle.circuit.specs.Reading.{Reading, accepted, refusal, unless, readFrom, readingWith, readingOf}
 use Rattle.grading.specs.Buffers.{Buffers, buffersOf}
 use Rattle.grading.specs.Values.{valueAt, labelValues, outputsAfter, outputsOf}
@@ -31,12 +32,12 @@ use Rattle.demands.specs.Graders.{refusalOf, refusing, outcomeOf, grades
 -- to unfold a definition is to unfold what its line names
 unfoldable pub computing : Unit {0}
 unfolding bit pack word sumTo table upTo rowOf choiceByte
-    between pEnds nEnd nEnds badEnds channelOf transistorOn anyOf edgeOn links allOf typeInRange edgeInRange linksOf valueOfBit settingOf
+    between pEnds nEnd nEnds badEnds channelOf transistorOn edgesFor edgeOn links allOf anyOf typeInRange edgeInRange linksOf valueOfBit settingOf
     toLabel closing rename partIn renamings joins allBelow oneRail isComplementary levelIn isMarked
     twoBytes cutIn cutFrom numbered joinLists nodePairs nodeInputs exhaustiveList exhaustiveSize userList chosen chosenSize faultsOf faultCount
     signed choiceOf choiceInRange referenceOf referenceGood
-    tagOf isKind mayFollow typeIn edgeIn bridgeOf listedIn referencesIn instanceIn letterOf vectorIn latest withEdge edgeAdded taken typeAtAfter knownAfter
-    firstOf unjudged notComplementary bridgeGood listedGood bridgeInRange bridgeSuits isEmpty listUnsuited listEmpty isLetter
+    tagOf isKind mayFollow typeIn edgesIn bridgeOf listedIn referencesIn instanceIn letterOf vectorIn latest withEdges edgesAdded taken typeAtAfter knownAfter
+    firstOf unjudged notComplementary bridgeGood listedGood bridgeInRange bridgeSuits isEmpty listUnsuited listEmpty isLetter edgesInRange
     inputsTests typeTests edgeTestsOf edgeTests bridgeTests instanceTests instanceTestsOf vectorTests bodyTests fieldTests endTests
     unless readFrom readingWith valueAt labelValues outputsAfter outputsOf rowsOfInstance rowsFrom rowsOf rowValues cell markOf rowWords matrixOf
     nodeWire referenceWire labelWire wireAt carried leaks wireSort wireOwner wireNode sameWire samePair sameClass classAmongBy largest classesAfterBy classesBy hasMarkBy classFoundBy foundBy foundCount

@@ -26,7 +26,7 @@ use Rattle.circuit.specs.Reading.{Reading, accepted, refusal, unless, readFrom}
 use Rattle.circuit.proofs.OrderLaws.{kind-is}
 use Rattle.circuit.proofs.Verdicts.{first-passes}
 use Rattle.circuit.proofs.TypeLaws.{accepts, EdgesPass, edges-pass, length-edges-in}
-use Rattle.demands.specs.SingleTransistors.{groupIn, groupsComplementary, GroupsKnown, latestGroups, groupAdded, groupsWith, groupsAfter, byGroups}
+use Rattle.demands.specs.SingleTransistors.{groupIn, groupsComplementary, GroupsKnown, latestGroups, groupAdded, groupsWith, groupsAfter, groupTests, groupsFailing}
 use Rattle.demands.specs.SingleTransistors.{groupsFieldTests, groupsEndTests, GroupsReading, accepted-with, refused-with, unlessRefused, groupsReadFrom, FieldOf}
 use Rattle.demands.proofs.GroupsGrade.{Aligned, edges-at, complementary-alike}
 
@@ -135,29 +135,19 @@ module _ (k : GroupsKnown) (along : Along (k .known .circuit .types) (k .groups)
 
 -- ---- the tests
 
--- a kind that is no edge has the tests that it had
-body-alike : (k : GroupsKnown) (asked : Bool) (tag : Tag) (c : Circuit) (at : ℕ) (body : List ℕ) → isEdge tag ≡ false
-    → map (byGroups k asked false) (bodyTests tag c at body) ≡ bodyTests tag c at body
-unfolding byGroups isKind bodyTests inputsTests typeTests bridgeTests instanceTests instanceTestsOf vectorTests
-body-alike k asked inputs-tag c at body e = refl
-body-alike k asked type-tag c at body e = refl
-body-alike k asked edge-tag c at body e = let z : _≡_ {A = Bool} true false = e in let y : _≡_ {A = ℕ} 0 1 = cc in absurd (omega arith)
-body-alike k asked bridge-tag c at body e = refl
-body-alike k asked instance-tag c at body e = refl
-body-alike k asked vector-tag c at body e = refl
-body-alike k asked no-tag c at body e = refl
-
 module _ (k : GroupsKnown) (along : Along (k .known .circuit .types) (k .groups)) where
-  -- and the field the same tests, 9 among them
+  failing-alike : groupsFailing k ≡ notComplementary (k .known .circuit .types)
+  unfolding groupsFailing notComplementary
+  failing-alike = ap not (latest-complementary (k .known .circuit .types) (k .groups) along)
+
+  -- a field that is no edge has the tests that it had
   field-alike : (f : Field) → isEdge (tagOf (f .tag)) ≡ false → groupsFieldTests k f ≡ fieldTests (k .known) f
-  unfolding groupsFieldTests fieldTests notComplementary byGroups
-  field-alike f e =
-      let body = body-alike k (unjudged (k .known .previous) && true) (tagOf (f .tag)) (k .known .circuit) (f .at) (f .body) e in
-      rw (e, latest-complementary (k .known .circuit .types) (k .groups) along, body)
+  unfolding groupsFieldTests fieldTests
+  field-alike f e = rw (e, failing-alike)
 
   pub end-alike : (size : ℕ) → groupsEndTests k size ≡ endTests true (k .known) size
-  unfolding groupsEndTests endTests notComplementary byGroups
-  end-alike size = rw (latest-complementary (k .known .circuit .types) (k .groups) along)
+  unfolding groupsEndTests endTests
+  end-alike size = rw failing-alike
 
 -- of an edge's tests only 6 differs: where it refuses by neither rule, or something before it refuses, the verdict is the same
 edge-verdicts : (asked misplaced-tag nine five old new : Bool) (at typeAt : ℕ) (other : Bool) (later : Verdict) → (five ≡ false → old ≡ false → new ≡ false)
@@ -189,14 +179,14 @@ module _ (k : GroupsKnown) (along : Along (k .known .circuit .types) (k .groups)
       ⊎ ((tagOf (f .tag) ≡ edge-tag) × (firstOf (groupsFieldTests k f) ≡ refusedAt 6 (f .at)))
 
   edge-alike : tagOf (f .tag) ≡ edge-tag → Alike
-  unfolding fieldTests groupsFieldTests byGroups bodyTests edgeTests edgeTestsOf isKind firstOf
+  unfolding fieldTests groupsFieldTests groupTests bodyTests edgeTests edgeTestsOf isKind firstOf
   edge-alike e =
       let t = latest (before .circuit .types) in
       rw e
       (told
       (edge-verdicts (unjudged (before .previous)) (misplaced (before .previous) edge-tag) (notComplementary (before .circuit .types)) (not (between 3 6 (length (f .body))))
       (leb 64 (length (latestGroups (k .groups)))) (ltb mostEdges (length (t .edges) + (length (f .body) - 2))) (f .at) (before .typeAt)
-      (not (groupsComplementary t (latestGroups (k .groups))))
+      (groupsFailing k)
       (cond (not (edgesInRange (t .highest) (t .labels) (f .body))) (refusedAt 7 (f .at))
       (cond (badEnds (t .highest) (t .output) (getD (f .body) 0 0) (getD (f .body) 1 0)) (refusedAt 8 (f .at)) passes))
       fits-still))

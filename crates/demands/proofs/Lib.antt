@@ -7,6 +7,7 @@
 --   of two files  WholeFields, AlikeFilesProof, FileSplits, OtherVectors, Fillings, AlikeFilesExamples
 --   one outcome   CellsAgree, ClassesAgree, Determines
 --   number 9      ModuleCheckProof
+--   transistors   GroupsGrade, GroupsRead, SingleTransistorsProof; by computing WrongEdges
 --   contracts     ContractsProof, CircuitCallsProof, KindsOnce, StepsOnce, CanBeMet, UniqueProof, MetProof
 --   all of them   AllProofs
 --   by computing  KnownProof, WrongProof, BreaksProof; MeetsProof, what the demands do not break
@@ -48,6 +49,10 @@ pub mod WrongProof
 pub mod BreaksProof
 pub mod MeetsProof
 pub mod ModuleCheckProof
+pub mod GroupsGrade
+pub mod GroupsRead
+pub mod SingleTransistorsProof
+pub mod WrongEdges
 pub mod CellsAgree
 pub mod ClassesAgree
 pub mod Determines

@@ -62,6 +62,11 @@ unique = record {
     asks-nothing = λ κs a. tt;
     one-outcome = λ κs a asked one other p q. let same = given-once p q in both (same .0) (λ i. (tt, (tt, (same .1 i, tt))));
   };
+  switch-edge-with = record { can-be-met = λ κs. ((0, (0, (0, (false, tt)))), (omega arith, omega arith, omega arith)); one-outcome = λ κs a asked one other p q. both (p ∙ sym q) refl };
+  switch-first-of = record { asks-nothing = λ κs a. tt; one-outcome = λ κs a asked one other p q. both (p ∙ sym q) refl };
+  switch-second-of = record { asks-nothing = λ κs a. tt; one-outcome = λ κs a asked one other p q. both (p ∙ sym q) refl };
+  switch-label-of = record { asks-nothing = λ κs a. tt; one-outcome = λ κs a asked one other p q. both (p ∙ sym q) refl };
+  switch-gate-of = record { asks-nothing = λ κs a. tt; one-outcome = λ κs a asked one other p q. both (p ∙ sym q) refl };
   join-nodes-complementary = record {
     Asked = λ κs a. EdgesGiven (a .1 .0) (a .1 .1 .0) (a .1 .1 .1 .0) (now (a .0));
     Told = λ κs a r s. r ≡ isComplementary (typeWith (a .1 .0) (a .1 .1 .0) (a .1 .1 .1 .0) (now (a .0)));

@@ -44,6 +44,10 @@ vectorField vector = fieldBytes 6 (bytesOf vector)
 abbrev pub vectorFields : List String → List ℕ
 vectorFields vectors = joinLists (map vectorField vectors)
 
+-- fields that stand in a file so many times
+abbrev pub times : ℕ → List ℕ → List ℕ
+times n fields = joinLists (replicate n fields)
+
 -- ---- 01's types
 
 -- h=2, o=2, k=1; edges 1-2 and 0-2, label 0

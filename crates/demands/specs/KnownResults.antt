@@ -1,14 +1,15 @@
--- 01, "Known results": all of them, those marked P first, then the whole example of "The report" and more of both kinds; and the classes of
--- 02, "One wire, one short". They stand in one table under one statement, `AllKnown`. What a line says is in specs/Claims; the proof, by
+-- 01, "Known results": all of them, those marked P first, then the whole example of "The report" and more of both kinds; the classes of 02,
+-- "One wire, one short", and the limits of 02, "No more grouped transistors". They stand in one table under one statement, `AllKnown`. What a line says is in specs/Claims; the proof, by
 -- computation, is in proofs/KnownProof.
-use Prim.Native.Nat.{_-_, _^_}
+use Prim.Native.Nat.{ℕ, _-_, _^_}
 use Prim.Native.String.{String}
 use mathlib.Core.List.{List, [], _∷_, _++_}
 use lib.ListN.{replicate}
 use Rattle.switch.specs.Bridges.{nodes, input}
 use Rattle.circuit.specs.Circuit.{primary, outputOf, exhaustive, no-faults, list, joinLists}
 use Rattle.grading.specs.Buffers.{buffersOf, roomFor}
-use Rattle.demands.specs.Files.{fieldBytes, inputsField, typeField, edgeField, instanceField, inverterFields, inverter, inverterUnder}
+use Rattle.demands.specs.Files.{fieldBytes, inputsField, typeField, edgeField, instanceField, times, oneUnder, inverterFields, inverter}
+use Rattle.demands.specs.Files.{inverterUnder}
 use Rattle.demands.specs.Files.{inverterListed, inverterChoosing, nandUnder, norUnder, branches, inverterThenNand}
 use Rattle.demands.specs.Files.{nandOfOne, oneType, splitRails, invertersOf, fourInstances, twoInverters, driverAndInput, twoNands}
 use Rattle.demands.specs.Files.{twinNands, manyFaults}
@@ -22,6 +23,10 @@ all-four = "00" ∷ "01" ∷ "10" ∷ "11" ∷ []
 -- every vector of two inputs
 abbrev pub nine : List String
 nine = "00" ∷ "01" ∷ "10" ∷ "11" ∷ "0X" ∷ "1X" ∷ "X0" ∷ "X1" ∷ "XX" ∷ []
+
+-- four labels of one old edge field
+abbrev pub four : List ℕ
+four = 0 ∷ 0 ∷ 0 ∷ 0 ∷ []
 
 -- ---- the table: 01's sentences, each with its lines, then more
 
@@ -208,7 +213,7 @@ knownResults =
     ∷ [])
     -- more refusals, so that each number is here: a file too long, tag 0, inputs twice, three bytes for the inputs, 65 inputs, a 17th type,
     -- an edge 2-2, a bridge of kind 2, choice -2, bridge 0-3 for an inverter, a list without bridges
-    ∷ refuses (replicate 32769 0) 1 0
+    ∷ refuses (replicate 57345 0) 1 0
     ∷ refuses (0 ∷ 0 ∷ 0 ∷ []) 3 0
     ∷ refuses (inputsField 1 ++ inputsField 1) 4 5
     ∷ refuses (fieldBytes 1 (0 ∷ 0 ∷ 1 ∷ [])) 5 0
@@ -220,7 +225,7 @@ knownResults =
     ∷ refuses (inverterListed (nodes 0 3 ∷ []) ("0" ∷ [])) 11 30
     ∷ refuses (inverterChoosing (list 1)) 12 23
     -- as many bytes as a file may have, and tag 0; a body one byte short; no inputs first; an edge 1-3 over the output 2
-    ∷ refuses (replicate 32768 0) 3 0
+    ∷ refuses (replicate 57344 0) 3 0
     ∷ refuses (1 ∷ 0 ∷ 2 ∷ 1 ∷ []) 2 0
     ∷ refuses (typeField 2 2 1) 4 0
     ∷ refuses (inputsField 1 ++ typeField 3 2 1 ++ edgeField 1 3 (0 ∷ [])) 8 11
@@ -238,6 +243,17 @@ knownResults =
     ∷ refuses (inverterUnder ("2" ∷ [])) 7 30
     ∷ refuses (invertersOf []) 14 27
     ∷ refuses (inverterUnder []) 14 30
+    -- 02, "No more grouped transistors": 256 edges pass, in fields of one label or of four; a 257th is 6, after 5 and before 7 and 8, and so
+    -- is a field of two labels behind 255; the 65th field of one label is none too many
+    ∷ sizes (oneUnder 1 (typeField 2 2 1 ++ times 128 (edgeField 1 2 (0 ∷ []) ++ edgeField 0 2 (0 ∷ []))) ("0" ∷ [])) 6 6
+    ∷ sizes (oneUnder 1 (typeField 2 2 1 ++ times 32 (edgeField 1 2 four ++ edgeField 0 2 four)) ("0" ∷ [])) 6 6
+    ∷ refuses (inputsField 1 ++ typeField 2 2 1 ++ times 64 (edgeField 1 2 four) ++ edgeField 1 2 (0 ∷ [])) 6 587
+    ∷ refuses (inputsField 1 ++ typeField 2 2 1 ++ times 64 (edgeField 1 2 four) ++ fieldBytes 3 (1 ∷ 2 ∷ [])) 5 587
+    ∷ refuses (inputsField 1 ++ typeField 2 2 1 ++ times 64 (edgeField 1 2 four) ++ edgeField 1 2 (1 ∷ [])) 6 587
+    ∷ refuses (inputsField 1 ++ typeField 2 2 1 ++ times 64 (edgeField 1 2 four) ++ edgeField 2 2 (0 ∷ [])) 6 587
+    ∷ refuses (inputsField 1 ++ typeField 2 2 1 ++ times 256 (edgeField 1 2 (0 ∷ [])) ++ edgeField 1 2 (0 ∷ [])) 6 1547
+    ∷ refuses (inputsField 1 ++ typeField 2 2 1 ++ times 255 (edgeField 1 2 (0 ∷ [])) ++ edgeField 1 2 (0 ∷ 0 ∷ [])) 6 1541
+    ∷ refuses (inputsField 1 ++ typeField 2 2 1 ++ times 64 (edgeField 1 2 (0 ∷ [])) ++ edgeField 2 2 (0 ∷ [])) 8 395
     ∷ []
 
 -- all results of the table hold

@@ -6,6 +6,7 @@
 --   NoConverse              demand 3 has no converse
 --   Determined              the demands leave one outcome only, which is the promise's
 --   ModuleCheck             number 9 by another check of types: by blocks of settings, and by wrong ones
+--   SingleTransistors       the grader of before, by groups of transistors; every file is answered as it was, but for those named
 --   Contracts               contracts as terms; those of `grade` and of the entry for C
 --   CircuitCalls            grading a circuit in place of its file
 --   Unique                  contracts of public functions that leave one outcome only
@@ -28,6 +29,7 @@ pub mod Graders
 pub mod Wrong
 pub mod Breaks
 pub mod ModuleCheck
+pub mod SingleTransistors
 pub mod Contracts
 pub mod CircuitCalls
 pub mod Unique

@@ -1,7 +1,8 @@
--- 02, "No more grouped transistors", on files. 01's grader as it was, which took an edge field for one group of parallel transistors, with
--- 01's limits of 32,768 bytes and 64 edge fields a type. Every file is answered as it answered, answer and buffers, but for files that it
--- refused by 1, or by 6 at an edge field. The proofs are in proofs/GroupsRead, GroupsGrade and SingleTransistorsProof.
-use Prim.Native.Nat.{ℕ, _-_, _^_}
+-- 02, "No more grouped transistors", on files. The grader as it was before: 01's, with the classes of 02, "One wire, one short". It took an
+-- edge field for one group of parallel transistors, with 01's limits of 32,768 bytes and 64 edge fields a type. Every file is answered as it
+-- was, answer and buffers, but for those that `Changed` names, and these are not. The proofs are in proofs/GroupsGrade, GroupsRead and
+-- SingleTransistorsProof.
+use Prim.Native.Nat.{ℕ, _+_, _-_, _^_, _<_, _≤_}
 use mathlib.Core.Path.{_≡_}
 use mathlib.Core.Bool.{Bool, true, false, cond, not, _&&_, Bool·beq}
 use mathlib.Core.Logic.{_⊎_}
@@ -10,22 +11,27 @@ use lib.Dec.{eqb, leb, ltb}
 use lib.ListN.{length, getD, drop, set}
 use Rattle.words.specs.Bits.{ofBool}
 use Rattle.words.specs.Rows.{rowOf}
-use Rattle.switch.specs.Conduction.{Value, Channel, channelOf, byValues, Link, ground, supply}
+use Rattle.switch.specs.Conduction.{Value, at0, n-channel, between, badEnds, channelOf, byValues, Link, ground, supply}
 use Rattle.switch.specs.Modules.{ModuleType, settingOf}
 use Rattle.switch.specs.Bridges.{closing}
 use Rattle.switch.specs.Deciding.{joins, allBelow, levelIn}
-use Rattle.switch.specs.Grouped.{Group, groupLinks}
+use Rattle.switch.specs.Grouped.{Group, groupLinks, ofGroups}
+use Rattle.switch.specs.Examples.{edge, nand}
 use Rattle.circuit.specs.Fields.{Field, Cut, clean, broken, field, cutFrom}
-use Rattle.circuit.specs.Circuit.{Circuit, Instance, numbered, typeOfInstance}
-use Rattle.circuit.specs.Order.{Tag, type-tag, edge-tag, tagOf, isKind, isEdge}
-use Rattle.circuit.specs.Known.{Known, start, knownAfter, latest}
-use Rattle.circuit.specs.Table.{Test, test, Verdict, passes, refusedAt, firstOf, unjudged, fieldTests, endTests}
+use Rattle.circuit.specs.Circuit.{Circuit, Instance, primary, exhaustive, numbered, typeOfInstance}
+use Rattle.circuit.specs.Order.{Tag, type-tag, edge-tag, tagOf, isKind, isEdge, isUnknown, atStart}
+use Rattle.circuit.specs.Known.{Known, start, edgesIn, knownAfter, latest}
+use Rattle.circuit.specs.Table.{Test, test, Verdict, passes, refusedAt, firstOf, misplaced, unjudged, isEmpty, edgesInRange, bodyTests}
+use Rattle.circuit.specs.Table.{fieldTests, endTests}
+use Rattle.circuit.specs.Reading.{accepted, refusal, readingOf}
 use Rattle.grading.specs.Buffers.{Buffers, roomOf}
 use Rattle.grading.specs.Values.{labelValues}
 use Rattle.grading.specs.Rows.{Row}
 use Rattle.grading.specs.Classes.{sameClass}
-use Rattle.grading.specs.Grading.{Grading, refused, gradingOfCircuit}
-use Rattle.demands.specs.Graders.{Outcome, Grader, refusing, Work, outcomeOf, workBy, rightly}
+use Rattle.grading.specs.Grading.{gradingOfCircuit}
+use Rattle.demands.specs.Calls.{Kept}
+use Rattle.demands.specs.Graders.{Outcome, Grader, called, MeetsPromise, refusing, Work, outcomeOf, workBy, testing}
+use Rattle.demands.specs.Files.{nandUnder}
 
 -- ---- a type by its groups
 
@@ -68,21 +74,38 @@ groupsWith tag k body =
 unfoldable pub groupsAfter : GroupsKnown → Field → GroupsKnown
 groupsAfter k f = record { known = knownAfter (k .known) f; groups = groupsWith (tagOf (f .tag)) k (f .body) }
 
--- a test as 01 had it: 9 asks the groups, and 6 of an edge field counts edge fields, of which a type has at most 64
-unfoldable pub byGroups : GroupsKnown → (asked edge : Bool) → Test → Test
-byGroups k asked edge t =
-    let failing = not (groupsComplementary (latest (k .known .circuit .types)) (latestGroups (k .groups))) in
-    cond (eqb (t .number) 9) (test 9 (cond asked failing false) (t .place))
-    (cond (edge && eqb (t .number) 6) (test 6 (leb 64 (length (latestGroups (k .groups)))) (t .place)) t)
+-- the tests of an edge field in a type with `count` edge fields so far, of which it has at most 64
+unfoldable pub groupTests : ModuleType → ℕ → ℕ → List ℕ → List Test
+groupTests t count at body =
+    test 5 (not (between 3 6 (length body))) at
+    ∷ test 6 (leb 64 count) at
+    ∷ test 7 (not (edgesInRange (t .highest) (t .labels) body)) at
+    ∷ test 8 (badEnds (t .highest) (t .output) (getD body 0 0) (getD body 1 0)) at
+    ∷ []
 
+unfoldable pub groupsFailing : GroupsKnown → Bool
+groupsFailing k = not (groupsComplementary (latest (k .known .circuit .types)) (latestGroups (k .groups)))
+
+-- the tests of a field, and those of the end of the file; 9 asks the groups
 unfoldable pub groupsFieldTests : GroupsKnown → Field → List Test
 groupsFieldTests k f =
-    let edge = isEdge (tagOf (f .tag)) in map (byGroups k (unjudged (k .known .previous) && not edge) edge) (fieldTests (k .known) f)
+    let tag = tagOf (f .tag) in
+    let c = k .known .circuit in
+    let count = length (latestGroups (k .groups)) in
+    test 3 (isUnknown tag) (f .at)
+    ∷ test 4 (misplaced (k .known .previous) tag) (f .at)
+    ∷ test 9 (cond (unjudged (k .known .previous) && not (isEdge tag)) (groupsFailing k) false) (k .known .typeAt)
+    ∷ cond (isEdge tag) (groupTests (latest (c .types)) count (f .at) (f .body)) (bodyTests tag c (f .at) (f .body))
 
 unfoldable pub groupsEndTests : GroupsKnown → ℕ → List Test
-groupsEndTests k size = map (byGroups k (unjudged (k .known .previous)) false) (endTests true (k .known) size)
+groupsEndTests k size =
+    test 9 (cond (unjudged (k .known .previous)) (groupsFailing k) false) (k .known .typeAt)
+    ∷ test 14 (atStart (k .known .previous)) size
+    ∷ test 14 (isEmpty (k .known .circuit .instances)) size
+    ∷ test 14 (isEmpty (k .known .circuit .vectors)) size
+    ∷ []
 
--- what 01 said of a file: the circuit, with the groups of each type, or the refusal
+-- what was said of a file: the circuit, with the groups of each type, or the refusal
 pub data GroupsReading : Type 0 where
   accepted-with : Circuit → List (List Group) → GroupsReading
   refused-with : ℕ → ℕ → GroupsReading
@@ -128,11 +151,11 @@ unfoldable pub groupsOutcome : GroupsReading → Buffers → Outcome
 groupsOutcome (accepted-with c groups) before = outcomeOf (groupsWork groups) (gradingOfCircuit c (roomOf before)) before
 groupsOutcome (refused-with number place) before = record { answer = refusing number place; after = before }
 
--- 01's grader
+-- the grader of before
 unfoldable pub groupwise : Grader
 groupwise file before = groupsOutcome (groupsReading file) before
 
--- ---- the statement
+-- ---- the statements
 
 -- a field of what a file is cut into
 unfoldable pub FieldOf : Cut → Field → Type 0
@@ -145,11 +168,61 @@ pub record EdgeFieldOf (file : List ℕ) (f : Field) : Type 0 where
   pub among : FieldOf (cutFrom file 0) f
   pub edge : tagOf (f .tag) ≡ edge-tag
 
--- it refused the file as too long, or an edge field as one too many
-pub data PassedALimit (file : List ℕ) : Type 0 where
-  too-long : groupsReading file ≡ refused-with 1 0 → PassedALimit file
-  one-edge-too-many : (f : Field) → EdgeFieldOf file f → groupsReading file ≡ refused-with 6 (f .at) → PassedALimit file
+-- the files whose answer changes: those of 32,769 to 57,344 bytes, which were refused by 1; and those that were refused by 6 at an edge
+-- field, and are not refused so today
+pub data Changed (file : List ℕ) : Type 0 where
+  longer : 32768 < length file → length file ≤ 57344 → Changed file
+  more-edges : (f : Field) → EdgeFieldOf file f → groupsReading file ≡ refused-with 6 (f .at)
+      → (readingOf file ≡ refusal 6 (f .at) → ⊥) → Changed file
 
--- so what it graded is graded with the same matrix, classes and counts, and what it refused for another reason is refused so
-abbrev pub AnsweredAsBefore : Type 0
-AnsweredAsBefore = (file : List ℕ) (before : Buffers) → (rightly file before ≡ groupwise file before) ⊎ PassedALimit file
+-- the outcome of before keeps today's promise, or the file is one of these; never both
+pub record AnsweredAsBefore : Type 0 where
+  pub as-before : (file : List ℕ) (before : Buffers) → Kept (called groupwise file before) ⊎ Changed file
+  pub changed : (file : List ℕ) (before : Buffers) → Changed file → Kept (called groupwise file before) → ⊥
+
+-- what was accepted is accepted, as the same circuit, each type of which has the edges of its groups, in order; so its rows are the same,
+-- and the report, which is made of them and of the outcome
+abbrev pub AcceptedAsBefore : Type 0
+AcceptedAsBefore =
+    (file : List ℕ) (c : Circuit) (groups : List (List Group)) → groupsReading file ≡ accepted-with c groups
+    → (readingOf file ≡ accepted c) × (map (λ (t : ModuleType). t .edges) (c .types) ≡ map ofGroups groups)
+
+-- one edge for each label, in order, a label that repeats each time: no answer of `grade` would show it
+pub record GroupedFieldsRead : Type 0 where
+  pub nand-file : readingOf (nandUnder ("00" ∷ [])) ≡ accepted (record {
+    inputs = 2;
+    types = nand ∷ [];
+    bridges = [];
+    instances = record { type = 1; choice = exhaustive; references = primary 1 ∷ primary 2 ∷ [] } ∷ [];
+    vectors = (at0 ∷ at0 ∷ []) ∷ [];
+  })
+  pub repeated : edgesIn 2 (0 ∷ 2 ∷ 3 ∷ 0 ∷ 3 ∷ []) ≡ edge 0 2 n-channel 3 ∷ edge 0 2 n-channel 0 ∷ edge 0 2 n-channel 3 ∷ []
+
+-- ---- wrong ways to take edges: graders that differ in one test of an edge field
+
+unfoldable pub retested : ℕ → (Known → List ℕ → Bool) → Known → Field → Test → Test
+retested number refuses known f t =
+    cond (isEdge (tagOf (f .tag)) && eqb (t .number) number) (test number (refuses known (f .body)) (t .place)) t
+
+abbrev pub edgesBy : ℕ → (Known → List ℕ → Bool) → Grader
+edgesBy number refuses = testing (λ known f. map (retested number refuses known f) (fieldTests known f)) (endTests true)
+
+abbrev pub edgesSoFar : Known → ℕ
+edgesSoFar known = length (latest (known .circuit .types) .edges)
+
+-- the limit of before
+unfoldable pub stillSixtyFour : Grader
+stillSixtyFour = edgesBy 6 λ known body. ltb 64 (edgesSoFar known + (length body - 2))
+
+-- it looks only whether the type is full already, so that a field can pass the limit
+unfoldable pub looksWhenFull : Grader
+looksWhenFull = edgesBy 6 λ known body. leb 256 (edgesSoFar known)
+
+-- a field has one label, and an old one is refused
+unfoldable pub refusesGroups : Grader
+refusesGroups = edgesBy 5 λ known body. not (eqb (length body) 3)
+
+pub record WrongEdgesAreWrong : Type 0 where
+  pub still-sixty-four : MeetsPromise stillSixtyFour → ⊥
+  pub looks-when-full : MeetsPromise looksWhenFull → ⊥
+  pub refuses-groups : MeetsPromise refusesGroups → ⊥

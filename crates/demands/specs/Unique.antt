@@ -21,6 +21,11 @@ use Rattle.print_lines.proofs.put_bytes as print-lines-put-bytes
 use Rattle.print_lines.proofs.put_number as print-lines-put-number
 use Rattle.print_lines.proofs.give as print-lines-give
 use Rattle.print_lines.proofs.refusal_line as print-lines-refusal-line
+use Rattle.switch.proofs.edges.edge_with as switch-edge-with
+use Rattle.switch.proofs.edges.first_of as switch-first-of
+use Rattle.switch.proofs.edges.second_of as switch-second-of
+use Rattle.switch.proofs.edges.label_of as switch-label-of
+use Rattle.switch.proofs.edges.gate_of as switch-gate-of
 use Rattle.join_nodes.proofs.complementary.complementary as join-nodes-complementary
 use Rattle.join_nodes.proofs.complementary.check_type as join-nodes-check-type
 use Rattle.join_nodes.proofs.rails.joining as join-nodes-joining
@@ -121,6 +126,11 @@ pub record Unique : Type 2 where
   pub print-lines-give : Sole print-lines-give.ended print-lines-give.Reads.Asked print-lines-give.Reads.Learnt
   pub print-lines-refusal-line :
       Sole print-lines-refusal-line.ended print-lines-refusal-line.Reads.Asked print-lines-refusal-line.Reads.Learnt
+  pub switch-edge-with : SoleWhereMet switch-edge-with.ended switch-edge-with.Reads.Asked switch-edge-with.Reads.Learnt
+  pub switch-first-of : Sole switch-first-of.ended switch-first-of.Reads.Asked switch-first-of.Reads.Learnt
+  pub switch-second-of : Sole switch-second-of.ended switch-second-of.Reads.Asked switch-second-of.Reads.Learnt
+  pub switch-label-of : Sole switch-label-of.ended switch-label-of.Reads.Asked switch-label-of.Reads.Learnt
+  pub switch-gate-of : Sole switch-gate-of.ended switch-gate-of.Reads.Asked switch-gate-of.Reads.Learnt
   pub join-nodes-complementary : SoleByClauses join-nodes-complementary.ended (λ M. join-nodes-complementary.clauses {M = M})
   pub join-nodes-check-type : SoleWhereMet join-nodes-check-type.ended join-nodes-check-type.Reads.Asked join-nodes-check-type.Reads.Learnt
   pub join-nodes-joining : SoleByClauses join-nodes-joining.ended (λ M. join-nodes-joining.clauses {M = M})

@@ -10,9 +10,10 @@ use lib.ListN.{length, getD, take, replicate}
 use Rattle.words.specs.Bits.{ofBool, pack, sumTo}
 use Rattle.words.specs.Tables.{table, upTo}
 use Rattle.words.specs.Rows.{rowOf}
-use Rattle.switch.specs.Conduction.{Value, at0, at1, atX, Link, anyOf, ground, supply}
+use Rattle.switch.specs.Conduction.{Value, at0, at1, atX, Link, ground, supply}
 use Rattle.switch.specs.Modules.{ModuleType, linksOf}
 use Rattle.switch.specs.Bridges.{Bridge, nodes, input, closing}
+use Rattle.switch.specs.Grouped.{anyOf}
 use Rattle.switch.specs.Deciding as deciding
 use Rattle.switch.specs.Deciding.{joins, levelIn, isMarked}
 use Rattle.circuit.specs.Fields.{Field}

@@ -8,8 +8,7 @@ use mathlib.Core.List.{List, [], _∷_, _++_, Memᴰ·append-left, Memᴰ·appen
 use mathlib.Core.List.{List·Memᴰ·head, List·Memᴰ·tail, List·Memᴰ·cases-cons, List·Memᴰ·not-nil}
 use lib.Dec.{T}
 use Rattle.switch.specs.Conduction.{Channel, Edge, edgesFor, Switching, edgeOn, links, Link, Among, LinkPath, here, forth, back}
-use Rattle.switch.specs.Modules.{anyOf}
-use Rattle.switch.specs.Grouped.{Group, groupOn, groupLinks, ofGroups, pathLength, PathsAlike, GroupsLinkAlike}
+use Rattle.switch.specs.Grouped.{Group, anyOf, groupOn, groupLinks, ofGroups, pathLength, PathsAlike, GroupsLinkAlike}
 
 module _ (on : Switching) where
   links-append : (xs ys : List Edge) → links on (xs ++ ys) ≡ links on xs ++ links on ys

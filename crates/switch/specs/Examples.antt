@@ -1,5 +1,5 @@
--- The NAND of 01, as a type and as a record of the code: the theorems speak of some type, and the code's promises of some record.
--- 01's known results are in the crate `demands`. The proof is in proofs/Examples.
+-- The NAND of 01, an edge for each transistor, as a type and as a record of the code: the theorems speak of some type, and the code's
+-- promises of some record. 01's known results are in the crate `demands`. The proof is in proofs/Examples.
 use Prim.Native.Nat.{ℕ, _-_}
 use mathlib.Core.Path.{_≡_}
 use mathlib.Core.List.{[], _∷_, _++_, map}

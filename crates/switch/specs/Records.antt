@@ -1,7 +1,6 @@
 -- The code's records in the words of Conduction and Modules: an edge record, a module type, planes of labels, and what a record must be to
 -- be one of 01's.
 use Prim.Native.Nat.{ℕ, zero, suc, _+_, _-_, _*_, _/_, _%_, _^_, _≤_}
-use mathlib.Core.Path.{_≡_}
 use mathlib.Core.Bool.{Bool, true, false}
 use mathlib.Core.List.{List, map}
 use lib.Dec.{T}
@@ -21,7 +20,7 @@ unfoldable pub channelBy : ℕ → Channel
 channelBy zero = n-channel
 channelBy (suc b) = p-channel
 
--- the gate of an edge, what switches it, as one number below 32: its label, and 16 more in a p-channel edge
+-- the gate of an edge, what switches it, as one number below 32: its label, which is 0 to 11, and 16 more in a p-channel edge
 unfoldable pub gateOf : Edge → ℕ
 gateOf e = e .label + 16 * channelBit (e .channel)
 
@@ -45,7 +44,8 @@ labelIn r = gateIn r % 16
 unfoldable pub edgeOf : EdgeRecord → Edge
 edgeOf r = record { first = firstIn r; second = secondIn r; channel = channelBy (gateIn r / 16); label = labelIn r }
 
--- what stands in the places of a type that no edge fills, and past the end of a list of edge records
+-- what stands in the places of a type that no edge fills, and past the end of a list of edge records. It is no edge of a file: its ends are
+-- equal
 abbrev pub noEdge : EdgeRecord
 noEdge = record { code = 0 }
 

@@ -1,40 +1,33 @@
 -- The complementary check, 64 settings at a time: a word with a bit for each setting of a block that joins the output to exactly one rail, what comparing it
 -- with the counted places tells of the block, and what the blocks tell of the type. Assumes nothing.
-use Prim.Native.Nat.{ℕ, zero, suc, _+_, _-_, _*_, _%_, _^_, _≤_, _<_, min, max}
-use native.Mathlib.Nat.{lt-suc-self, lt-of-le-of-lt}
+use Prim.Native.Nat.{ℕ, _+_, _-_, _*_, _/_, _%_, _^_, _<_, min, max}
+use native.Mathlib.Nat.{lt-of-le-of-lt}
 use native.Mathlib.Omega.{arith}
-use mathlib.Core.Path.{_≡_, refl, sym, ap, subst, _∙_}
-use mathlib.Core.Bool.{Bool, true, false, _&&_, not, Bool·beq}
+use mathlib.Core.Path.{_≡_, refl, ap, subst, _∙_}
+use mathlib.Core.Bool.{Bool, true, false, not, Bool·beq}
 use mathlib.Core.List.{List}
 use lib.Bits.{bitAnd, bitOr, and-le-l, and-le-r}
 use lib.Dec.{T, ltb, eqb, eqb→eq, eqb-refl}
-use lib.ListN.{getD, take}
-use lib.Pow.{pow-mono}
+use lib.ListN.{getD}
 use borrow.Author.Tests.{lt-ltb, ltb-true}
-use Rattle.words.specs.Bits.{bit, ofBool, firstOnes}
-use Rattle.words.proofs.Laws.{bit-le-one, set-bit, bit-set, bit-or, bit-and, bit-not-under, bits-eq}
+use Rattle.words.specs.Bits.{bit, ofBool, word, firstOnes}
+use Rattle.words.proofs.Laws.{bit-le-one, ofBool-le-one, bit-word, word-lt, set-bit, bit-set, bit-or, bit-and, bit-not-under, bits-eq}
+use Rattle.words.proofs.Tables.{length-table, getD-table}
+use Rattle.words.proofs.EachLaws.{one-each}
 use Rattle.words.proofs.FirstOnes.{firstOnes-lt, bit-firstOnes}
-use Rattle.switch.specs.Conduction.{byValues, links, Link, ground, supply}
+use Rattle.switch.specs.Conduction.{Value, byValues, edgeOn, Link, ground, supply}
 use Rattle.switch.specs.Modules.{ModuleType, linksOf, settingOf}
 use Rattle.switch.specs.Deciding.{joins, oneRail}
 use Rattle.switch.specs.Blocks.{blockHolds}
-use Rattle.switch.specs.Records.{edgesOf, typeOf, TypeGiven, byPlanes}
-use Rattle.switch.specs.Promises.{railWords}
-use Rattle.switch.specs.declared.ModuleType.{ModuleType as TypeRecord}
-use Rattle.switch.proofs.Paths.{links-cong}
+use Rattle.switch.specs.Records.{channelBy}
 use Rattle.switch.proofs.Deciding.{same-test}
 use Rattle.switch.proofs.Blocks.{block-each}
-use Rattle.switch.proofs.Outputs.{bit-railWords}
-use Rattle.switch.proofs.Ranges.{given-type, given-edges}
-use Rattle.join_nodes.specs.Model.{settingOnes, settingZeros, outputWords}
+use Rattle.join_nodes.specs.Model.{edgeIn, typeIn, ColumnsGiven, WidePlanes, gateWord, joinedWords, outputWords, OutputTold, settingOnes, settingZeros}
 use Rattle.join_nodes.specs.declared.complementary.OutputWords.{OutputWords}
-use Rattle.join_nodes.proofs.RailWords.{railWords-lt}
+use Rattle.join_nodes.proofs.RailWords.{links-are, gate-tells}
 use Rattle.join_nodes.proofs.SettingBlocks.{settings-switch}
 
 -- ---- the word of a block
-
-pub output-within : (r : TypeRecord) → TypeGiven r → r .output < 32
-output-within r given = omega (arith, given-type r given .highest, given-type r given .output-high)
 
 -- exactly one of two bits
 one-of-two : (a b : Bool) → min (max (ofBool b) (ofBool a)) (1 - min (ofBool b) (ofBool a)) ≡ ofBool (not (Bool·beq a b))
@@ -43,46 +36,30 @@ one-of-two true false = refl
 one-of-two false true = refl
 one-of-two false false = refl
 
--- the output's word for a rail under the settings of a block
-abbrev railWord : TypeRecord → ℕ → ℕ → ℕ
-railWord r block rail = getD (railWords (typeOf r) (settingOnes block) (settingZeros block) rail) (r .output) 0
+-- the places where exactly one of two words has a 1
+abbrev oneWord : OutputWords → ℕ
+oneWord r = bitAnd (bitOr (r .supply) (r .ground)) ((2 ^ 64 - 1) - bitAnd (r .supply) (r .ground))
 
--- the places of the settings that join the output to exactly one rail
-abbrev oneWord : TypeRecord → ℕ → ℕ
-oneWord r block =
-    bitAnd
-    (bitOr (railWord r block supply) (railWord r block ground))
-    ((2 ^ 64 - 1) - bitAnd (railWord r block supply) (railWord r block ground))
+module _ (ws : ℕ → List Link) (o : ℕ) (node : o < 32) where
+  abbrev bits : ℕ → ℕ → ℕ
+  bits rail v = ofBool (joins (ws v) o rail)
 
-module _ (r : TypeRecord) (given : TypeGiven r) (block v : ℕ) (place : v < 64) where
-  -- under the planes of a block the links are those of its settings
-  block-links : links (byPlanes (settingOnes block) (settingZeros block) v) (typeOf r .edges) ≡ linksOf (typeOf r) (settingOf (64 * block + v))
-  unfolding linksOf typeOf
-  block-links =
-      links-cong
-      (r .labels)
-      (byPlanes (settingOnes block) (settingZeros block) v)
-      (byValues (settingOf (64 * block + v)))
-      (λ c l k. settings-switch block v c l place (omega (arith, given-type r given .labels-high)))
-      (r .highest)
-      (edgesOf (take (r .count) (r .edges)))
-      (given-edges r given)
+  word-of : (rail : ℕ) → getD (joinedWords ws rail) o 0 ≡ word (bits rail)
+  unfolding joinedWords
+  word-of rail = getD-table 32 (λ (m : ℕ). word (λ (v : ℕ). ofBool (joins (ws v) m rail))) 0 o node
 
-  rail-bit : (rail : ℕ) → bit (railWord r block rail) v ≡ ofBool (joins (linksOf (typeOf r) (settingOf (64 * block + v))) (r .output) rail)
-  rail-bit rail =
-      bit-railWords (typeOf r) (settingOnes block) (settingZeros block) rail (r .output) v (output-within r given) place
-      ∙ ap (λ (ws : List Link). ofBool (joins ws (r .output) rail)) block-links
+  rail-bit : (rail v : ℕ) → v < 64 → bit (getD (joinedWords ws rail) o 0) v ≡ bits rail v
+  rail-bit rail v h = ap (λ (w : ℕ). bit w v) (word-of rail) ∙ bit-word (bits rail) (λ u. ofBool-le-one (joins (ws u) o rail)) v h
 
-  one-bit : bit (oneWord r block) v ≡ ofBool (oneRail (typeOf r) (settingOf (64 * block + v)))
-  unfolding oneRail typeOf
-  one-bit =
-      let s : ℕ = railWord r block supply in
-      let g : ℕ = railWord r block ground in
-      let ws : List Link = linksOf (typeOf r) (settingOf (64 * block + v)) in
-      let fits : s < 2 ^ 64 = railWords-lt (typeOf r) (settingOnes block) (settingZeros block) supply (r .output) (output-within r given) in
-      bit-not-under 64 (bitOr s g) (bitAnd s g) v (lt-of-le-of-lt (and-le-l s g) fits) place
-      ∙ rw (bit-or s g v, bit-and s g v, rail-bit supply, rail-bit ground)
-      (one-of-two (joins ws (r .output) ground) (joins ws (r .output) supply))
+  rail-fits : (rail : ℕ) → getD (joinedWords ws rail) o 0 < 2 ^ 64
+  rail-fits rail = rw (word-of rail) (word-lt (bits rail) (λ u. ofBool-le-one (joins (ws u) o rail)))
+
+  one-bit : (v : ℕ) → v < 64 → bit (oneWord (outputWords ws o)) v ≡ ofBool (not (Bool·beq (joins (ws v) o ground) (joins (ws v) o supply)))
+  one-bit v h =
+      let s : ℕ = getD (joinedWords ws supply) o 0 in
+      let g : ℕ = getD (joinedWords ws ground) o 0 in
+      bit-not-under 64 (bitOr s g) (bitAnd s g) v (lt-of-le-of-lt (and-le-l s g) (rail-fits supply)) h
+      ∙ rw (bit-or s g v, bit-and s g v, rail-bit supply v h, rail-bit ground v h) (one-of-two (joins (ws v) o ground) (joins (ws v) o supply))
 
 -- ---- what the comparison tells
 
@@ -122,22 +99,38 @@ module _ (t : ModuleType) (block one : ℕ) (bits : (v : ℕ) → v < 64 → bit
       (λ e. block-each t block .1 (each-passes (eqb→eq (bitAnd one counted) counted e)))
       (λ b. let same = same-word (block-each t block .0 b) in subst (λ (w : ℕ). T (eqb (bitAnd one counted) w)) same (eqb-refl (bitAnd one counted)))
 
--- the test of a block, from what the calls give
-pub block-verdict : (r : TypeRecord) → TypeGiven r → (block settings counts : ℕ) (ones zeros : List ℕ) (words : OutputWords)
-    → settings ≡ 2 ^ (r .labels) → ones ≡ settingOnes block → zeros ≡ settingZeros block → words ≡ outputWords (typeOf r) ones zeros
-    → counts ≡ firstOnes (settings - 64 * block)
-    → let s = words .supply in let g = words .ground in
-    eqb (bitAnd (bitAnd (bitOr s g) ((2 ^ 64 - 1) - bitAnd s g)) counts) counts ≡ blockHolds (typeOf r) block
-unfolding counted typeOf
-block-verdict r given block settings counts ones zeros words k o z e n =
-    rw (e, o, z, n, k) (holds (typeOf r) block (oneWord r block) (one-bit r given block))
+-- ---- a block
 
--- ---- the settings
+module _ {h o k : ℕ} {firsts seconds gates : List ℕ} {n : ℕ} (given : ColumnsGiven h o k firsts seconds gates n) (block : ℕ) where
+  abbrev t : ModuleType
+  t = typeIn h o k firsts seconds gates n
 
-module _ (r : TypeRecord) (given : TypeGiven r) where
-  few-settings : 2 ^ (r .labels) ≤ 4096
-  few-settings = pow-mono {i = r .labels} {j = 12} (given-type r given .labels-high)
+  abbrev setting : ℕ → ℕ → Value
+  setting v = settingOf (64 * block + v)
 
-  -- the settings are counted by a shift that loses no bit
-  pub settings-count : (1 * 2 ^ (r .labels) % 2 ^ 64 ≡ 2 ^ (r .labels)) × (2 ^ (r .labels) ≤ 4096)
-  settings-count = (omega (arith, few-settings), few-settings)
+  -- the planes of a block's settings switch on what the settings do
+  module _ (planes : List ℕ) (wide : WidePlanes (settingOnes block) (settingZeros block) 1 planes) where
+    by-settings : (v i : ℕ) → v < 64 → i < n
+        → bit (gateWord 1 0 gates planes i) v ≡ ofBool (edgeOn (byValues (setting v)) (edgeIn firsts seconds gates i))
+    unfolding edgeOn edgeIn settingOnes settingZeros
+    by-settings v i m l =
+        let g : ℕ = getD gates i 0 in
+        gate-tells firsts seconds gates n (given .fit) wide 0 (omega arith) v i m l
+        ∙ rw (one-each 12 (settingOnes block) (length-table 12 _), one-each 12 (settingZeros block) (length-table 12 _))
+        (ap ofBool (settings-switch block v (channelBy (g / 16)) (g % 16) m (given .label i l)))
+
+    one-word : (words : OutputWords) → OutputTold firsts seconds gates planes n o words
+        → (v : ℕ) → v < 64 → bit (oneWord words) v ≡ ofBool (oneRail t (setting v))
+    unfolding oneRail typeIn linksOf
+    one-word words told v m =
+        rw (told (λ (u : ℕ). linksOf t (setting u)) (links-are firsts seconds gates n (gateWord 1 0 gates planes) (λ (u : ℕ). byValues (setting u)) by-settings))
+        (one-bit (λ (u : ℕ). linksOf t (setting u)) o (given .output) v m)
+
+  -- the test of a block, from what the calls give
+  pub block-verdict : (settings counts : ℕ) (ones zeros planes : List ℕ) (words : OutputWords)
+      → settings ≡ 2 ^ k → ones ≡ settingOnes block → zeros ≡ settingZeros block → WidePlanes ones zeros 1 planes
+      → OutputTold firsts seconds gates planes n o words → counts ≡ firstOnes (settings - 64 * block)
+      → eqb (bitAnd (oneWord words) counts) counts ≡ blockHolds t block
+  unfolding counted typeIn
+  block-verdict settings counts ones zeros planes words e isOnes isZeros wide told c =
+      rw (c, e) (holds t block (oneWord words) (one-word planes (rw (isOnes, isZeros) at wide) words told))

@@ -1,13 +1,12 @@
--- Rounds of joining, as lists of words: which links the edges give under a vector; what a round adds to the words; words that a round leaves
--- as they are tell which nodes are joined to the rail; and the sum of words that grow. Assumes nothing.
+-- Rounds of joining, as lists of words: what a round adds to the words; words that a round leaves as they are tell which nodes are joined to the rail; and the sum of words that grow. Assumes nothing.
 use Prim.Native.Nat.{ℕ, zero, suc, _+_, _-_, _*_, _^_, _≤_, _<_, max}
 use native.Mathlib.Nat.{not-suc-le-zero, le-of-suc-le-suc, eq-or-lt-of-le, le-refl, le-trans, lt-of-le-of-lt, suc-mul, lt-of-not-le}
 use native.Mathlib.Decide.{ℕ-discrete}
 use native.Mathlib.Omega.{arith}
 use mathlib.Core.Path.{_≡_, refl, ap, _∙_}
 use mathlib.Core.Bool.{Bool, true, false}
-use mathlib.Core.Logic.{_⊎_, inl, inr, ⊎-elim, _↔_}
-use mathlib.Core.List.{List, [], _∷_, List·Memᴰ·head, List·Memᴰ·tail, List·Memᴰ·cases-cons, List·Memᴰ·not-nil}
+use mathlib.Core.Logic.{_⊎_, inl, inr, ⊎-elim}
+use mathlib.Core.List.{List, [], _∷_}
 use lib.Bits.{bitAnd, bitOr, and-le-l, and-le-r, or-add-and, or-lt}
 use lib.Dec.{T}
 use lib.ListN.{length, getD, set, replicate, length-set, length-replicate}
@@ -15,65 +14,16 @@ use lib.Seq.{getD-set-same, getD-set-other}
 use Rattle.words.specs.Bits.{bit, ofBool, word}
 use Rattle.words.proofs.Laws.{bit-le-one, bit-zero, bit-or, bit-and, bit-ones, word-of-bits}
 use Rattle.words.proofs.Tables.{is-table}
-use Rattle.switch.specs.Conduction.{Link, Among, Joined, here, forth, back}
+use Rattle.switch.specs.Conduction.{Link, Joined, here, forth, back}
 use Rattle.switch.specs.Deciding.{joins}
 use Rattle.switch.proofs.Paths.{turned, carried}
 use Rattle.switch.proofs.Deciding.{joins-decides}
-use Rattle.join_nodes.specs.Model.{NodesInRange, linkIf, linksTo, joinedWords, added, roundTo}
+use Rattle.join_nodes.specs.Model.{LinksAre, joinedWords, added, roundTo}
 
--- ---- the links of the edges that are on under a vector
-
--- w is the link of an edge, by its place, that is on under vector v
-pub record OnLink (firsts seconds on : List ℕ) (v n : ℕ) (w : Link) : Type 0 where
-  pub place : ℕ
-  pub within : place < n
-  pub is-on : bit (getD on place 0) v ≡ 1
-  pub ends : w ≡ (getD firsts place 0, getD seconds place 0)
-
-module _ (firsts seconds on : List ℕ) (v : ℕ) (w : Link) where
-  earlier : (i : ℕ) → OnLink firsts seconds on v i w → OnLink firsts seconds on v (suc i) w
-  earlier i a = record { place = a .place; within = omega (arith, a .within); is-on = a .is-on; ends = a .ends }
-
-  on-link-if : (i b : ℕ) → bit (getD on i 0) v ≡ b → (Among w (linksTo firsts seconds on v i) → OnLink firsts seconds on v i w)
-      → Among w (linkIf b (getD firsts i 0, getD seconds i 0) (linksTo firsts seconds on v i)) → OnLink firsts seconds on v (suc i) w
-  unfolding linkIf
-  on-link-if i zero e before m = earlier i (before m)
-  on-link-if i (suc b) e before m =
-      let o : bit (getD on i 0) v ≡ 1 = omega (arith, bit-le-one (getD on i 0) v) in
-      ⊎-elim
-      (λ (p : w ≡ (getD firsts i 0, getD seconds i 0)). record { place = i; within = omega arith; is-on = o; ends = p })
-      (λ (n : Among w (linksTo firsts seconds on v i)). earlier i (before n))
-      (List·Memᴰ·cases-cons m)
-
-  on-link : (n : ℕ) → Among w (linksTo firsts seconds on v n) → OnLink firsts seconds on v n w
-  unfolding linksTo
-  on-link zero m = absurd (List·Memᴰ·not-nil m)
-  on-link (suc i) m = on-link-if i (bit (getD on i 0) v) refl (on-link i) m
-
-  link-here : (b : ℕ) (u : Link) (ws : List Link) → b ≡ 1 → w ≡ u → Among w (linkIf b u ws)
-  unfolding linkIf
-  link-here zero u ws e p = absurd (omega arith)
-  link-here (suc b) u ws e p = List·Memᴰ·head p
-
-  link-later : (b : ℕ) (u : Link) (ws : List Link) → Among w ws → Among w (linkIf b u ws)
-  unfolding linkIf
-  link-later zero u ws m = m
-  link-later (suc b) u ws m = List·Memᴰ·tail m
-
-  of-on-link : (n i : ℕ) → i < n → bit (getD on i 0) v ≡ 1 → w ≡ (getD firsts i 0, getD seconds i 0) → Among w (linksTo firsts seconds on v n)
-  unfolding linksTo
-  of-on-link zero i l e p = absurd (not-suc-le-zero l)
-  of-on-link (suc n) i l e p =
-      let u : Link = (getD firsts n 0, getD seconds n 0) in
-      ⊎-elim
-      (λ (q : i ≡ n). link-here (bit (getD on n 0) v) u (linksTo firsts seconds on v n) (rw q at e) (rw q at p))
-      (λ (k : i < n). link-later (bit (getD on n 0) v) u (linksTo firsts seconds on v n) (of-on-link n i k e p))
-      (eq-or-lt-of-le (le-of-suc-le-suc l))
-
--- the links are those of the edges that are on
-pub linksTo-among : (firsts seconds on : List ℕ) (v n : ℕ) (w : Link) → Among w (linksTo firsts seconds on v n) ↔ OnLink firsts seconds on v n w
-linksTo-among firsts seconds on v n w =
-    (on-link firsts seconds on v w n, λ a. of-on-link firsts seconds on v w n (a .place) (a .within) (a .is-on) (a .ends))
+-- the first n of the edges whose nodes are 0 to 31
+pub record NodesInRange (firsts seconds : List ℕ) (n : ℕ) : Type 0 where
+  pub first : (i : ℕ) → i < n → getD firsts i 0 < 32
+  pub second : (i : ℕ) → i < n → getD seconds i 0 < 32
 
 -- ---- a word added to one of the words
 
@@ -136,14 +86,14 @@ of-ends e =
     (rw (first, second) forward, rw (first, second) backward)
 
 -- what edge j hands on of node a's word
-abbrev handed : List ℕ → List ℕ → ℕ → ℕ → ℕ
-handed on old j a = bitAnd (getD old a 0) (getD on j 0)
+abbrev handed : (ℕ → ℕ) → List ℕ → ℕ → ℕ → ℕ
+handed on old j a = bitAnd (getD old a 0) (on j)
 
 -- the words after the first i edges, and what edge i hands back to its first node
-abbrev half : List ℕ → List ℕ → List ℕ → List ℕ → ℕ → List ℕ
+abbrev half : List ℕ → List ℕ → (ℕ → ℕ) → List ℕ → ℕ → List ℕ
 half firsts seconds on old i = added (roundTo firsts seconds on old i) (getD firsts i 0) (handed on old i (getD seconds i 0))
 
-module _ (firsts seconds on old : List ℕ) where
+module _ (firsts seconds : List ℕ) (on : ℕ → ℕ) (old : List ℕ) where
   round-length : (i : ℕ) → length (roundTo firsts seconds on old i) ≡ length old
   unfolding roundTo added
   round-length zero = refl
@@ -178,13 +128,13 @@ module _ (firsts seconds on old : List ℕ) where
     round-fits : ((n : ℕ) → getD old n 0 < 2 ^ 64) → (n : ℕ) → getD (roundTo firsts seconds on old count) n 0 < 2 ^ 64
     round-fits f =
         round-ind (λ (words : List ℕ). (n : ℕ) → getD words n 0 < 2 ^ 64) f
-        (λ j a b l e words k p. added-fits words b (handed on old j a) k 64 p (lt-of-le-of-lt (and-le-l (getD old a 0) (getD on j 0)) (f a)))
+        (λ j a b l e words k p. added-fits words b (handed on old j a) k 64 p (lt-of-le-of-lt (and-le-l (getD old a 0) (on j)) (f a)))
         count (le-refl count)
 
     module _ (v : ℕ) where
       -- no node gets a bit but from a node that had it, along an edge that is on
       round-only : (Q : ℕ → Type 0) → ((n : ℕ) → bit (getD old n 0) v ≡ 1 → Q n)
-          → ((j a b : ℕ) → j < count → Along firsts seconds j a b → bit (getD on j 0) v ≡ 1 → Q a → Q b)
+          → ((j a b : ℕ) → j < count → Along firsts seconds j a b → bit (on j) v ≡ 1 → Q a → Q b)
           → (n : ℕ) → bit (getD (roundTo firsts seconds on old count) n 0) v ≡ 1 → Q n
       round-only Q had along =
           round-ind (λ (words : List ℕ). (n : ℕ) → bit (getD words n 0) v ≡ 1 → Q n) had
@@ -195,25 +145,25 @@ module _ (firsts seconds on old : List ℕ) where
           got : (j a b : ℕ) → j < count → Along firsts seconds j a b → (n : ℕ) → (n ≡ b) × (bit (handed on old j a) v ≡ 1) → Q n
           got j a b l e n q =
               let least = rw bit-and at (q .1) in
-              let o : bit (getD on j 0) v ≡ 1 = omega (arith, bit-le-one (getD on j 0) v) in
+              let o : bit (on j) v ≡ 1 = omega (arith, bit-le-one (on j) v) in
               let h : bit (getD old a 0) v ≡ 1 = omega (arith, bit-le-one (getD old a 0) v) in
               rw (q .0) (along j a b l e o (had a h))
 
       -- the edge that was passed last hands on, and what the edges before handed on is kept
-      hands-last : (i a b : ℕ) → i < count → Along firsts seconds i a b → bit (getD on i 0) v ≡ 1
+      hands-last : (i a b : ℕ) → i < count → Along firsts seconds i a b → bit (on i) v ≡ 1
           → bit (getD old a 0) v ≤ bit (getD (roundTo firsts seconds on old (suc i)) b 0) v
       unfolding roundTo
       hands-last i a b h forward o =
           omega (
             arith,
-            bit-and (getD old a 0) (getD on i 0) v,
+            bit-and (getD old a 0) (on i) v,
             bit-le-one (getD old a 0) v,
             added-bit-here (half firsts seconds on old i) b (handed on old i a) (in-half i b (ranges .second i h)) v,
           )
       hands-last i a b h backward o =
           omega (
             arith,
-            bit-and (getD old a 0) (getD on i 0) v,
+            bit-and (getD old a 0) (on i) v,
             bit-le-one (getD old a 0) v,
             added-bit-here (roundTo firsts seconds on old i) b (handed on old i a) (in-round i b (ranges .first i h)) v,
             added-bit-grows (half firsts seconds on old i) a (handed on old i b) (in-half i a (ranges .second i h)) v b,
@@ -230,7 +180,7 @@ module _ (firsts seconds on old : List ℕ) where
           (added-bit-grows (half firsts seconds on old i) b (handed on old i a) (in-half i b (ranges .second i h)) v n)
 
       -- so every edge that is on hands on, either way
-      round-hands : (i : ℕ) → i ≤ count → (j a b : ℕ) → j < i → Along firsts seconds j a b → bit (getD on j 0) v ≡ 1
+      round-hands : (i : ℕ) → i ≤ count → (j a b : ℕ) → j < i → Along firsts seconds j a b → bit (on j) v ≡ 1
           → bit (getD old a 0) v ≤ bit (getD (roundTo firsts seconds on old i) b 0) v
       round-hands zero h j a b l e o = absurd (not-suc-le-zero l)
       round-hands (suc i) h j a b l e o =
@@ -275,11 +225,11 @@ total-more l more e f apart = lt-of-not-le (λ h. apart (total-same l more e f h
 -- ---- rounds until one adds nothing
 
 -- what holds of the words before every round: they are 32 words, the rail has every bit, and a node has a bit only where it is joined to the rail
-pub record Reached (firsts seconds on : List ℕ) (count rail : ℕ) (joined : List ℕ) : Type 0 where
+pub record Reached (ws : ℕ → List Link) (rail : ℕ) (joined : List ℕ) : Type 0 where
   pub long : length joined ≡ 32
   pub fits : (m : ℕ) → getD joined m 0 < 2 ^ 64
   pub whole : getD joined rail 0 ≡ 2 ^ 64 - 1
-  pub only : (m v : ℕ) → v < 64 → bit (getD joined m 0) v ≡ 1 → Joined (linksTo firsts seconds on v count) rail m
+  pub only : (m v : ℕ) → v < 64 → bit (getD joined m 0) v ≡ 1 → Joined (ws v) rail m
 
 -- a bit that is 1 exactly when a test holds is the test's
 pub decided : (x : ℕ) (b : Bool) → x ≤ 1 → (x ≡ 1 → T b) → (T b → x ≡ 1) → x ≡ ofBool b
@@ -313,23 +263,23 @@ module _ (rail : ℕ) (rail-in : rail < 32) where
       at (yes e) = inl (e, rw e first-whole)
       at (no e) = inr (getD-set-other (replicate 32 0) rail m (2 ^ 64 - 1) 0 e ∙ zero-at 32 m)
 
-  pub reached-first : (firsts seconds on : List ℕ) (count : ℕ) → Reached firsts seconds on count rail (firstWords rail)
-  reached-first firsts seconds on count = record {
+  pub reached-first : (ws : ℕ → List Link) → Reached ws rail (firstWords rail)
+  reached-first ws = record {
     long = first-long;
     fits = λ m. ⊎-elim (λ e. omega (arith, e .1)) (λ e. omega arith) (first-at m);
     whole = first-whole;
     only = λ m v l h. ⊎-elim (λ e. rw (e .0) here) (λ e. absurd (omega (arith, bit-zero v, ap (λ (w : ℕ). bit w v) e))) (first-at m);
   }
 
-module _ {firsts seconds on : List ℕ} {count rail : ℕ} {joined : List ℕ}
-    (ranges : NodesInRange firsts seconds count) (r : Reached firsts seconds on count rail joined) where
-  along-joined : (v j a b : ℕ) → j < count → Along firsts seconds j a b → bit (getD on j 0) v ≡ 1
-      → Joined (linksTo firsts seconds on v count) rail a → Joined (linksTo firsts seconds on v count) rail b
-  along-joined v j a b l forward o p = forth (of-on-link firsts seconds on v (a, b) count j l o refl) p
-  along-joined v j a b l backward o p = back (of-on-link firsts seconds on v (b, a) count j l o refl) p
+module _ {firsts seconds : List ℕ} {on : ℕ → ℕ} {count rail : ℕ} {joined : List ℕ} {ws : ℕ → List Link}
+    (ranges : NodesInRange firsts seconds count) (are : LinksAre firsts seconds on count ws) (r : Reached ws rail joined) where
+  along-joined : (v : ℕ) → v < 64 → (j a b : ℕ) → j < count → Along firsts seconds j a b → bit (on j) v ≡ 1
+      → Joined (ws v) rail a → Joined (ws v) rail b
+  along-joined v h j a b l forward o p = forth (are v h (a, b) .1 (record { place = j; within = l; is-on = o; ends = refl })) p
+  along-joined v h j a b l backward o p = back (are v h (b, a) .1 (record { place = j; within = l; is-on = o; ends = refl })) p
 
   -- a round keeps it
-  pub reached-again : Reached firsts seconds on count rail (roundTo firsts seconds on joined count)
+  pub reached-again : Reached ws rail (roundTo firsts seconds on joined count)
   reached-again =
       let fits = round-fits firsts seconds on joined count ranges (r .long) (r .fits) in
       record {
@@ -337,12 +287,12 @@ module _ {firsts seconds on : List ℕ} {count rail : ℕ} {joined : List ℕ}
         fits = fits;
         whole = omega (arith, r .whole, fits rail, round-grows firsts seconds on joined count ranges (r .long) rail);
         only = λ m v l.
-            round-only firsts seconds on joined count ranges (r .long) v (Joined (linksTo firsts seconds on v count) rail)
-            (λ n q. r .only n v l q) (along-joined v) m;
+            round-only firsts seconds on joined count ranges (r .long) v (Joined (ws v) rail)
+            (λ n q. r .only n v l q) (along-joined v l) m;
       }
 
   module _ (same : joined ≡ roundTo firsts seconds on joined count) (v : ℕ) (l : v < 64) where
-    handed-on : (j a b : ℕ) → j < count → Along firsts seconds j a b → bit (getD on j 0) v ≡ 1
+    handed-on : (j a b : ℕ) → j < count → Along firsts seconds j a b → bit (on j) v ≡ 1
         → bit (getD joined a 0) v ≡ 1 → bit (getD joined b 0) v ≡ 1
     handed-on j a b k e o h =
         omega (
@@ -353,23 +303,23 @@ module _ {firsts seconds on : List ℕ} {count rail : ℕ} {joined : List ℕ}
         )
 
     -- where a round adds nothing, every node that is joined to the rail has its bit
-    joined-has : (m : ℕ) → Joined (linksTo firsts seconds on v count) rail m → bit (getD joined m 0) v ≡ 1
+    joined-has : (m : ℕ) → Joined (ws v) rail m → bit (getD joined m 0) v ≡ 1
     joined-has m p =
         carried (λ (n : ℕ). bit (getD joined n 0) v ≡ 1)
-        (λ a b w. let o = on-link firsts seconds on v (a, b) count w in handed-on (o .place) a b (o .within) (of-ends (o .ends) .0) (o .is-on))
-        (λ a b w. let o = on-link firsts seconds on v (a, b) count w in handed-on (o .place) b a (o .within) (of-ends (o .ends) .1) (o .is-on))
+        (λ a b w. let o = are v l (a, b) .0 w in handed-on (o .place) a b (o .within) (of-ends (o .ends) .0) (o .is-on))
+        (λ a b w. let o = are v l (a, b) .0 w in handed-on (o .place) b a (o .within) (of-ends (o .ends) .1) (o .is-on))
         p (rw (r .whole) (bit-ones 64 v l))
 
-    joined-bit : (m : ℕ) → bit (getD joined m 0) v ≡ ofBool (joins (linksTo firsts seconds on v count) m rail)
+    joined-bit : (m : ℕ) → bit (getD joined m 0) v ≡ ofBool (joins (ws v) m rail)
     joined-bit m =
-        decided (bit (getD joined m 0) v) (joins (linksTo firsts seconds on v count) m rail) (bit-le-one (getD joined m 0) v)
-        (λ e. (joins-decides (linksTo firsts seconds on v count) m rail) .0 (turned (r .only m v l e)))
-        (λ t. joined-has m (turned ((joins-decides (linksTo firsts seconds on v count) m rail) .1 t)))
+        decided (bit (getD joined m 0) v) (joins (ws v) m rail) (bit-le-one (getD joined m 0) v)
+        (λ e. (joins-decides (ws v) m rail) .0 (turned (r .only m v l e)))
+        (λ t. joined-has m (turned ((joins-decides (ws v) m rail) .1 t)))
 
   -- where a round adds nothing, the words are those that are asked
-  pub reached-all : joined ≡ roundTo firsts seconds on joined count → joined ≡ joinedWords firsts seconds on count rail
+  pub reached-all : joined ≡ roundTo firsts seconds on joined count → joined ≡ joinedWords ws rail
   unfolding joinedWords
   reached-all same =
-      let bits : ℕ → ℕ → ℕ = λ (m v : ℕ). ofBool (joins (linksTo firsts seconds on v count) m rail) in
+      let bits : ℕ → ℕ → ℕ = λ (m v : ℕ). ofBool (joins (ws v) m rail) in
       is-table 0 32 (λ (m : ℕ). word (bits m)) joined (r .long)
       (λ m k. word-of-bits (getD joined m 0) (bits m) (r .fits m) (λ v l. joined-bit same v l m))

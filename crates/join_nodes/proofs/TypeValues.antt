@@ -25,8 +25,8 @@ use Rattle.switch.proofs.ModuleType.Laws as R′
 use Rattle.join_nodes.proofs.Walks.{fieldsOf, records-of}
 use Rattle.join_nodes.proofs.Spreading.{front-long}
 
-abbrev pub E64 : RattleType
-E64 = Array T.the-row 64
+abbrev pub E256 : RattleType
+E256 = Array T.the-row 256
 
 -- the type of a local that holds a slice of edges
 abbrev pub slice : Ty
@@ -55,12 +55,12 @@ module _ (t : ModuleType) (is : Is R.the-row t (mach t ∷ [])) where
   pub count-fits : t .count < 2 ^ 64
   count-fits = LL.owed R.the-type R′.the-laws t (mach t ∷ []) is .1 .1 .1 .0 .1
 
-  pub edges-are : Is E64 (t .edges) (getV (vs t) 4 ∷ [])
+  pub edges-are : Is E256 (t .edges) (getV (vs t) 4 ∷ [])
   edges-are =
-      records-of (Struct (shape T.the-type)) Edge (T.the-type .to) 64 (t .edges) (getV (vs t) 4 ∷ [])
+      records-of (Struct (shape T.the-type)) Edge (T.the-type .to) 256 (t .edges) (getV (vs t) 4 ∷ [])
       (LL.owed R.the-type R′.the-laws t (mach t ∷ []) is .1 .1 .1 .1 .0)
 
-  pub edges-long : length (t .edges) ≡ 64
+  pub edges-long : length (t .edges) ≡ 256
   edges-long = edges-are .1 .0 .1
 
   pub front-room : TypeGiven t → Room T.the-row (length (front t))

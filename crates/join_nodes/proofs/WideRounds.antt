@@ -1,4 +1,4 @@
--- Rounds over nodes and edges that have some words each: word w of each node has the round of RoundLaws over word w of each edge, for no place of one word
+-- Rounds over nodes and gates that have some words each: word w of each node has the round of RoundLaws over word w of each gate, for no place of one word
 -- of a node is a place of another; so what holds of rounds over one word each holds here. And taking a round's words over. Assumes nothing.
 use Prim.Native.Nat.{ℕ, zero, suc, _+_, _-_, _*_, _^_, _≤_, _<_}
 use native.Mathlib.Nat.{le-refl, le-trans, not-suc-le-zero, eq-or-lt-of-le, le-of-suc-le-suc, lt-of-le-of-lt}
@@ -14,8 +14,10 @@ use Rattle.words.specs.Each.{wordOfEach}
 use Rattle.words.proofs.Laws.{none-or}
 use Rattle.words.proofs.Tables.{is-table, length-table}
 use Rattle.words.proofs.EachLaws.{each-before, each-at}
-use Rattle.join_nodes.specs.Model.{NodesInRange, WideEdges, WideJoined, added, roundTo, handedTo, wideRoundTo, onesTo, RoundTaken}
+use Rattle.switch.specs.Conduction.{Link}
+use Rattle.join_nodes.specs.Model.{ColumnsFit, gateWord, LinksAre, WideJoined, added, roundTo, handedTo, wideRoundTo, onesTo, RoundTaken}
 use Rattle.join_nodes.proofs.RoundLaws.{
+  NodesInRange,
   added-here,
   added-grows,
   added-fits,
@@ -89,58 +91,55 @@ away-less to n i away =
 
 -- ---- the words of one thing handed on
 
-module _ (on : List ℕ) (at : ℕ) (joined : List ℕ) (from : ℕ) (next : List ℕ) (to : ℕ) where
-  pub handed-length : (w : ℕ) → length (handedTo on at joined from next to w) ≡ length next
+module _ (planes : List ℕ) (at : ℕ) (joined : List ℕ) (from : ℕ) (next : List ℕ) (to : ℕ) where
+  pub handed-length : (w : ℕ) → length (handedTo planes at joined from next to w) ≡ length next
   unfolding handedTo added
   handed-length zero = refl
   handed-length (suc w) = simp length-set (handed-length w)
 
   -- the words elsewhere are as they were
-  handed-elsewhere : (w i : ℕ) → (i < to) ⊎ (to + w ≤ i) → getD (handedTo on at joined from next to w) i 0 ≡ getD next i 0
+  handed-elsewhere : (w i : ℕ) → (i < to) ⊎ (to + w ≤ i) → getD (handedTo planes at joined from next to w) i 0 ≡ getD next i 0
   unfolding handedTo added
   handed-elsewhere zero i away = refl
   handed-elsewhere (suc w) i away =
-      let less = away-less to w i away in getD-set-other (handedTo on at joined from next to w) (to + w) i _ 0 (less .0) ∙ handed-elsewhere w i (less .1)
+      let less = away-less to w i away in getD-set-other (handedTo planes at joined from next to w) (to + w) i _ 0 (less .0) ∙ handed-elsewhere w i (less .1)
 
   module _ (width : ℕ) (room : to + width ≤ length next) where
-    in-handed : (w : ℕ) → w < width → to + w < length (handedTo on at joined from next to w)
+    in-handed : (w : ℕ) → w < width → to + w < length (handedTo planes at joined from next to w)
     in-handed w h = omega (arith, handed-length w)
 
     handed-here : (n w : ℕ) → n ≤ width → w < n
-        → getD (handedTo on at joined from next to n) (to + w) 0 ≡ bitOr (getD next (to + w) 0) (bitAnd (getD joined (from + w) 0) (getD on (at + w) 0))
+        → getD (handedTo planes at joined from next to n) (to + w) 0 ≡ bitOr (getD next (to + w) 0) (bitAnd (getD joined (from + w) 0) (getD planes (at + w) 0))
     unfolding handedTo added
     handed-here zero w h l = absurd (not-suc-le-zero l)
     handed-here (suc n) w h l =
         ⊎-elim
         (λ (e : w ≡ n).
-        rw e (added-here (handedTo on at joined from next to n) (to + n) _ (in-handed n h) ∙ rw (handed-elsewhere n (to + n) (inr (le-refl (to + n))))))
+        rw e (added-here (handedTo planes at joined from next to n) (to + n) _ (in-handed n h) ∙ rw (handed-elsewhere n (to + n) (inr (le-refl (to + n))))))
         (λ (k : w < n).
-        getD-set-other (handedTo on at joined from next to n) (to + n) (to + w) _ 0 (λ e. omega arith) ∙ handed-here n w (omega arith) k)
+        getD-set-other (handedTo planes at joined from next to n) (to + n) (to + w) _ 0 (λ e. omega arith) ∙ handed-here n w (omega arith) k)
         (eq-or-lt-of-le (le-of-suc-le-suc l))
 
-    handed-grows : (n i : ℕ) → n ≤ width → getD next i 0 ≤ getD (handedTo on at joined from next to n) i 0
+    handed-grows : (n i : ℕ) → n ≤ width → getD next i 0 ≤ getD (handedTo planes at joined from next to n) i 0
     unfolding handedTo
     handed-grows zero i h = le-refl (getD next i 0)
     handed-grows (suc n) i h =
-        le-trans (handed-grows n i (omega arith)) (added-grows (handedTo on at joined from next to n) (to + n) _ (in-handed n h) i)
+        le-trans (handed-grows n i (omega arith)) (added-grows (handedTo planes at joined from next to n) (to + n) _ (in-handed n h) i)
 
     handed-fits : ((i : ℕ) → getD joined i 0 < 2 ^ 64) → ((i : ℕ) → getD next i 0 < 2 ^ 64) → (n : ℕ) → n ≤ width
-        → (i : ℕ) → getD (handedTo on at joined from next to n) i 0 < 2 ^ 64
+        → (i : ℕ) → getD (handedTo planes at joined from next to n) i 0 < 2 ^ 64
     unfolding handedTo
     handed-fits f g zero h = g
     handed-fits f g (suc n) h =
-        added-fits (handedTo on at joined from next to n) (to + n) _ (in-handed n h) 64 (handed-fits f g n (omega arith))
-        (lt-of-le-of-lt (and-le-l (getD joined (from + n) 0) (getD on (at + n) 0)) (f (from + n)))
+        added-fits (handedTo planes at joined from next to n) (to + n) _ (in-handed n h) 64 (handed-fits f g n (omega arith))
+        (lt-of-le-of-lt (and-le-l (getD joined (from + n) 0) (getD planes (at + n) 0)) (f (from + n)))
 
 -- ---- word w of each thing
 
 module _ (width w : ℕ) (h : w < width) where
-  -- word w of each node, and of each edge
+  -- word w of each node
   abbrev ofNodes : List ℕ → List ℕ
   ofNodes = wordOfEach width w 32
-
-  abbrev ofEdges : List ℕ → List ℕ
-  ofEdges = wordOfEach width w 64
 
   nodes-long : (words : List ℕ) → length (ofNodes words) ≡ 32
   unfolding wordOfEach
@@ -151,108 +150,109 @@ module _ (width w : ℕ) (h : w < width) where
   unfolding wordOfEach
   is-of-nodes l words long same = is-table 0 32 (λ (m : ℕ). getD words (width * m + w) 0) l long same
 
-  module _ (on joined next : List ℕ) (i a b : ℕ) (i-in : i < 64) (a-in : a < 32) (b-in : b < 32) (long : length next ≡ width * 32) where
+  module _ (planes joined next : List ℕ) (g a b : ℕ) (a-in : a < 32) (b-in : b < 32) (long : length next ≡ width * 32) where
     abbrev handedBits : ℕ
-    handedBits = bitAnd (getD (ofNodes joined) a 0) (getD (ofEdges on) i 0)
+    handedBits = bitAnd (getD (ofNodes joined) a 0) (getD planes (width * g + w) 0)
 
     each-handed-at : (m : ℕ) → m < 32 → Dec (m ≡ b) → getD (added (ofNodes next) b handedBits) m 0
-        ≡ getD (handedTo on (width * i) joined (width * a) next (width * b) width) (width * m + w) 0
+        ≡ getD (handedTo planes (width * g) joined (width * a) next (width * b) width) (width * m + w) 0
     unfolding added
     each-handed-at m k (yes e) =
         let room : width * b + width ≤ length next = omega (arith, each-before width b 32 b-in) in
         rw e
         (added-here (ofNodes next) b handedBits (rw (nodes-long next) b-in)
-        ∙ ap₂ bitOr (each-at width w 32 next b b-in) (ap₂ bitAnd (each-at width w 32 joined a a-in) (each-at width w 64 on i i-in))
-        ∙ sym (handed-here on (width * i) joined (width * a) next (width * b) width room width w (le-refl width) h))
+        ∙ ap₂ bitOr (each-at width w 32 next b b-in) (ap (λ (x : ℕ). bitAnd x (getD planes (width * g + w) 0)) (each-at width w 32 joined a a-in))
+        ∙ sym (handed-here planes (width * g) joined (width * a) next (width * b) width room width w (le-refl width) h))
     each-handed-at m k (no e) =
         getD-set-other (ofNodes next) b m _ 0 e
         ∙ each-at width w 32 next m k
-        ∙ sym (handed-elsewhere on (width * i) joined (width * a) next (width * b) width (width * m + w) (place-apart width w m b h e))
+        ∙ sym (handed-elsewhere planes (width * g) joined (width * a) next (width * b) width (width * m + w) (place-apart width w m b h e))
 
-    each-handed : ofNodes (handedTo on (width * i) joined (width * a) next (width * b) width) ≡ added (ofNodes next) b handedBits
+    each-handed : ofNodes (handedTo planes (width * g) joined (width * a) next (width * b) width) ≡ added (ofNodes next) b handedBits
     unfolding added
     each-handed =
         sym (is-of-nodes (added (ofNodes next) b handedBits) _ (simp length-set (nodes-long next)) (λ m k. each-handed-at m k (ℕ-discrete m b)))
 
 -- ---- a round
 
-pub wide-length : (firsts seconds on : List ℕ) (width : ℕ) (old : List ℕ) (i : ℕ) → length (wideRoundTo firsts seconds on width old i) ≡ length old
+pub wide-length : (firsts seconds gates planes : List ℕ) (width : ℕ) (old : List ℕ) (i : ℕ) → length (wideRoundTo firsts seconds gates planes width old i) ≡ length old
 unfolding wideRoundTo
-wide-length firsts seconds on width old zero = refl
-wide-length firsts seconds on width old (suc i) =
-    handed-length on (width * i) old _ _ _ width
-    ∙ handed-length on (width * i) old _ _ _ width
-    ∙ wide-length firsts seconds on width old i
+wide-length firsts seconds gates planes width old zero = refl
+wide-length firsts seconds gates planes width old (suc i) =
+    handed-length planes (width * getD gates i 0) old _ _ _ width
+    ∙ handed-length planes (width * getD gates i 0) old _ _ _ width
+    ∙ wide-length firsts seconds gates planes width old i
 
-module _ {firsts seconds on : List ℕ} {count width nodes : ℕ} (edges : WideEdges firsts seconds on count width nodes) where
-  pub in-range : NodesInRange firsts seconds count
+module _ {firsts seconds gates : List ℕ} {count nodes : ℕ} (edges : ColumnsFit firsts seconds gates count nodes) where
+  in-range : NodesInRange firsts seconds count
   in-range = record {
-    places = edges .places;
     first = λ i h. omega (arith, edges .first i h, edges .few-nodes);
     second = λ i h. omega (arith, edges .second i h, edges .few-nodes);
   }
 
-  module _ (old : List ℕ) (long : length old ≡ width * 32) where
+  pub all-nodes : ColumnsFit firsts seconds gates count 32
+  all-nodes = record { places = edges .places; first = in-range .first; second = in-range .second; gate = edges .gate; few-nodes = omega arith }
+
+  module _ (planes : List ℕ) (width : ℕ) (old : List ℕ) (long : length old ≡ width * 32) where
     abbrev after : ℕ → List ℕ
-    after i = wideRoundTo firsts seconds on width old i
+    after i = wideRoundTo firsts seconds gates planes width old i
 
     -- what holds of the words before, and of words with what is handed on if it holds of them without, holds of the words after
     wide-ind : (P : List ℕ → Type 0) → P old
-        → ((j a b : ℕ) → b < nodes → (words : List ℕ) → width * b + width ≤ length words → P words
-        → P (handedTo on (width * j) old (width * a) words (width * b) width))
+        → ((at a b : ℕ) → b < nodes → (words : List ℕ) → width * b + width ≤ length words → P words
+        → P (handedTo planes at old (width * a) words (width * b) width))
         → (i : ℕ) → i ≤ count → P (after i)
     unfolding wideRoundTo
     wide-ind P start step zero h = start
     wide-ind P start step (suc i) h =
         let a : ℕ = getD firsts i 0 in
         let b : ℕ = getD seconds i 0 in
-        let half : List ℕ = handedTo on (width * i) old (width * b) (after i) (width * a) width in
-        let size : length (after i) ≡ length old = wide-length firsts seconds on width old i in
-        step i a b (edges .second i h) half
-        (omega (arith, each-before width b 32 (in-range .second i h), handed-length on (width * i) old (width * b) (after i) (width * a) width))
-        (step i b a (edges .first i h) (after i) (omega (arith, each-before width a 32 (in-range .first i h))) (wide-ind P start step i (omega arith)))
+        let half : List ℕ = handedTo planes (width * getD gates i 0) old (width * b) (after i) (width * a) width in
+        let size : length (after i) ≡ length old = wide-length firsts seconds gates planes width old i in
+        step (width * getD gates i 0) a b (edges .second i h) half
+        (omega (arith, each-before width b 32 (in-range .second i h), handed-length planes (width * getD gates i 0) old (width * b) (after i) (width * a) width))
+        (step (width * getD gates i 0) b a (edges .first i h) (after i) (omega (arith, each-before width a 32 (in-range .first i h))) (wide-ind P start step i (omega arith)))
 
     wide-grows : (n : ℕ) → getD old n 0 ≤ getD (after count) n 0
     wide-grows n =
         wide-ind (λ (words : List ℕ). getD old n 0 ≤ getD words n 0) (le-refl (getD old n 0))
-        (λ j a b l words room p. le-trans p (handed-grows on (width * j) old (width * a) words (width * b) width room width n (le-refl width)))
+        (λ at a b l words room p. le-trans p (handed-grows planes at old (width * a) words (width * b) width room width n (le-refl width)))
         count (le-refl count)
 
     wide-fits : ((n : ℕ) → getD old n 0 < 2 ^ 64) → (n : ℕ) → getD (after count) n 0 < 2 ^ 64
     wide-fits f =
         wide-ind (λ (words : List ℕ). (n : ℕ) → getD words n 0 < 2 ^ 64) f
-        (λ j a b l words room p. handed-fits on (width * j) old (width * a) words (width * b) width room f p width (le-refl width))
+        (λ at a b l words room p. handed-fits planes at old (width * a) words (width * b) width room f p width (le-refl width))
         count (le-refl count)
 
     -- nodes that no edge has are left as they were
     wide-beyond : (n : ℕ) → width * nodes ≤ n → getD (after count) n 0 ≡ getD old n 0
     wide-beyond n h =
         wide-ind (λ (words : List ℕ). getD words n 0 ≡ getD old n 0) refl
-        (λ j a b l words room p.
-        handed-elsewhere on (width * j) old (width * a) words (width * b) width n (inr (omega (arith, each-before width b nodes l))) ∙ p)
+        (λ at a b l words room p.
+        handed-elsewhere planes at old (width * a) words (width * b) width n (inr (omega (arith, each-before width b nodes l))) ∙ p)
         count (le-refl count)
 
-    -- word w of each node has the round over word w of each edge
+    -- word w of each node has the round over word w of each gate
     each-round : (w : ℕ) (h : w < width) (i : ℕ) → i ≤ count
-        → wordOfEach width w 32 (after i) ≡ roundTo firsts seconds (wordOfEach width w 64 on) (wordOfEach width w 32 old) i
+        → wordOfEach width w 32 (after i) ≡ roundTo firsts seconds (gateWord width w gates planes) (wordOfEach width w 32 old) i
     unfolding wideRoundTo roundTo
     each-round w h zero k = refl
     each-round w h (suc i) k =
         let a : ℕ = getD firsts i 0 in
         let b : ℕ = getD seconds i 0 in
-        let half : List ℕ = handedTo on (width * i) old (width * b) (after i) (width * a) width in
-        let size : length (after i) ≡ width * 32 = wide-length firsts seconds on width old i ∙ long in
-        let place : i < 64 = omega (arith, edges .places) in
-        each-handed width w h on old half i a b place (in-range .first i k) (in-range .second i k) (handed-length on (width * i) old (width * b) (after i) (width * a) width ∙ size)
-        ∙ ap (λ (words : List ℕ). added words b (bitAnd (getD (wordOfEach width w 32 old) a 0) (getD (wordOfEach width w 64 on) i 0)))
-        (each-handed width w h on old (after i) i b a place (in-range .second i k) (in-range .first i k) size
-        ∙ ap (λ (words : List ℕ). added words a (bitAnd (getD (wordOfEach width w 32 old) b 0) (getD (wordOfEach width w 64 on) i 0)))
+        let half : List ℕ = handedTo planes (width * getD gates i 0) old (width * b) (after i) (width * a) width in
+        let size : length (after i) ≡ width * 32 = wide-length firsts seconds gates planes width old i ∙ long in
+        each-handed width w h planes old half (getD gates i 0) a b (in-range .first i k) (in-range .second i k) (handed-length planes (width * getD gates i 0) old (width * b) (after i) (width * a) width ∙ size)
+        ∙ ap (λ (words : List ℕ). added words b (bitAnd (getD (wordOfEach width w 32 old) a 0) (gateWord width w gates planes i)))
+        (each-handed width w h planes old (after i) (getD gates i 0) b a (in-range .second i k) (in-range .first i k) size
+        ∙ ap (λ (words : List ℕ). added words a (bitAnd (getD (wordOfEach width w 32 old) b 0) (gateWord width w gates planes i)))
         (each-round w h i (omega arith)))
 
     -- where the words of the nodes that edges have are taken over, all of the round's words are
     pub settled-all : {words : List ℕ} {told : ℕ} → RoundTaken old (after count) (width * nodes) words told → words ≡ after count
     settled-all s =
-        let size : length (after count) ≡ length old = wide-length firsts seconds on width old count in
+        let size : length (after count) ≡ length old = wide-length firsts seconds gates planes width old count in
         let rest : drop (width * nodes) old ≡ drop (width * nodes) (after count)
         = ext-getD 0 _ _ (simp length-drop (omega arith)) (λ i l.
         getD-drop (width * nodes) old i 0 ∙ sym (wide-beyond (width * nodes + i) (omega arith)) ∙ sym (getD-drop (width * nodes) (after count) i 0)) in
@@ -261,7 +261,7 @@ module _ {firsts seconds on : List ℕ} {count width nodes : ℕ} (edges : WideE
     -- and nothing is told of them where the round added nothing
     pub settled-same : {words : List ℕ} {told : ℕ} → RoundTaken old (after count) (width * nodes) words told → (told ≡ 0) ↔ (old ≡ after count)
     settled-same s =
-        let size : length (after count) ≡ length old = wide-length firsts seconds on width old count in (
+        let size : length (after count) ≡ length old = wide-length firsts seconds gates planes width old count in (
           λ e. sym (take-append-drop (width * nodes) old) ∙ ap (λ (l : List ℕ). l ++ drop (width * nodes) old) (sym (s .tells .0 e)) ∙ sym (s .taken) ∙ settled-all s,
           λ e. s .tells .1 (ap (take (width * nodes)) (sym e)),
         )
@@ -269,35 +269,36 @@ module _ {firsts seconds on : List ℕ} {count width nodes : ℕ} (edges : WideE
 -- ---- rounds until one adds nothing
 
 -- what holds of the words before every round: what holds of one word of each node holds of each of their words
-pub record WideReached (firsts seconds on : List ℕ) (count width rail : ℕ) (joined : List ℕ) : Type 0 where
+pub record WideReached (firsts seconds gates planes : List ℕ) (count width rail : ℕ) (joined : List ℕ) : Type 0 where
   pub long : length joined ≡ width * 32
   pub fits : (n : ℕ) → getD joined n 0 < 2 ^ 64
-  pub each : (w : ℕ) → w < width → Reached firsts seconds (wordOfEach width w 64 on) count rail (wordOfEach width w 32 joined)
+  pub each : (w : ℕ) → w < width → (ws : ℕ → List Link) → LinksAre firsts seconds (gateWord width w gates planes) count ws
+      → Reached ws rail (wordOfEach width w 32 joined)
 
-module _ {firsts seconds on : List ℕ} {count width nodes rail : ℕ} {joined : List ℕ}
-    (edges : WideEdges firsts seconds on count width nodes) (r : WideReached firsts seconds on count width rail joined) where
-  pub wide-again : WideReached firsts seconds on count width rail (wideRoundTo firsts seconds on width joined count)
+module _ {firsts seconds gates planes : List ℕ} {count width nodes rail : ℕ} {joined : List ℕ}
+    (edges : ColumnsFit firsts seconds gates count nodes) (r : WideReached firsts seconds gates planes count width rail joined) where
+  pub wide-again : WideReached firsts seconds gates planes count width rail (wideRoundTo firsts seconds gates planes width joined count)
   wide-again = record {
-    long = wide-length firsts seconds on width joined count ∙ r .long;
-    fits = wide-fits edges joined (r .long) (r .fits);
-    each = λ w h. rw (each-round edges joined (r .long) w h count (le-refl count)) (reached-again (in-range edges) (r .each w h));
+    long = wide-length firsts seconds gates planes width joined count ∙ r .long;
+    fits = wide-fits edges planes width joined (r .long) (r .fits);
+    each = λ w h ws are. rw (each-round edges planes width joined (r .long) w h count (le-refl count)) (reached-again (in-range edges) are (r .each w h ws are));
   }
 
-  pub wide-all : joined ≡ wideRoundTo firsts seconds on width joined count → WideJoined firsts seconds on count width rail joined
+  pub wide-all : joined ≡ wideRoundTo firsts seconds gates planes width joined count → WideJoined firsts seconds gates planes count width rail joined
   wide-all same = record {
     long = r .long;
-    each = λ w h.
-        reached-all (in-range edges) (r .each w h)
-        (ap (wordOfEach width w 32) same ∙ each-round edges joined (r .long) w h count (le-refl count));
+    each = λ w h ws are.
+        reached-all (in-range edges) are (r .each w h ws are)
+        (ap (wordOfEach width w 32) same ∙ each-round edges planes width joined (r .long) w h count (le-refl count));
   }
 
   -- a round that adds something makes the sum of the words larger
-  pub wide-more : (joined ≡ wideRoundTo firsts seconds on width joined count → ⊥) → total joined < total (wideRoundTo firsts seconds on width joined count)
+  pub wide-more : (joined ≡ wideRoundTo firsts seconds gates planes width joined count → ⊥) → total joined < total (wideRoundTo firsts seconds gates planes width joined count)
   wide-more =
-      total-more joined (wideRoundTo firsts seconds on width joined count) (sym (wide-length firsts seconds on width joined count)) (wide-grows edges joined (r .long))
+      total-more joined (wideRoundTo firsts seconds gates planes width joined count) (sym (wide-length firsts seconds gates planes width joined count)) (wide-grows edges planes width joined (r .long))
 
 -- and the sum has a bound
-pub wide-within : {firsts seconds on : List ℕ} {count width rail : ℕ} {joined : List ℕ} → WideReached firsts seconds on count width rail joined
+pub wide-within : {firsts seconds gates planes : List ℕ} {count width rail : ℕ} {joined : List ℕ} → WideReached firsts seconds gates planes count width rail joined
     → total joined ≤ width * 32 * 2 ^ 64
 wide-within {joined = joined} r = rw (r .long) at (total-below (2 ^ 64) joined (r .fits))
 
@@ -349,11 +350,11 @@ module _ (width rail : ℕ) (rail-in : rail < 32) where
       ∙ sym (zero-at (width * 32) (width * m + w))
       ∙ sym (ones-elsewhere (replicate (width * 32) 0) (width * rail) width (width * m + w) (place-apart width w m rail h e))
 
-  pub wide-first : (firsts seconds on : List ℕ) (count : ℕ) → WideReached firsts seconds on count width rail begun
-  wide-first firsts seconds on count = record {
+  pub wide-first : (firsts seconds gates planes : List ℕ) (count : ℕ) → WideReached firsts seconds gates planes count width rail begun
+  wide-first firsts seconds gates planes count = record {
     long = ones-length (replicate (width * 32) 0) (width * rail) width ∙ length-replicate (width * 32) 0;
     fits = ones-fits (replicate (width * 32) 0) (width * rail) width (λ i. rw (zero-at (width * 32) i) (omega arith)) rail-room;
-    each = λ w h.
+    each = λ w h ws are.
         rw (← is-of-nodes width w h (firstWords rail) begun (first-long rail rail-in) (λ m k. each-begun-at w h m k (ℕ-discrete m rail)))
-        (reached-first rail rail-in firsts seconds (wordOfEach width w 64 on) count);
+        (reached-first rail rail-in ws);
   }

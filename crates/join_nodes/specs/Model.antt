@@ -1,8 +1,7 @@
--- What the code computes on the way, as lists: on words, rounds of joining, planes of 64 settings. Only the code's own proofs use it.
--- A word has a bit for each of 64 vectors, or of 64 settings.
-use Prim.Native.Nat.{ℕ, zero, suc, _+_, _-_, _*_, _^_, _<_, _≤_}
-use mathlib.Core.Bool.{Bool, cond}
-use mathlib.Core.List.{List, [], _∷_, _++_}
+-- What the code computes on the way, as lists: edges in columns, planes of gates, rounds of joining, planes of 64 settings. Only the code's
+-- own proofs use it. A word has a bit for each of 64 vectors, or of 64 settings.
+use Prim.Native.Nat.{ℕ, zero, suc, _+_, _-_, _*_, _/_, _%_, _^_, _<_, _≤_}
+use mathlib.Core.List.{List, _++_}
 use mathlib.Core.Logic.{_↔_}
 use lib.Bits.{bitAnd, bitOr}
 use mathlib.Core.Path.{_≡_}
@@ -10,96 +9,141 @@ use lib.ListN.{length, getD, set, take, drop}
 use Rattle.words.specs.Bits.{bit, ofBool, word}
 use Rattle.words.specs.Each.{wordOfEach}
 use Rattle.words.specs.Tables.{table, upTo}
-use Rattle.switch.specs.Conduction.{Edge, Link, ground, supply, edgeOn}
+use Rattle.switch.specs.Conduction.{Channel, p-channel, n-channel, Edge, Link, Among, ground, supply}
 use Rattle.switch.specs.Modules.{ModuleType, mostEdges, mostNodes, mostLabels}
 use Rattle.switch.specs.Deciding.{joins}
-use Rattle.switch.specs.Records.{edgeOf, noEdge, byPlanes}
+use Rattle.switch.specs.Records.{noEdge, channelBy, firstIn, secondIn, gateIn}
 use Rattle.switch.specs.declared.Edge.{Edge as EdgeRecord}
-use Rattle.switch.specs.Promises.{railWords}
-use Rattle.join_nodes.specs.declared.Ends.{Ends}
+use Rattle.switch.specs.Promises.{railsOf}
+use Rattle.switch.specs.declared.Rails.{Rails}
+use Rattle.join_nodes.specs.declared.Columns.{Columns}
+use Rattle.join_nodes.specs.declared.edges.Parts.{Parts}
 use Rattle.join_nodes.specs.declared.complementary.OutputWords.{OutputWords}
 
--- ---- on words
+-- what switches an edge, its gate, is below this
+abbrev pub mostGates : ℕ
+mostGates = 32
 
--- bit v is 1 exactly when a transistor, p-channel or not, is on under vector v, from its label's planes, each read alone
-unfoldable pub transistorWord : Bool → ℕ → ℕ → ℕ
-transistorWord p ones zeros = word (bit (cond p zeros ones))
+-- ---- edges in columns
 
--- bit v is 1 exactly when the edge is on under vector v
-unfoldable pub onWord : List ℕ → List ℕ → Edge → ℕ
-onWord ones zeros e = word (λ (v : ℕ). ofBool (edgeOn (byPlanes ones zeros v) e))
+abbrev pub partsOf : EdgeRecord → Parts
+partsOf e = record { first = firstIn e; second = secondIn e; gate = gateIn e }
 
--- the words of an edge, from labels that have `width` words each
-unfoldable pub edgeWords : List ℕ → List ℕ → ℕ → Edge → List ℕ
-edgeWords ones zeros width e =
-    table width (λ (w : ℕ). onWord (wordOfEach width w mostLabels ones) (wordOfEach width w mostLabels zeros) e)
+-- one part of each of the first n edges, and 0 in the other places
+unfoldable pub column : (EdgeRecord → ℕ) → List EdgeRecord → ℕ → List ℕ
+column part edges n = table mostEdges (upTo n (λ (i : ℕ). part (getD edges i noEdge)))
 
--- the on words of the first n edges, and 0 in the other places
-unfoldable pub onWords : List ℕ → List ℕ → List EdgeRecord → ℕ → List ℕ
-onWords ones zeros edges n = table mostEdges (upTo n (λ (i : ℕ). onWord ones zeros (edgeOf (getD edges i noEdge))))
+abbrev pub columnsOf : List EdgeRecord → Columns
+columnsOf edges =
+    let n = length edges in
+    record { count = n; firsts = column firstIn edges n; seconds = column secondIn edges n; gates = column gateIn edges n }
 
--- the first nodes, and the second nodes, of the first n edges, and 0 in the other places
-unfoldable pub firstNodes : List EdgeRecord → ℕ → List ℕ
-firstNodes edges n = table mostEdges (upTo n (λ (i : ℕ). getD edges i noEdge .first))
+-- the edge that columns have in a place, and those in their first n places
+unfoldable pub edgeIn : List ℕ → List ℕ → List ℕ → ℕ → Edge
+edgeIn firsts seconds gates i =
+    let g = getD gates i 0 in
+    record { first = getD firsts i 0; second = getD seconds i 0; channel = channelBy (g / 16); label = g % 16 }
 
-unfoldable pub secondNodes : List EdgeRecord → ℕ → List ℕ
-secondNodes edges n = table mostEdges (upTo n (λ (i : ℕ). getD edges i noEdge .second))
+unfoldable pub edgesIn : List ℕ → List ℕ → List ℕ → ℕ → List Edge
+edgesIn firsts seconds gates n = table n (edgeIn firsts seconds gates)
 
-abbrev pub endsOf : List EdgeRecord → ℕ → Ends
-endsOf edges n = record { firsts = firstNodes edges n; seconds = secondNodes edges n }
+-- the type with these edges
+unfoldable pub typeIn : ℕ → ℕ → ℕ → List ℕ → List ℕ → List ℕ → ℕ → ModuleType
+typeIn h o k firsts seconds gates n = record { highest = h; output = o; labels = k; edges = edgesIn firsts seconds gates n }
+
+-- the rails' words of any type that has these edges
+abbrev pub RailsTold : List Edge → List ℕ → List ℕ → Rails → Type 0
+RailsTold edges ones zeros r = (t : ModuleType) → t .edges ≡ edges → r ≡ railsOf t ones zeros
+
+-- the first n of the edges have gates, and nodes below `nodes`, at most 32
+pub record ColumnsFit (firsts seconds gates : List ℕ) (n nodes : ℕ) : Type 0 where
+  pub places : n ≤ mostEdges
+  pub first : (i : ℕ) → i < n → getD firsts i 0 < nodes
+  pub second : (i : ℕ) → i < n → getD seconds i 0 < nodes
+  pub gate : (i : ℕ) → i < n → getD gates i 0 < mostGates
+  pub few-nodes : nodes ≤ mostNodes
+
+-- and those of a type with these three numbers: highest node, output and labels
+pub record ColumnsGiven (h o k : ℕ) (firsts seconds gates : List ℕ) (n : ℕ) : Type 0 where
+  pub fit : ColumnsFit firsts seconds gates n (h + 1)
+  pub label : (i : ℕ) → i < n → getD gates i 0 % 16 < mostLabels
+  pub output : o < mostNodes
+  pub labels : k ≤ mostLabels
+
+-- ---- planes of gates
+
+-- what switches a transistor: its label's known-0 plane (p) or known-1 plane (n)
+unfoldable pub planeOf : List ℕ → List ℕ → Channel → ℕ → ℕ
+planeOf ones zeros p-channel l = getD zeros l 0
+planeOf ones zeros n-channel l = getD ones l 0
+
+-- word w of each gate is that of its transistor, from labels that have `width` words each
+pub record WidePlanes (ones zeros : List ℕ) (width : ℕ) (planes : List ℕ) : Type 0 where
+  pub long : length planes ≡ width * mostGates
+  pub each : (w g : ℕ) → w < width → g < mostGates
+      → getD planes (width * g + w) 0
+      ≡ planeOf (wordOfEach width w mostLabels ones) (wordOfEach width w mostLabels zeros) (channelBy (g / 16)) (g % 16)
+
+-- word w of the gate of edge i
+abbrev pub gateWord : ℕ → ℕ → List ℕ → List ℕ → ℕ → ℕ
+gateWord width w gates planes i = getD planes (width * getD gates i 0 + w) 0
+
+-- ---- links
+
+-- u is the link of one of the first n edges that is on under vector v: its word has a 1 there
+pub record OnLink (firsts seconds : List ℕ) (on : ℕ → ℕ) (n v : ℕ) (u : Link) : Type 0 where
+  pub place : ℕ
+  pub within : place < n
+  pub is-on : bit (on place) v ≡ 1
+  pub ends : u ≡ (getD firsts place 0, getD seconds place 0)
+
+-- lists of just these links, one for each vector
+abbrev pub LinksAre : List ℕ → List ℕ → (ℕ → ℕ) → ℕ → (ℕ → List Link) → Type 0
+LinksAre firsts seconds on n ws = (v : ℕ) → v < 64 → (u : Link) → Among u (ws v) ↔ OnLink firsts seconds on n v u
+
+-- bit v of node m's word is 1 exactly when m is joined to the rail over the links under vector v
+unfoldable pub joinedWords : (ℕ → List Link) → ℕ → List ℕ
+joinedWords ws rail = table mostNodes (λ (m : ℕ). word (λ (v : ℕ). ofBool (joins (ws v) m rail)))
+
+-- the words of an output for each rail
+abbrev pub outputWords : (ℕ → List Link) → ℕ → OutputWords
+outputWords ws output =
+    record { supply = getD (joinedWords ws supply) output 0; ground = getD (joinedWords ws ground) output 0 }
+
+-- told over any such lists
+abbrev pub OutputTold : List ℕ → List ℕ → List ℕ → List ℕ → ℕ → ℕ → OutputWords → Type 0
+OutputTold firsts seconds gates planes n output r =
+    (ws : ℕ → List Link) → LinksAre firsts seconds (gateWord 1 0 gates planes) n ws → r ≡ outputWords ws output
 
 -- ---- rounds
-
--- the first n of the edges whose nodes are 0 to 31
-pub record NodesInRange (firsts seconds : List ℕ) (n : ℕ) : Type 0 where
-  pub places : n ≤ mostEdges
-  pub first : (i : ℕ) → i < n → getD firsts i 0 < mostNodes
-  pub second : (i : ℕ) → i < n → getD seconds i 0 < mostNodes
-
-unfoldable pub linkIf : ℕ → Link → List Link → List Link
-linkIf zero w ws = ws
-linkIf (suc b) w ws = w ∷ ws
-
--- the links of the first n edges that are on under vector v
-unfoldable pub linksTo : List ℕ → List ℕ → List ℕ → ℕ → ℕ → List Link
-linksTo firsts seconds on v zero = []
-linksTo firsts seconds on v (suc i) =
-    linkIf (bit (getD on i 0) v) (getD firsts i 0, getD seconds i 0) (linksTo firsts seconds on v i)
-
--- bit v of node m's word is 1 exactly when m is joined to the rail over those links
-unfoldable pub joinedWords : List ℕ → List ℕ → List ℕ → ℕ → ℕ → List ℕ
-joinedWords firsts seconds on n rail =
-    table mostNodes (λ (m : ℕ). word (λ (v : ℕ). ofBool (joins (linksTo firsts seconds on v n) m rail)))
 
 unfoldable pub added : List ℕ → ℕ → ℕ → List ℕ
 added words m w = set words m (bitOr (getD words m 0) w)
 
--- the words after the first i edges of a round: each edge hands on what its ends had before the round
-unfoldable pub roundTo : List ℕ → List ℕ → List ℕ → List ℕ → ℕ → List ℕ
+-- the words after the first i edges of a round, where `on` has the word of each edge: each edge hands on what its ends had before the round
+unfoldable pub roundTo : List ℕ → List ℕ → (ℕ → ℕ) → List ℕ → ℕ → List ℕ
 roundTo firsts seconds on old zero = old
 roundTo firsts seconds on old (suc i) =
     let a = getD firsts i 0 in
     let b = getD seconds i 0 in
-    added
-    (added (roundTo firsts seconds on old i) a (bitAnd (getD old b 0) (getD on i 0)))
-    b
-    (bitAnd (getD old a 0) (getD on i 0))
+    added (added (roundTo firsts seconds on old i) a (bitAnd (getD old b 0) (on i))) b (bitAnd (getD old a 0) (on i))
 
--- ---- rounds over things that have `width` words each: edges have their on words so, and nodes the words that they are joined under
+-- ---- rounds over things that have `width` words each: gates have their planes so, and nodes the words that they are joined under
 
--- the words after the first w words of one thing, at `from`, are handed on to another, at `to`, along an edge whose on words stand at `at`
+-- the words after the first w words of one thing, at `from`, are handed on to another, at `to`, along an edge whose gate's plane is at `at`
 unfoldable pub handedTo : List ℕ → ℕ → List ℕ → ℕ → List ℕ → ℕ → ℕ → List ℕ
-handedTo on at joined from next to zero = next
-handedTo on at joined from next to (suc w) =
-    added (handedTo on at joined from next to w) (to + w) (bitAnd (getD joined (from + w) 0) (getD on (at + w) 0))
+handedTo planes at joined from next to zero = next
+handedTo planes at joined from next to (suc w) =
+    added (handedTo planes at joined from next to w) (to + w) (bitAnd (getD joined (from + w) 0) (getD planes (at + w) 0))
 
 -- the words after the first i edges of a round
-unfoldable pub wideRoundTo : List ℕ → List ℕ → List ℕ → ℕ → List ℕ → ℕ → List ℕ
-wideRoundTo firsts seconds on width old zero = old
-wideRoundTo firsts seconds on width old (suc i) =
+unfoldable pub wideRoundTo : List ℕ → List ℕ → List ℕ → List ℕ → ℕ → List ℕ → ℕ → List ℕ
+wideRoundTo firsts seconds gates planes width old zero = old
+wideRoundTo firsts seconds gates planes width old (suc i) =
     let a = width * getD firsts i 0 in
     let b = width * getD seconds i 0 in
-    handedTo on (width * i) old a (handedTo on (width * i) old b (wideRoundTo firsts seconds on width old i) a width) b width
+    let g = width * getD gates i 0 in
+    handedTo planes g old a (handedTo planes g old b (wideRoundTo firsts seconds gates planes width old i) a width) b width
 
 -- the words after all ones are put in the first w words of one thing, at `at`
 unfoldable pub onesTo : List ℕ → ℕ → ℕ → List ℕ
@@ -111,25 +155,11 @@ pub record RoundTaken (before next : List ℕ) (n : ℕ) (words : List ℕ) (tol
   pub taken : words ≡ take n next ++ drop n before
   pub tells : (told ≡ 0) ↔ (take n next ≡ take n before)
 
--- the first n of the edges, whose nodes are below `nodes`, at most 32; and a list that has `width` words, at most four, for each edge
-pub record WideEdges (firsts seconds on : List ℕ) (n width nodes : ℕ) : Type 0 where
-  pub places : n ≤ mostEdges
-  pub first : (i : ℕ) → i < n → getD firsts i 0 < nodes
-  pub second : (i : ℕ) → i < n → getD seconds i 0 < nodes
-  pub few-nodes : nodes ≤ mostNodes
-  pub few-words : width ≤ 4
-  pub on-words : length on ≡ width * mostEdges
-
--- word w of each node is the words of those that are joined to the rail over word w of each edge
-pub record WideJoined (firsts seconds on : List ℕ) (n width rail : ℕ) (joined : List ℕ) : Type 0 where
+-- word w of each node is the words of those that are joined to the rail over the edges that word w of their gates switches on
+pub record WideJoined (firsts seconds gates planes : List ℕ) (n width rail : ℕ) (joined : List ℕ) : Type 0 where
   pub long : length joined ≡ width * mostNodes
-  pub each : (w : ℕ) → w < width → wordOfEach width w mostNodes joined ≡ joinedWords firsts seconds (wordOfEach width w mostEdges on) n rail
-
--- word w of each edge is the on words of word w of each label's planes
-pub record WideOn (ones zeros : List ℕ) (edges : List EdgeRecord) (n width : ℕ) (on : List ℕ) : Type 0 where
-  pub long : length on ≡ width * mostEdges
-  pub each : (w : ℕ) → w < width
-      → wordOfEach width w mostEdges on ≡ onWords (wordOfEach width w mostLabels ones) (wordOfEach width w mostLabels zeros) edges n
+  pub each : (w : ℕ) → w < width → (ws : ℕ → List Link) → LinksAre firsts seconds (gateWord width w gates planes) n ws
+      → wordOfEach width w mostNodes joined ≡ joinedWords ws rail
 
 -- ---- settings
 
@@ -139,11 +169,3 @@ settingOnes block = table mostLabels (λ (l : ℕ). word (λ (v : ℕ). bit (64 
 
 unfoldable pub settingZeros : ℕ → List ℕ
 settingZeros block = table mostLabels (λ (l : ℕ). word (λ (v : ℕ). 1 - bit (64 * block + v) l))
-
--- the words of a type's output for each rail
-abbrev pub outputWords : ModuleType → List ℕ → List ℕ → OutputWords
-outputWords t ones zeros =
-    record {
-      supply = getD (railWords t ones zeros supply) (t .output) 0;
-      ground = getD (railWords t ones zeros ground) (t .output) 0;
-    }

@@ -1,24 +1,23 @@
 // The complementary check: over all settings of a type's labels, 64 at a time, with only the running verdict kept.
-use crate::conduction::ends_of;
-use crate::conduction::on_words;
+use crate::Columns;
+use crate::MOST_GATES;
+use crate::conduction::gate_planes;
 use crate::edges::spread;
 use crate::rounds::joined_to;
 use crate::settings::setting_ones;
 use crate::settings::setting_zeros;
 use switch::Edge;
 use switch::MOST_EDGES;
-use switch::MOST_LABELS;
 use switch::MOST_NODES;
 use switch::ModuleType;
 use words::first_ones;
 ghost use mathlib.Core.Path.{_≡_};
-ghost use Prim.Native.Nat.{_<_, _*_, _^_};
+ghost use Prim.Native.Nat.{_<_, _≤_, _*_, _^_};
 ghost use Rattle.switch.specs.Records.{TypeGiven, EdgesGiven, typeOf, typeWith};
 ghost use Rattle.switch.specs.Deciding.{isComplementary};
 ghost use Rattle.switch.specs.Blocks.{blockHolds, byBlocks};
-ghost use Rattle.switch.specs.Modules.{mostLabels};
-ghost use Rattle.join_nodes.specs.Model.{outputWords};
-ghost use lib.ListN.{length};
+ghost use Rattle.switch.specs.Modules.{mostLabels, mostNodes};
+ghost use Rattle.join_nodes.specs.Model.{ColumnsFit, ColumnsGiven, typeIn, OutputTold};
 
 // The words of a type's output for each rail, under 64 settings of its labels.
 struct OutputWords {
@@ -26,55 +25,114 @@ struct OutputWords {
     ground: u64,
 }
 
-fn output_words(t: ModuleType, ones: &[u64; MOST_LABELS], zeros: &[u64; MOST_LABELS]) -> OutputWords
-    requires { ⌜ TypeGiven t ⌝ }
-    requires { ⌜ (length (now ones) ≡ mostLabels) × (length (now zeros) ≡ mostLabels) ⌝ }
-    ensures { λ r. ⌜ r ≡ outputWords (typeOf t) (now (ones .entry)) (now (zeros .entry)) ⌝ }
+fn output_words<'a>(
+    firsts: &'a [u8; MOST_EDGES],
+    seconds: &'a [u8; MOST_EDGES],
+    gates: &'a [u8; MOST_EDGES],
+    count: usize,
+    planes: &[u64; MOST_GATES],
+    nodes: usize,
+    output: usize,
+) -> OutputWords
+    requires { ⌜ ColumnsFit (now firsts) (now seconds) (now gates) count nodes ⌝ }
+    requires { ⌜ output < mostNodes ⌝ }
+    ensures { λ r. ⌜ OutputTold (now (firsts .entry)) (now (seconds .entry)) (now (gates .entry)) (now (planes .entry)) count output r ⌝ }
 {
-    let edges = t.edges;
-    let count = t.count;
-    let nodes = (t.highest as usize) + 1;
-    let output = t.output as usize;
-    let mut on = [0u64; MOST_EDGES];
-    on_words(edges, count, ones, zeros, 1, &mut on);
-    let ends = ends_of(edges, count);
-    let a = ends.firsts;
-    let b = ends.seconds;
     let mut supply = [0u64; MOST_NODES];
     let mut next = [0u64; MOST_NODES];
-    joined_to(&a, &b, &on, count, 1, nodes, 1, &mut supply, &mut next);
+    joined_to(
+        firsts,
+        seconds,
+        gates,
+        planes,
+        count,
+        1,
+        nodes,
+        1,
+        &mut supply,
+        &mut next,
+    );
     let mut ground = [0u64; MOST_NODES];
     next = [0u64; MOST_NODES];
-    joined_to(&a, &b, &on, count, 1, nodes, 0, &mut ground, &mut next);
+    joined_to(
+        firsts,
+        seconds,
+        gates,
+        planes,
+        count,
+        1,
+        nodes,
+        0,
+        &mut ground,
+        &mut next,
+    );
     OutputWords {
         supply: supply[output],
         ground: ground[output],
     }
 }
 
-// Whether the output is joined to exactly one rail under each setting of a block; the type has `settings` of them.
-fn block_holds(t: ModuleType, block: usize, settings: usize) -> bool
-    requires { ⌜ TypeGiven t ⌝ }
-    requires { ⌜ (64 * block < settings) × (settings ≡ 2 ^ (t .labels)) ⌝ }
-    ensures { λ r. ⌜ r ≡ blockHolds (typeOf t) block ⌝ }
+// How many settings some labels have.
+fn settings_of(labels: u8) -> usize
+    requires { ⌜ labels ≤ mostLabels ⌝ }
+    ensures { λ r. ⌜ (r ≡ 2 ^ labels) × (r ≤ 4096) ⌝ }
+{
+    1usize << (labels as usize)
+}
+
+// Whether the output is joined to exactly one rail under each setting of a block.
+fn block_holds<'a>(
+    firsts: &'a [u8; MOST_EDGES],
+    seconds: &'a [u8; MOST_EDGES],
+    gates: &'a [u8; MOST_EDGES],
+    count: usize,
+    highest: u8,
+    output: u8,
+    labels: u8,
+    block: usize,
+) -> bool
+    requires { ⌜ ColumnsGiven highest output labels (now firsts) (now seconds) (now gates) count ⌝ }
+    requires { ⌜ 64 * block < 2 ^ labels ⌝ }
+    ensures { λ r. ⌜ r ≡ blockHolds (typeIn highest output labels (now (firsts .entry)) (now (seconds .entry)) (now (gates .entry)) count) block ⌝ }
 {
     let ones = setting_ones(block);
     let zeros = setting_zeros(block);
-    let words = output_words(t, &ones, &zeros);
-    let counted = first_ones(settings - 64 * block);
+    let mut planes = [0u64; MOST_GATES];
+    gate_planes(&ones, &zeros, 1, &mut planes);
+    let nodes = (highest as usize) + 1;
+    let words = output_words(
+        firsts,
+        seconds,
+        gates,
+        count,
+        &planes,
+        nodes,
+        output as usize,
+    );
+    let counted = first_ones(settings_of(labels) - 64 * block);
     let one = (words.supply | words.ground) & !(words.supply & words.ground);
     one & counted == counted
 }
 
-// Whether a type is complementary, block by block: the work, on a type by value.
-fn complementary_of(t: ModuleType) -> bool
-    requires { ⌜ TypeGiven t ⌝ }
-    ensures { λ r. ⌜ r ≡ byBlocks (typeOf t) ⌝ }
+// Whether a type is complementary, block by block: the work, on the columns of its edges and its three numbers.
+fn complementary_of(c: Columns, highest: u8, output: u8, labels: u8) -> bool
+    requires { ⌜ ColumnsGiven highest output labels (c .firsts) (c .seconds) (c .gates) (c .count) ⌝ }
+    ensures { λ r. ⌜ r ≡ byBlocks (typeIn highest output labels (c .firsts) (c .seconds) (c .gates) (c .count)) ⌝ }
 {
-    let settings = 1usize << (t.labels as usize);
+    let count = c.count;
+    let settings = settings_of(labels);
     let mut block: usize = 0;
     while 64 * block < settings {
-        if !block_holds(t, block, settings) {
+        if !block_holds(
+            &c.firsts,
+            &c.seconds,
+            &c.gates,
+            count,
+            highest,
+            output,
+            labels,
+            block,
+        ) {
             return false;
         }
         block += 1;
@@ -87,7 +145,7 @@ pub fn complementary(edges: &[Edge], highest: u8, output: u8, labels: u8) -> boo
     requires { ⌜ EdgesGiven highest output labels (now edges) ⌝ }
     ensures { λ r. ⌜ r ≡ isComplementary (typeWith highest output labels (now (edges .entry))) ⌝ }
 {
-    complementary_of(spread(edges, highest, output, labels))
+    complementary_of(spread(edges), highest, output, labels)
 }
 
 // The same, on a type whose edges are lent.

@@ -1,6 +1,6 @@
 // The joining of every node to each rail, and the output's planes, from a module type and its labels' planes, four words each.
-use crate::conduction::ends_of;
-use crate::conduction::on_words;
+use crate::Columns;
+use crate::conduction::gate_planes;
 use crate::edges::spread;
 use crate::rounds::joined_to;
 use switch::Edge;
@@ -8,28 +8,48 @@ use switch::ModuleType;
 use switch::Planes;
 use switch::Rails;
 ghost use mathlib.Core.Path.{_≡_};
+ghost use Prim.Native.Nat.{_+_};
 ghost use Rattle.switch.specs.Records.{TypeGiven, EdgesGiven, typeOf, typeWith};
 ghost use Rattle.switch.specs.Promises.{railsOf, planesOf};
+ghost use Rattle.join_nodes.specs.Model.{ColumnsFit, edgesIn, RailsTold};
 
-// Under which of 256 vectors each node is joined to supply, and to ground: the work, on a type by value.
-fn joining_of(t: ModuleType, ones: &[u64; 48], zeros: &[u64; 48]) -> Rails
-    requires { ⌜ TypeGiven t ⌝ }
-    ensures { λ r. ⌜ r ≡ railsOf (typeOf t) (now (ones .entry)) (now (zeros .entry)) ⌝ }
+// Under which of 256 vectors each node is joined to supply, and to ground: the work, on the columns of edges that have no node past the highest, for any type that has these edges.
+fn joining_of(c: Columns, highest: u8, ones: &[u64; 48], zeros: &[u64; 48]) -> Rails
+    requires { ⌜ ColumnsFit (c .firsts) (c .seconds) (c .gates) (c .count) (highest + 1) ⌝ }
+    ensures { λ r. ⌜ RailsTold (edgesIn (c .firsts) (c .seconds) (c .gates) (c .count)) (now (ones .entry)) (now (zeros .entry)) r ⌝ }
 {
-    let edges = t.edges;
-    let count = t.count;
-    let nodes = (t.highest as usize) + 1;
-    let mut on = [0u64; 256];
-    on_words(edges, count, ones, zeros, 4, &mut on);
-    let ends = ends_of(edges, count);
-    let a = ends.firsts;
-    let b = ends.seconds;
+    let count = c.count;
+    let nodes = (highest as usize) + 1;
+    let mut planes = [0u64; 128];
+    gate_planes(ones, zeros, 4, &mut planes);
     let mut supply = [0u64; 128];
     let mut next = [0u64; 128];
-    joined_to(&a, &b, &on, count, 4, nodes, 1, &mut supply, &mut next);
+    joined_to(
+        &c.firsts,
+        &c.seconds,
+        &c.gates,
+        &planes,
+        count,
+        4,
+        nodes,
+        1,
+        &mut supply,
+        &mut next,
+    );
     let mut ground = [0u64; 128];
     next = [0u64; 128];
-    joined_to(&a, &b, &on, count, 4, nodes, 0, &mut ground, &mut next);
+    joined_to(
+        &c.firsts,
+        &c.seconds,
+        &c.gates,
+        &planes,
+        count,
+        4,
+        nodes,
+        0,
+        &mut ground,
+        &mut next,
+    );
     Rails { supply, ground }
 }
 
@@ -45,7 +65,7 @@ pub fn joining(
     requires { ⌜ EdgesGiven highest output labels (now edges) ⌝ }
     ensures { λ r. ⌜ r ≡ railsOf (typeWith highest output labels (now (edges .entry))) (now (ones .entry)) (now (zeros .entry)) ⌝ }
 {
-    joining_of(spread(edges, highest, output, labels), ones, zeros)
+    joining_of(spread(edges), highest, ones, zeros)
 }
 
 // The same, on a type whose edges are lent.

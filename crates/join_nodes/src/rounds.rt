@@ -1,14 +1,14 @@
-// Joining by synchronous rounds: a round hands on along each edge what its ends had before the round. Nodes and edges have `width` words each, 64 vectors to a word.
+// Joining by synchronous rounds: a round hands on along each edge what its ends had before the round. Nodes and the planes of gates have `width` words each, 64 vectors to a word.
 use switch::MOST_EDGES;
 ghost use mathlib.Core.Path.{_≡_};
 ghost use Prim.Native.Nat.{_+_, _*_, _<_, _≤_};
 ghost use lib.ListN.{length, replicate};
-ghost use Rattle.switch.specs.Modules.{mostEdges, mostNodes};
-ghost use Rattle.join_nodes.specs.Model.{NodesInRange, handedTo, wideRoundTo, onesTo, RoundTaken, WideEdges, WideJoined};
+ghost use Rattle.switch.specs.Modules.{mostNodes};
+ghost use Rattle.join_nodes.specs.Model.{mostGates, ColumnsFit, handedTo, wideRoundTo, onesTo, RoundTaken, WideJoined};
 
-// Hands the words at `from` on to those at `to`, along an edge whose on words stand at `at`.
+// Hands the words at `from` on to those at `to`, along an edge whose gate's plane stands at `at`.
 fn hand_on(
-    on: &[u64],
+    planes: &[u64],
     at: usize,
     joined: &[u64],
     from: usize,
@@ -16,37 +16,39 @@ fn hand_on(
     to: usize,
     width: usize,
 )
-    requires { ⌜ (at + width ≤ length (now on)) × (from + width ≤ length (now joined)) × (to + width ≤ length (now next)) ⌝ }
-    ensures { λ _. ⌜ now (next .exit) ≡ handedTo (now (on .entry)) at (now (joined .entry)) from (now (next .entry)) to width ⌝ }
+    requires { ⌜ (at + width ≤ length (now planes)) × (from + width ≤ length (now joined)) × (to + width ≤ length (now next)) ⌝ }
+    ensures { λ _. ⌜ now (next .exit) ≡ handedTo (now (planes .entry)) at (now (joined .entry)) from (now (next .entry)) to width ⌝ }
 {
     let mut w: usize = 0;
     while w < width {
-        next[to + w] = next[to + w] | (joined[from + w] & on[at + w]);
+        next[to + w] = next[to + w] | (joined[from + w] & planes[at + w]);
         w += 1;
     }
 }
 
 // One round: `next` holds the words of the round before, and gains what each on edge hands on.
-fn round(
-    firsts: &[u8; MOST_EDGES],
-    seconds: &[u8; MOST_EDGES],
-    on: &[u64],
+fn round<'a>(
+    firsts: &'a [u8; MOST_EDGES],
+    seconds: &'a [u8; MOST_EDGES],
+    gates: &'a [u8; MOST_EDGES],
+    planes: &[u64],
     count: usize,
     width: usize,
     joined: &[u64],
     next: &mut [u64],
 )
-    requires { ⌜ NodesInRange (now firsts) (now seconds) count ⌝ }
-    requires { ⌜ (width ≤ 4) × (length (now on) ≡ width * mostEdges) × (length (now joined) ≡ width * mostNodes) ⌝ }
+    requires { ⌜ ColumnsFit (now firsts) (now seconds) (now gates) count mostNodes ⌝ }
+    requires { ⌜ (width ≤ 4) × (length (now planes) ≡ width * mostGates) × (length (now joined) ≡ width * mostNodes) ⌝ }
     requires { ⌜ now next ≡ now joined ⌝ }
-    ensures { λ _. ⌜ now (next .exit) ≡ wideRoundTo (now (firsts .entry)) (now (seconds .entry)) (now (on .entry)) width (now (joined .entry)) count ⌝ }
+    ensures { λ _. ⌜ now (next .exit) ≡ wideRoundTo (now (firsts .entry)) (now (seconds .entry)) (now (gates .entry)) (now (planes .entry)) width (now (joined .entry)) count ⌝ }
 {
     let mut i: usize = 0;
     while i < count {
         let a = width * (firsts[i] as usize);
         let b = width * (seconds[i] as usize);
-        hand_on(on, width * i, joined, b, next, a, width);
-        hand_on(on, width * i, joined, a, next, b, width);
+        let g = width * (gates[i] as usize);
+        hand_on(planes, g, joined, b, next, a, width);
+        hand_on(planes, g, joined, a, next, b, width);
         i += 1;
     }
 }
@@ -80,10 +82,11 @@ fn begin(words: &mut [u64], width: usize, rail: usize)
 }
 
 // The nodes joined to a rail, where no edge has a node from `nodes` on: rounds go on until one adds nothing. `next` is used on the way.
-pub fn joined_to(
-    firsts: &[u8; MOST_EDGES],
-    seconds: &[u8; MOST_EDGES],
-    on: &[u64],
+pub fn joined_to<'a>(
+    firsts: &'a [u8; MOST_EDGES],
+    seconds: &'a [u8; MOST_EDGES],
+    gates: &'a [u8; MOST_EDGES],
+    planes: &[u64],
     count: usize,
     width: usize,
     nodes: usize,
@@ -91,15 +94,16 @@ pub fn joined_to(
     joined: &mut [u64],
     next: &mut [u64],
 )
-    requires { ⌜ WideEdges (now firsts) (now seconds) (now on) count width nodes ⌝ }
+    requires { ⌜ ColumnsFit (now firsts) (now seconds) (now gates) count nodes ⌝ }
+    requires { ⌜ (width ≤ 4) × (length (now planes) ≡ width * mostGates) ⌝ }
     requires { ⌜ rail < mostNodes ⌝ }
     requires { ⌜ (now joined ≡ replicate (width * mostNodes) 0) × (now next ≡ replicate (width * mostNodes) 0) ⌝ }
-    ensures { λ _. ⌜ WideJoined (now (firsts .entry)) (now (seconds .entry)) (now (on .entry)) count width rail (now (joined .exit)) × (now (next .exit) ≡ now (joined .exit)) ⌝ }
+    ensures { λ _. ⌜ WideJoined (now (firsts .entry)) (now (seconds .entry)) (now (gates .entry)) (now (planes .entry)) count width rail (now (joined .exit)) × (now (next .exit) ≡ now (joined .exit)) ⌝ }
 {
     begin(joined, width, rail);
     begin(next, width, rail);
     loop {
-        round(firsts, seconds, on, count, width, joined, next);
+        round(firsts, seconds, gates, planes, count, width, joined, next);
         if settle(joined, next, width * nodes) == 0 {
             return;
         }

@@ -10,8 +10,26 @@ setting-ones-requires c κs = search needs
 setting-zeros-requires : tie.Need-setting-zeros-requires
 setting-zeros-requires c κs = search needs
 
+slice-aggregate-gate-planes : tie.Need-slice-aggregate-gate-planes
+slice-aggregate-gate-planes c = search needs
+
+slice-aggregate-gate-planes-2 : tie.Need-slice-aggregate-gate-planes-2
+slice-aggregate-gate-planes-2 c = search needs
+
+slice-aggregate-gate-planes-3 : tie.Need-slice-aggregate-gate-planes-3
+slice-aggregate-gate-planes-3 c = search needs
+
+gate-planes-requires : tie.Need-gate-planes-requires
+gate-planes-requires c κs = search needs
+
+add-nodes : tie.Need-add-nodes
+add-nodes c = search needs
+
 output-words-requires : tie.Need-output-words-requires
-output-words-requires c κs = (c .before .before .before .before .pre .0, (search needs, search needs))
+output-words-requires c κs = search needs
+
+settings-of-requires : tie.Need-settings-of-requires
+settings-of-requires c κs = search needs
 
 mul-first-ones : tie.Need-mul-first-ones
 mul-first-ones c = search needs
@@ -24,24 +42,28 @@ first-ones-requires c κs = search needs
 
 returns : tie.Need-returns
 returns c =
-    let told = c .before .before .before in
-    let zeros = told .before .before .before in
+    let counted = c .before .before in
+    let settings = counted .before in
+    let told = settings .before in
+    let planes = told .before .before .before in
+    let zeros = planes .before .before .before .before in
     let ones = zeros .before in
     let start = ones .before in
     block-verdict
-    (start .args .t)
     (start .pre .0)
     (start .args .block)
-    (start .args .settings)
-    (c .before .before .first-ones .result)
+    (settings .settings-of .result)
+    (counted .first-ones .result)
     (ones .setting-ones .result)
     (zeros .setting-zeros .result)
+    _
     (told .output-words .result)
-    (start .pre .1 .1)
+    (settings .settings-of .ensures .0)
     (ones .setting-ones .ensures)
     (zeros .setting-zeros .ensures)
+    (planes .gate-planes .ensures)
     (told .output-words .ensures)
-    (c .before .before .first-ones .ensures)
+    (counted .first-ones .ensures)
 
 pub block-holds-spec : {M : Type 1} → statement M
 block-holds-spec =
@@ -49,7 +71,13 @@ block-holds-spec =
     (tie.spec
     setting-ones-requires
     setting-zeros-requires
+    slice-aggregate-gate-planes
+    slice-aggregate-gate-planes-2
+    slice-aggregate-gate-planes-3
+    gate-planes-requires
+    add-nodes
     output-words-requires
+    settings-of-requires
     mul-first-ones
     sub-first-ones
     first-ones-requires

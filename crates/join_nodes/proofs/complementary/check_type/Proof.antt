@@ -48,7 +48,7 @@ use Rattle.switch.proofs.ModuleType as R
 use Rattle.switch.proofs.ModuleType.Laws as R′
 use Rattle.join_nodes.proofs.Walks.{calls-told, Over, lends-field}
 use Rattle.join_nodes.proofs.Spreading.{front-type, front-long, front-given}
-use Rattle.join_nodes.proofs.TypeValues.{E64, slice, mach, vs, front, highest-fits, output-fits, labels-fit, count-fits, edges-are, edges-long, front-room}
+use Rattle.join_nodes.proofs.TypeValues.{E256, slice, mach, vs, front, highest-fits, output-fits, labels-fit, count-fits, edges-are, edges-long, front-room}
 use Rattle.join_nodes.proofs.complementary.complementary as work
 use Rattle.join_nodes.proofs.complementary.complementary.Symbol as work-def
 use Rattle.join_nodes.proofs.complementary.complementary.Symbol.{name as #complementary}
@@ -125,9 +125,9 @@ module _ {M : Type 1} (𝓤 : URA M) (H : Heap 𝓤) (A : Atoms 𝓤) (W : Model
           assigns ! (of-opd ! (load ! (from ! (fld ! refl (stop !))) (look-in ! 12 (sub ! 1 refl (whole !))))) (from ! (stop !)) (init ! 2 refl (tt, record { fits = output-fits t is })) $
           assigns ! (of-opd ! (load ! (from ! (fld ! refl (stop !))) (look-in ! 12 (sub ! 2 refl (whole !))))) (from ! (stop !)) (init ! 0 refl (tt, record { fits = labels-fit t is })) $
           -- the used edges are lent for α
-          lft-new ! tt (λ α. owned ! E64 (Is E64) (array-makes 𝓤 H A W T.the-row (LL.makes T.the-type T′.the-plain 𝓤 H A) 64) (t .edges) (getV (vs t) 4 ∷ []) (edges-are t is) $ move ! (14 ∷ 0 ∷ []) $
-          use2 W (later (some (λ (γ : GName). ‵ (Slice α l₂ γ) ⊛ raw (Over 𝓤 H A W T.the-row 64 _ _ 4 16 (α ∷ []) l₂ (vs t) (t .edges) (t .count)))))
-          (lends-field 𝓤 H A W T.the-row 64 _ _ 4 16 (α ∷ []) l₂ (vs t) (t .edges) (t .count) tt refl (front-room t is g)) $ await ! tt $ pick ! (λ γ. split ! $
+          lft-new ! tt (λ α. owned ! E256 (Is E256) (array-makes 𝓤 H A W T.the-row (LL.makes T.the-type T′.the-plain 𝓤 H A) 256) (t .edges) (getV (vs t) 4 ∷ []) (edges-are t is) $ move ! (14 ∷ 0 ∷ []) $
+          use2 W (later (some (λ (γ : GName). ‵ (Slice α l₂ γ) ⊛ raw (Over 𝓤 H A W T.the-row 256 _ _ 4 16 (α ∷ []) l₂ (vs t) (t .edges) (t .count)))))
+          (lends-field 𝓤 H A W T.the-row 256 _ _ 4 16 (α ∷ []) l₂ (vs t) (t .edges) (t .count) tt refl (front-room t is g)) $ await ! tt $ pick ! (λ γ. split ! $
           -- [what the slice owns; the way back; the token; _8; …]
           move ! (2 ∷ 0 ∷ []) $ use2 W (raw (Work 𝓤 H A mem run .pre (to α l₂ γ))) (asked α l₂ γ) $
           calls-told ! fm (Work 𝓤 H A mem run) known (to α l₂ γ) (and-then ! (load ! (from ! (stop !)) (look ! 8 refl)) (and-then ! (load ! (from ! (stop !)) (look ! 6 refl)) (and-then ! (load ! (from ! (stop !)) (look ! 4 refl)) (and-then ! (load ! (from ! (stop !)) (look ! 2 refl)) (no-more !)))))

@@ -1,4 +1,4 @@
--- `join_nodes::complementary::complementary` meets its contract: a walk of its MIR, by hand. The slice is spread, and `complementary_of` is called on the record. Assumes nothing.
+-- `join_nodes::complementary::complementary` meets its contract: a walk of its MIR, by hand. The slice is spread, and `complementary_of` is called on its columns. Assumes nothing.
 use mathlib.Core.Path.{_≡_, refl, ap, _∙_}
 use Prim.Native.Nat.{ℕ, _<_}
 use mathlib.Core.Bool.{Bool}
@@ -19,12 +19,13 @@ use types.Kit.{Given as Model, Item, ‵, raw, _⊛_, ⋆, _$_, _∵_, !, qed, b
 use types.Run.{look, init, forget, stop, from, load, and-then, no-more, land, returns, enter, alloc1, alloc0, params1, pass1, pass0, free1, free0}
 use sound.WpLaws.{FmC, fmOf, WpFn-mono}
 use denote.RattleType.{owns}
-use denote.Plain.{uint-vals, uint-tells, bool-lawful}
+use denote.Laws.{Is}
+use denote.Plain.{uint-vals, uint-tells, uint-makes, bool-lawful}
 use denote.Builtin.{u8, bool}
 use denote.Ref.{RefT}
 use denote.Signature.{plain}
 use denote.Slice.{sliceVal, ShrSlice, Room, slice-vals, shr-slice-tells, shr-slice-copy}
-use denote.Steps.{nothing}
+use denote.Steps.{owned, nothing}
 use denote.Struct.Laws as LL
 use denote.Triple.Clauses.{ensured, lasts}
 use denote.Triple.Entry.{Vals, onEntry}
@@ -34,16 +35,18 @@ use denote.Triple.Table.{entered, cited}
 use denote.Triple.Walked.{says, needs, Stays, stay-none-slice, stay-none, walkOf, goes-none-slice, goes-none, Walks, ends-at, walked, walk-meets}
 use denote.Exit.{yes}
 use Rattle.switch.specs.declared.Edge.{Edge}
-use Rattle.switch.specs.declared.ModuleType.{ModuleType}
-use Rattle.switch.specs.Records.{TypeGiven, EdgesGiven, typeOf, typeWith}
+use Rattle.switch.specs.Records.{EdgesGiven, typeWith}
 use Rattle.switch.specs.Deciding.{isComplementary}
 use Rattle.switch.proofs.Edge as T
-use Rattle.switch.proofs.ModuleType as R
-use Rattle.switch.proofs.ModuleType.Laws as R′
 use Rattle.switch.specs.Blocks.{byBlocks}
 use Rattle.switch.proofs.Blocks.{blocks-tell}
+use Rattle.join_nodes.specs.Model.{typeIn, ColumnsGiven}
+use Rattle.join_nodes.specs.declared.Columns.{Columns}
+use Rattle.join_nodes.proofs.Columns as R
+use Rattle.join_nodes.proofs.Columns.Laws as R′
+use Rattle.join_nodes.proofs.EdgeColumns.{type-told, columns-given}
 use Rattle.join_nodes.proofs.Walks.{calls-told}
-use Rattle.join_nodes.proofs.Spreading.{spread-type, spread-given, Spreads, calls-spread}
+use Rattle.join_nodes.proofs.Spreading.{Spreads, calls-spread}
 use Rattle.join_nodes.proofs.edges.spread.Symbol as spread-def
 use Rattle.join_nodes.proofs.edges.spread.Symbol.{name as #spread}
 use Rattle.join_nodes.proofs.edges.spread.Met as spread-thm
@@ -86,18 +89,25 @@ module _ {M : Type 1} (𝓤 : URA M) (H : Heap 𝓤) (A : Atoms 𝓤) (W : Model
   abbrev Owns : Fml
   Owns = owns (ShrSlice (named 0) κ T.the-row ∷ u8 ∷ u8 ∷ u8 ∷ []) x at
 
-  -- the call of the work, at the record t with the machine value u
-  abbrev to : ModuleType → Val → Work 𝓤 H A mem run .Ghost
-  to t u = ((tt, tt, tt, (t, tt), (u ∷ [], tt)), tt)
+  -- the call of the work, at the columns c with the machine value u
+  abbrev to : Columns → Val → Work 𝓤 H A mem run .Ghost
+  to c u = ((tt, tt, tt, (c, (hi, (ou, (la, tt)))), (u ∷ [], (vint w8 hi ∷ [], (vint w8 ou ∷ [], (vint w8 la ∷ [], tt))))), tt)
 
-  asked : (t : ModuleType) (u : Val) → TypeGiven t → ent 𝓤 (sem 𝓤 H A (R.the-row .own t (u ∷ []))) (Work 𝓤 H A mem run .pre (to t u))
-  asked t u g = qed W (‵ (R.the-row .own t (u ∷ [])) ∷ []) ∵ says ! g $ nothing ! $ move ! (1 ∷ 0 ∷ []) $ fjoin ! $ nothing ! $ done !
+  asked : (c : Columns) (u : Val) → hi < 256 → ou < 256 → la < 256 → ColumnsGiven hi ou la (c .firsts) (c .seconds) (c .gates) (c .count)
+      → ent 𝓤 (sem 𝓤 H A (R.the-row .own c (u ∷ []))) (Work 𝓤 H A mem run .pre (to c u))
+  asked c u ghi gou gla g =
+      qed W (‵ (R.the-row .own c (u ∷ [])) ∷ []) ∵ says ! g $ nothing ! $ owned ! u8 (Is u8) (uint-makes 𝓤 H A W w8) la _ (refl, gla) $ fjoin ! $ owned ! u8 (Is u8) (uint-makes 𝓤 H A W w8) ou _ (refl, gou) $ fjoin ! $
+      owned ! u8 (Is u8) (uint-makes 𝓤 H A W w8) hi _ (refl, ghi) $ fjoin ! $ move ! (1 ∷ 0 ∷ []) $ fjoin ! $ nothing ! $ done !
 
-  abbrev Said : ModuleType → Bool → SProp 𝓤
-  Said t r = ensured 𝓤 H A work.ended (work.clauses 𝓤 H A mem run) tt (t, tt) tt r
+  -- what it says of the type that the columns tell
+  abbrev Says : Columns → Bool → Type 0
+  Says c r = r ≡ byBlocks (typeIn hi ou la (c .firsts) (c .seconds) (c .gates) (c .count))
 
-  told : (t : ModuleType) (r : Bool) → ent 𝓤 (Said t r) (fact 𝓤 (r ≡ byBlocks (typeOf t)))
-  told t r = exE 𝓤 _ (λ ws. snd∗ 𝓤 (sem 𝓤 H A (lasts work.ended tt (t, tt) ws)) (fact 𝓤 (r ≡ byBlocks (typeOf t))))
+  abbrev Said : Columns → Bool → SProp 𝓤
+  Said c r = ensured 𝓤 H A work.ended (work.clauses 𝓤 H A mem run) tt (c, (hi, (ou, (la, tt)))) tt r
+
+  told : (c : Columns) (r : Bool) → ent 𝓤 (Said c r) (fact 𝓤 (Says c r))
+  told c r = exE 𝓤 _ (λ ws. snd∗ 𝓤 (sem 𝓤 H A (lasts work.ended tt (c, (hi, (ou, (la, tt)))) ws)) (fact 𝓤 (Says c r)))
 
   exits : (r : Bool) (u : Val) → r ≡ isComplementary (typeWith hi ou la (s .now)) → ent 𝓤 (⋆ 𝓤 H A (Token ∷ ‵ Owns ∷ ‵ (bool .own r (u ∷ [])) ∷ [])) (Post u)
   exits r u e =
@@ -113,16 +123,17 @@ module _ {M : Type 1} (𝓤 : URA M) (H : Heap 𝓤) (A : Atoms 𝓤) (W : Model
         pass1 ! (init ! 8 refl (tt, (tt, (record { fits = room .0 }, tt)))) $ pass1 ! (init ! 6 refl (tt, record { fits = ghi })) $ pass1 ! (init ! 4 refl (tt, record { fits = gou })) $ pass1 ! (init ! 2 refl (tt, record { fits = gla })) $ pass0 ! $
         move ! (13 ∷ []) $ fsplit ! $ use1 W (‵ Own ⊛ ‵ Own) (shr-slice-copy 𝓤 H A W (named 0) κ T.the-row .twice s (v ∷ [])) $ split ! $ move ! (1 ∷ 2 ∷ []) $ fjoin ! $ move ! (14 ∷ 1 ∷ []) $
         -- [the token; what the slice owns; what the parameters own; room for _5; …; _4; …; _3; …; _2; …; _1; …; room for _0; …]
-        calls-spread W mem run κ q s hi ou la ! fm known-spread ghi gou gla g
-        (and-then ! (load ! (from ! (stop !)) (look ! 10 refl)) (and-then ! (load ! (from ! (stop !)) (look ! 8 refl)) (and-then ! (load ! (from ! (stop !)) (look ! 6 refl)) (and-then ! (load ! (from ! (stop !)) (look ! 4 refl)) (no-more !))))) (λ u t sp is.
-        land ! (from ! (stop !)) (init ! 3 refl (LL.lawful R.the-type R′.the-laws 𝓤 H A W .typed t _ is .0)) $
-        use1 W (raw (Work 𝓤 H A mem run .pre (to t u))) (asked t u (spread-given sp g)) $
-        calls-told ! fm (Work 𝓤 H A mem run) known-work (to t u) (and-then ! (load ! (from ! (stop !)) (look ! 3 refl)) (no-more !)) bool (‵ ftrue) (Said t) (λ r. r ≡ byBlocks (typeOf t)) (λ w. id⊢ 𝓤 _) (told t) (λ w r e isr.
+        calls-spread W mem run κ q s ! fm known-spread (g .places)
+        (and-then ! (load ! (from ! (stop !)) (look ! 10 refl)) (no-more !)) (λ u c sp is.
+        land ! (from ! (stop !)) (init ! 3 refl (LL.lawful R.the-type R′.the-laws 𝓤 H A W .typed c _ is .0)) $
+        use1 W (raw (Work 𝓤 H A mem run .pre (to c u))) (asked c u ghi gou gla (columns-given hi ou la (s .now) g c sp)) $
+        calls-told ! fm (Work 𝓤 H A mem run) known-work (to c u) (and-then ! (load ! (from ! (stop !)) (look ! 3 refl)) (and-then ! (load ! (from ! (stop !)) (look ! 9 refl)) (and-then ! (load ! (from ! (stop !)) (look ! 7 refl)) (and-then ! (load ! (from ! (stop !)) (look ! 5 refl)) (no-more !)))))
+        bool (‵ ftrue) (Said c) (Says c) (λ w. id⊢ 𝓤 _) (told c) (λ w r e isr.
         -- [the result; true; the token; what the parameters own; _5; …]
         land ! (from ! (stop !)) (init ! 14 refl (bool-lawful 𝓤 H A W .typed r _ isr .0)) $
         returns ! (look ! 14 refl) $ forget ! 4 refl $ forget ! 6 refl $ forget ! 8 refl $ forget ! 10 refl $ forget ! 12 refl $ forget ! 14 refl $
         move ! (14 ∷ 15 ∷ []) $ free1 ! $ move ! (12 ∷ 13 ∷ []) $ free1 ! $ move ! (10 ∷ 11 ∷ []) $ free1 ! $ move ! (8 ∷ 9 ∷ []) $ free1 ! $ move ! (6 ∷ 7 ∷ []) $ free1 ! $ move ! (4 ∷ 5 ∷ []) $ free1 ! $ free0 ! $
-        keep ! (2 ∷ 3 ∷ 0 ∷ []) $ by ! (exits r w (e ∙ blocks-tell .same-verdict (typeOf t) ∙ ap isComplementary (spread-type sp)))))))))))
+        keep ! (2 ∷ 3 ∷ 0 ∷ []) $ by ! (exits r w (e ∙ blocks-tell .same-verdict (typeIn hi ou la (c .firsts) (c .seconds) (c .gates) (c .count)) ∙ ap isComplementary (type-told (s .now) (g .places) hi ou la c sp)))))))))))
 
 module _ {M : Type 1} (𝓤 : URA M) (H : Heap 𝓤) (A : Atoms 𝓤) (W : Model 𝓤 H A) (mem : Memory → SProp 𝓤) (run : Routine → Fun 𝓤) where
   walks : (𝓣 : Tables 𝓤 H) → Triple 𝓤 (𝓣 .C #spread) (Spreads 𝓤 H A mem run) → Triple 𝓤 (𝓣 .C #complementary-of) (Work 𝓤 H A mem run) → Walks 𝓤 H A f.ended stayed (WpFn 𝓤 H (𝓣 .C) (𝓣 .Λ) code.function) (f.clauses 𝓤 H A mem run)

@@ -4,47 +4,57 @@ use Prim.Native.Nat.{_≤_, _<_, _+_, _-_, _*_, _^_}
 use native.Mathlib.Omega.{arith}
 use borrow.Author.Tests.{not-true, not-false}
 use lib.Dec.{T}
+use Rattle.switch.specs.Modules.{ModuleType}
 use Rattle.switch.specs.Blocks.{runningVerdict}
-use Rattle.switch.specs.Records.{typeOf}
 use Rattle.switch.proofs.Blocks.{none-yet, one-block-more, block-fails, after-the-last}
-use Rattle.switch.proofs.Ranges.{given-type}
-use Rattle.join_nodes.proofs.Check.{settings-count}
+use Rattle.join_nodes.specs.Model.{typeIn}
 use Rattle.join_nodes.proofs.complementary.complementary_of.Statement.{statement}
 use Rattle.join_nodes.proofs.complementary.complementary_of.Tie as tie
 
 abbrev Inv-loop : tie.InvT-loop
-Inv-loop t settings block₀ block =
-    (settings ≡ 2 ^ (t .labels)) × (settings ≤ 4096) × (64 * block < settings + 64) × T (runningVerdict (typeOf t) block)
+Inv-loop highest output labels c count settings block₀ block =
+    (settings ≡ 2 ^ labels) × (settings ≤ 4096) × (64 * block < settings + 64)
+    × T (runningVerdict (typeIn highest output labels (c .firsts) (c .seconds) (c .gates) (c .count)) block)
 
 abbrev μ-loop : tie.MeasureT-loop
-μ-loop t settings block₀ block = settings - 64 * block
+μ-loop highest output labels c count settings block₀ block = settings - 64 * block
 
-cast-settings : tie.Need-cast-settings Inv-loop μ-loop
-cast-settings c = omega (arith, given-type (c .before .args .t) (c .before .pre) .labels-high)
+-- the start, from a turn, a turn, from what is told of its block, and the type
+abbrev start : tie.At-loop Inv-loop μ-loop → tie.Start Inv-loop μ-loop
+start h = h .before .before
 
-shl-settings : tie.Need-shl-settings Inv-loop μ-loop
-shl-settings c = omega (arith, given-type (c .before .args .t) (c .before .pre) .labels-high)
+abbrev turn-of : tie.After-block-holds Inv-loop μ-loop → tie.At-loop Inv-loop μ-loop
+turn-of c = c .before .before .before .before .before .before
+
+abbrev type-of : tie.Start Inv-loop μ-loop → ModuleType
+type-of s =
+    let a = s .args in
+    typeIn (a .highest) (a .output) (a .labels) (a .t1 .firsts) (a .t1 .seconds) (a .t1 .gates) (a .t1 .count)
+
+settings-of-requires : tie.Need-settings-of-requires Inv-loop μ-loop
+settings-of-requires c κs = c .pre .labels
 
 loop-holds : tie.Need-loop-holds Inv-loop μ-loop
-loop-holds c =
-    let count = settings-count (c .before .args .t) (c .before .pre) in
-    (count .0, omega arith, omega arith, none-yet (typeOf (c .before .args .t)))
+loop-holds c = (c .settings-of .ensures .0, c .settings-of .ensures .1, omega arith, none-yet (type-of (c .before)))
 
 mul-loop : tie.Need-mul-loop Inv-loop μ-loop
 mul-loop c = omega arith
 
 block-holds-requires : tie.Need-block-holds-requires Inv-loop μ-loop
-block-holds-requires c κs = (c .before .before .before .pre, (omega arith, c .before .loop .inv .0))
+block-holds-requires c κs =
+    let turn = c .before .before .before .before .before in
+    (start turn .pre, omega (arith, turn .loop .inv .0))
 
 returns : tie.Need-returns Inv-loop μ-loop
-unfolding typeOf
+unfolding typeIn
 returns c =
-    let turn = c .before .before .before in
+    let told = c .before in
+    let turn = turn-of told in
     block-fails
-    (typeOf (turn .before .before .args .t))
+    (type-of (start turn))
     (turn .loop .block)
     (omega (arith, turn .loop .inv .0))
-    (sym (c .before .block-holds .ensures) ∙ not-true (c .before .block-holds .result) (c .if1 .taken))
+    (sym (told .block-holds .ensures) ∙ not-true (told .block-holds .result) (c .if1 .taken))
 
 add-block : tie.Need-add-block Inv-loop μ-loop
 add-block c = omega arith
@@ -54,22 +64,23 @@ loop-less c = omega arith
 
 loop-again : tie.Need-loop-again Inv-loop μ-loop
 loop-again c =
-    let turn = c .before .before .before in (
+    let told = c .before in
+    let turn = turn-of told in (
       turn .loop .inv .0,
       turn .loop .inv .1,
       omega arith,
       one-block-more
-          (typeOf (turn .before .before .args .t))
+          (type-of (start turn))
           (turn .loop .block)
           (turn .loop .inv .3)
-          (sym (c .before .block-holds .ensures) ∙ not-false (c .before .block-holds .result) (c .if1 .left)),
+          (sym (told .block-holds .ensures) ∙ not-false (told .block-holds .result) (c .if1 .left)),
     )
 
 returns-2 : tie.Need-returns-2 Inv-loop μ-loop
-unfolding typeOf
+unfolding typeIn
 returns-2 c =
     after-the-last
-    (typeOf (c .before .before .before .args .t))
+    (type-of (start (c .before)))
     (c .before .loop .block)
     (omega (arith, c .before .loop .inv .0, c .loop-test .left))
     (omega (arith, c .before .loop .inv .0))
@@ -81,8 +92,7 @@ complementary-of-spec =
     (tie.spec
     Inv-loop
     μ-loop
-    cast-settings
-    shl-settings
+    settings-of-requires
     loop-holds
     mul-loop
     block-holds-requires

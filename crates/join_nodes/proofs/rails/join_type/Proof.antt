@@ -52,7 +52,7 @@ use Rattle.switch.proofs.ModuleType as R
 use Rattle.switch.proofs.ModuleType.Laws as R′
 use Rattle.join_nodes.proofs.Walks.{calls-told, Over, lends-field}
 use Rattle.join_nodes.proofs.Spreading.{front-type, front-long, front-given}
-use Rattle.join_nodes.proofs.TypeValues.{E64, slice, mach, vs, front, highest-fits, output-fits, labels-fit, count-fits, edges-are, edges-long, front-room}
+use Rattle.join_nodes.proofs.TypeValues.{E256, slice, mach, vs, front, highest-fits, output-fits, labels-fit, count-fits, edges-are, edges-long, front-room}
 use Rattle.join_nodes.proofs.rails.joining as work
 use Rattle.join_nodes.proofs.rails.joining.Symbol as work-def
 use Rattle.join_nodes.proofs.rails.joining.Symbol.{name as #joining}
@@ -168,9 +168,9 @@ module _ {M : Type 1} (𝓤 : URA M) (H : Heap 𝓤) (A : Atoms 𝓤) (W : Model
           assigns ! (of-opd ! (load ! (from ! (fld ! refl (stop !))) (look-in ! 12 (sub ! 2 refl (whole !))))) (from ! (stop !)) (init ! 0 refl (tt, record { fits = labels-fit t is })) $
           move ! (23 ∷ []) $ use1 W (‵ Owns ⊛ (‵ Ones ⊛ ‵ Zeros)) twice $ split ! $ move ! (1 ∷ []) $ split ! $ move ! (25 ∷ []) $ move ! (1 ∷ 2 ∷ []) $ join ! $ move ! (1 ∷ 0 ∷ []) $ join ! $
           -- [the tokens with what the planes own; what the parameters own; _10; …]. The used edges are lent for α
-          lft-new ! tt (λ α. owned ! E64 (Is E64) (array-makes 𝓤 H A W T.the-row (LL.makes T.the-type T′.the-plain 𝓤 H A) 64) (t .edges) (getV (vs t) 4 ∷ []) (edges-are t is) $ move ! (16 ∷ 0 ∷ []) $
-          use2 W (later (some (λ (γ : GName). ‵ (Slice α l₄ γ) ⊛ raw (Over 𝓤 H A W T.the-row 64 _ _ 4 16 (α ∷ []) l₄ (vs t) (t .edges) (t .count)))))
-          (lends-field 𝓤 H A W T.the-row 64 _ _ 4 16 (α ∷ []) l₄ (vs t) (t .edges) (t .count) tt refl (front-room t is g)) $ await ! tt $ pick ! (λ γ. split ! $
+          lft-new ! tt (λ α. owned ! E256 (Is E256) (array-makes 𝓤 H A W T.the-row (LL.makes T.the-type T′.the-plain 𝓤 H A) 256) (t .edges) (getV (vs t) 4 ∷ []) (edges-are t is) $ move ! (16 ∷ 0 ∷ []) $
+          use2 W (later (some (λ (γ : GName). ‵ (Slice α l₄ γ) ⊛ raw (Over 𝓤 H A W T.the-row 256 _ _ 4 16 (α ∷ []) l₄ (vs t) (t .edges) (t .count)))))
+          (lends-field 𝓤 H A W T.the-row 256 _ _ 4 16 (α ∷ []) l₄ (vs t) (t .edges) (t .count) tt refl (front-room t is g)) $ await ! tt $ pick ! (λ γ. split ! $
           -- [what the slice owns; the way back; the token; the tokens with what the planes own; what the parameters own; _10; …]
           move ! (0 ∷ 3 ∷ []) $ join ! $ move ! (2 ∷ 0 ∷ []) $ join ! $ use1 W (raw (Work 𝓤 H A mem run .pre (to α l₄ γ))) (asked α l₄ γ) $
           calls-told ! fm (Work 𝓤 H A mem run) known (to α l₄ γ) (and-then ! (load ! (from ! (stop !)) (look ! 9 refl)) (and-then ! (load ! (from ! (stop !)) (look ! 7 refl)) (and-then ! (load ! (from ! (stop !)) (look ! 5 refl)) (and-then ! (load ! (from ! (stop !)) (look ! 3 refl)) (and-then ! (load ! (from ! (stop !)) (look ! 18 refl)) (and-then ! (load ! (from ! (stop !)) (look ! 16 refl)) (no-more !)))))))

@@ -9,10 +9,10 @@ use Rattle.join_nodes.proofs.rounds.hand_on.Statement.{statement}
 use Rattle.join_nodes.proofs.rounds.hand_on.Tie as tie
 
 abbrev Inv-loop : tie.InvT-loop
-Inv-loop on at joined from next₀ to width w₀ next w = (w ≤ width) × (next ≡ handedTo on at joined from next₀ to w) × (length next ≡ length next₀)
+Inv-loop planes at joined from next₀ to width w₀ next w = (w ≤ width) × (next ≡ handedTo planes at joined from next₀ to w) × (length next ≡ length next₀)
 
 abbrev μ-loop : tie.MeasureT-loop
-μ-loop on at joined from next₀ to width w₀ next w = width - w
+μ-loop planes at joined from next₀ to width w₀ next w = width - w
 
 loop-holds : tie.Need-loop-holds Inv-loop μ-loop
 unfolding handedTo

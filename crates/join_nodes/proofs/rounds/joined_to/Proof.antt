@@ -11,7 +11,7 @@ use denote.Ref.{now}
 use Rattle.join_nodes.specs.Model.{onesTo, wideRoundTo, RoundTaken}
 use Rattle.join_nodes.proofs.RoundLaws.{total}
 use Rattle.join_nodes.proofs.WideRounds.{
-  in-range,
+  all-nodes,
   rail-room,
   WideReached,
   wide-first,
@@ -26,10 +26,10 @@ use Rattle.join_nodes.proofs.rounds.joined_to.Statement.{statement}
 use Rattle.join_nodes.proofs.rounds.joined_to.Tie as tie
 
 abbrev Inv-loop : tie.InvT-loop
-Inv-loop firsts seconds on count width nodes rail joined₀ next₀ joined next = (next ≡ joined) × WideReached firsts seconds on count width rail joined
+Inv-loop firsts seconds gates planes count width nodes rail joined₀ next₀ joined next = (next ≡ joined) × WideReached firsts seconds gates planes count width rail joined
 
 abbrev μ-loop : tie.MeasureT-loop
-μ-loop firsts seconds on count width nodes rail joined₀ next₀ joined next = width * 32 * 2 ^ 64 - total joined
+μ-loop firsts seconds gates planes count width nodes rail joined₀ next₀ joined next = width * 32 * 2 ^ 64 - total joined
 
 -- ---- where things stand
 
@@ -63,11 +63,11 @@ module _ (turn : tie.At-loop Inv-loop μ-loop) where
   start = start-second (second-begun (turn .before) .before)
 
   abbrev Reached-by : List ℕ → Type 0
-  Reached-by words = let x = start .args in WideReached (now (x .firsts)) (now (x .seconds)) (now (x .on)) (x .count) (x .width) (x .rail) words
+  Reached-by words = let x = start .args in WideReached (now (x .firsts)) (now (x .seconds)) (now (x .gates)) (now (x .planes)) (x .count) (x .width) (x .rail) words
 
   -- the words that a round leaves
   after : List ℕ
-  after = let x = start .args in wideRoundTo (now (x .firsts)) (now (x .seconds)) (now (x .on)) (x .width) (turn .loop .joined) (x .count)
+  after = let x = start .args in wideRoundTo (now (x .firsts)) (now (x .seconds)) (now (x .gates)) (now (x .planes)) (x .width) (turn .loop .joined) (x .count)
 
   -- of which the invariant holds again
   again : Reached-by after
@@ -78,7 +78,7 @@ module _ (turn : tie.At-loop Inv-loop μ-loop) where
   places : start .args .width * start .args .nodes ≤ start .args .width * 32
   places = mul-le-mul-left (start .args .width) (start .pre .0 .few-nodes)
 
-is-after : (c : tie.After-round Inv-loop μ-loop) → c .round .last .1 .1 .1 .1 .1 .1 .0 ≡ after (turn-of c)
+is-after : (c : tie.After-round Inv-loop μ-loop) → c .round .last .1 .1 .1 .1 .1 .1 .1 .0 ≡ after (turn-of c)
 unfolding after
 is-after c = c .round .ensures
 
@@ -95,14 +95,14 @@ module _ (c : tie.After-settle Inv-loop μ-loop) where
 
   settles : c .settle .last .0 ≡ after turn
   unfolding after
-  settles = settled-all (start turn .pre .0) (turn .loop .joined) (turn .loop .inv .1 .long) taken
+  settles = settled-all (start turn .pre .0) (now (start turn .args .planes)) (start turn .args .width) (turn .loop .joined) (turn .loop .inv .1 .long) taken
 
   tells : (c .settle .result ≡ 0) ↔ (turn .loop .joined ≡ after turn)
   unfolding after
-  tells = settled-same (start turn .pre .0) (turn .loop .joined) (turn .loop .inv .1 .long) taken
+  tells = settled-same (start turn .pre .0) (now (start turn .args .planes)) (start turn .args .width) (turn .loop .joined) (turn .loop .inv .1 .long) taken
 
   -- the next round begins from the same words in both lists
-  both-settled : rounded .round .last .1 .1 .1 .1 .1 .1 .0 ≡ c .settle .last .0
+  both-settled : rounded .round .last .1 .1 .1 .1 .1 .1 .1 .0 ≡ c .settle .last .0
   both-settled = is-after rounded ∙ sym settles
 
 -- ---- the needs
@@ -110,12 +110,12 @@ module _ (c : tie.After-settle Inv-loop μ-loop) where
 begin-requires : tie.Need-begin-requires Inv-loop μ-loop
 begin-requires c κs =
     let s = start-first c in
-    omega (arith, ap length (s .pre .1 .1 .0), rail-room (s .args .width) (s .args .rail) (s .pre .1 .0))
+    omega (arith, ap length (s .pre .1 .1 .1 .0), rail-room (s .args .width) (s .args .rail) (s .pre .1 .1 .0))
 
 begin-requires-2 : tie.Need-begin-requires-2 Inv-loop μ-loop
 begin-requires-2 c κs =
     let s = start-second c in
-    omega (arith, ap length (s .pre .1 .1 .1), rail-room (s .args .width) (s .args .rail) (s .pre .1 .0))
+    omega (arith, ap length (s .pre .1 .1 .1 .1), rail-room (s .args .width) (s .args .rail) (s .pre .1 .1 .0))
 
 loop-holds : tie.Need-loop-holds Inv-loop μ-loop
 loop-holds c =
@@ -123,20 +123,20 @@ loop-holds c =
     let s = start-second (second .before) in
     let x = s .args in
     let begun : List ℕ → List ℕ = λ words. onesTo words (x .width * x .rail) (x .width) in
-    let one = first-begun (second .before) .begin .ensures ∙ ap begun (s .pre .1 .1 .0) in
-    let two = second .begin2 .ensures ∙ ap begun (s .pre .1 .1 .1) in
-    (two ∙ sym one, rw one (wide-first (x .width) (x .rail) (s .pre .1 .0) (now (x .firsts)) (now (x .seconds)) (now (x .on)) (x .count)))
+    let one = first-begun (second .before) .begin .ensures ∙ ap begun (s .pre .1 .1 .1 .0) in
+    let two = second .begin2 .ensures ∙ ap begun (s .pre .1 .1 .1 .1) in
+    (two ∙ sym one, rw one (wide-first (x .width) (x .rail) (s .pre .1 .1 .0) (now (x .firsts)) (now (x .seconds)) (now (x .gates)) (now (x .planes)) (x .count)))
 
 round-requires : tie.Need-round-requires Inv-loop μ-loop
 round-requires c κs =
     let turn = c .before .before in
-    let edges = start turn .pre .0 in
-    (in-range edges, ((edges .few-words, edges .on-words, turn .loop .inv .1 .long), turn .loop .inv .0))
+    let s = start turn in
+    (all-nodes (s .pre .0), ((s .pre .1 .0 .0, s .pre .1 .0 .1, turn .loop .inv .1 .long), turn .loop .inv .0))
 
 mul-settle : tie.Need-mul-settle Inv-loop μ-loop
 mul-settle c =
     let turn = turn-of (round-of c) in
-    omega (arith, places turn, start turn .pre .0 .few-words)
+    omega (arith, places turn, start turn .pre .1 .0 .0)
 
 settle-requires : tie.Need-settle-requires Inv-loop μ-loop
 settle-requires c κs =
@@ -148,13 +148,13 @@ same-length : tie.Need-same-length Inv-loop μ-loop
 same-length c =
     let end = settled (c .before) in
     let s = start (turn end) in
-    omega (arith, ap length (settles end), again (turn end) .long, ap length (s .pre .1 .1 .0), length-replicate {A = ℕ} (s .args .width * 32) 0)
+    omega (arith, ap length (settles end), again (turn end) .long, ap length (s .pre .1 .1 .1 .0), length-replicate {A = ℕ} (s .args .width * 32) 0)
 
 same-length-2 : tie.Need-same-length-2 Inv-loop μ-loop
 same-length-2 c =
     let end = settled (c .before) in
     let s = start (turn end) in
-    omega (arith, ap length (is-after (rounded end)), again (turn end) .long, ap length (s .pre .1 .1 .1), length-replicate {A = ℕ} (s .args .width * 32) 0)
+    omega (arith, ap length (is-after (rounded end)), again (turn end) .long, ap length (s .pre .1 .1 .1 .1), length-replicate {A = ℕ} (s .args .width * 32) 0)
 
 returns : tie.Need-returns Inv-loop μ-loop
 unfolding after

@@ -13,10 +13,10 @@ use Rattle.join_nodes.proofs.rounds.round.Statement.{statement}
 use Rattle.join_nodes.proofs.rounds.round.Tie as tie
 
 abbrev Inv-loop : tie.InvT-loop
-Inv-loop firsts seconds on count width joined next₀ i₀ next i = (i ≤ count) × (next ≡ wideRoundTo firsts seconds on width joined i)
+Inv-loop firsts seconds gates planes count width joined next₀ i₀ next i = (i ≤ count) × (next ≡ wideRoundTo firsts seconds gates planes width joined i)
 
 abbrev μ-loop : tie.MeasureT-loop
-μ-loop firsts seconds on count width joined next₀ i₀ next i = count - i
+μ-loop firsts seconds gates planes count width joined next₀ i₀ next i = count - i
 
 -- ---- where things stand
 
@@ -26,7 +26,7 @@ start h = h .before .before .before .before
 
 -- a turn, from what it hands on first, and that from what it hands on second
 abbrev turn-of : tie.After-hand-on-arg Inv-loop μ-loop → tie.In-loop Inv-loop μ-loop
-turn-of c = c .before .before .before
+turn-of c = c .before .before .before .before
 
 abbrev first-handed : tie.After-hand-on-arg2 Inv-loop μ-loop → tie.After-hand-on Inv-loop μ-loop
 first-handed c = c .before .before .before
@@ -34,9 +34,9 @@ first-handed c = c .before .before .before
 -- ---- the loop, at any turn
 
 next-long : (h : tie.At-loop Inv-loop μ-loop) → length (h .loop .next) ≡ start h .args .width * 32
-next-long h = ap length (h .loop .inv .1) ∙ wide-length _ _ _ _ _ (h .loop .i) ∙ start h .pre .1 .0 .2
+next-long h = ap length (h .loop .inv .1) ∙ wide-length _ _ _ _ _ _ (h .loop .i) ∙ start h .pre .1 .0 .2
 
--- the nodes of the edge of a turn are in range, and their words and the edge's stand within the lists
+-- the nodes and the gate of the edge of a turn are in range, and their words stand within the lists
 module _ (c : tie.In-loop Inv-loop μ-loop) where
   abbrev begin : tie.Start Inv-loop μ-loop
   begin = start (c .before)
@@ -50,19 +50,25 @@ module _ (c : tie.In-loop Inv-loop μ-loop) where
   abbrev b : ℕ
   b = getD (now (begin .args .seconds)) place 0
 
+  abbrev g : ℕ
+  g = getD (now (begin .args .gates)) place 0
+
   a-in : a < 32
   a-in = begin .pre .0 .first place (c .loop-test .taken)
 
   b-in : b < 32
   b-in = begin .pre .0 .second place (c .loop-test .taken)
 
+  g-in : g < 32
+  g-in = begin .pre .0 .gate place (c .loop-test .taken)
+
   words-in : let width = begin .args .width in
-      (width * a + width ≤ width * 32) × (width * b + width ≤ width * 32) × (width * place + width ≤ width * 64)
+      (width * a + width ≤ width * 32) × (width * b + width ≤ width * 32) × (width * g + width ≤ width * 32)
   words-in =
       let width : ℕ = begin .args .width in (
         each-before width a 32 a-in,
         each-before width b 32 b-in,
-        each-before width place 64 (omega (arith, begin .pre .0 .places, c .loop-test .taken)),
+        each-before width g 32 g-in,
       )
 
 -- ---- the needs
@@ -89,17 +95,20 @@ cast-b c = omega (arith, b-in (c .before .before))
 mul-b : tie.Need-mul-b Inv-loop μ-loop
 mul-b c = omega (arith, words-in (c .before .before))
 
-mul-hand-on : tie.Need-mul-hand-on Inv-loop μ-loop
-mul-hand-on c = omega (arith, words-in (c .before .before))
+element-copy-out-g : tie.Need-element-copy-out-g Inv-loop μ-loop
+element-copy-out-g c = omega arith
+
+cast-g : tie.Need-cast-g Inv-loop μ-loop
+cast-g c = omega (arith, g-in (c .before .before .before))
+
+mul-g : tie.Need-mul-g Inv-loop μ-loop
+mul-g c = omega (arith, words-in (c .before .before .before))
 
 hand-on-requires : tie.Need-hand-on-requires Inv-loop μ-loop
 hand-on-requires c κs =
     let turn = turn-of c in
     let places = words-in turn in
     (omega (arith, places .2), omega (arith, places .1), omega (arith, places .0, next-long (turn .before)))
-
-mul-hand-on-2 : tie.Need-mul-hand-on-2 Inv-loop μ-loop
-mul-hand-on-2 c = omega (arith, words-in (turn-of (c .before .before .before)))
 
 hand-on-requires-2 : tie.Need-hand-on-requires-2 Inv-loop μ-loop
 hand-on-requires-2 c κs =
@@ -122,7 +131,7 @@ loop-again c =
     let first = first-handed (second .before) in
     let turn = turn-of (first .before) in
     let x = begin turn .args in
-    let handed : ℕ → ℕ → List ℕ → List ℕ = λ from to words. handedTo (now (x .on)) (x .width * place turn) (now (x .joined)) from words to (x .width) in
+    let handed : ℕ → ℕ → List ℕ → List ℕ = λ from to words. handedTo (now (x .planes)) (x .width * g turn) (now (x .joined)) from words to (x .width) in
     let to-a : List ℕ → List ℕ = handed (x .width * b turn) (x .width * a turn) in
     let to-b : List ℕ → List ℕ = handed (x .width * a turn) (x .width * b turn) in
     (omega arith, rw add-one (second .hand-on2 .ensures ∙ ap to-b (first .hand-on .ensures ∙ ap to-a (turn .before .loop .inv .1))))
@@ -133,7 +142,7 @@ same-length c = omega (arith, next-long (c .before), ap length (start (c .before
 returns : tie.Need-returns Inv-loop μ-loop
 returns c =
     let last : c .before .loop .i ≡ start (c .before) .args .count = omega arith in
-    c .before .loop .inv .1 ∙ ap (wideRoundTo _ _ _ _ _) last
+    c .before .loop .inv .1 ∙ ap (wideRoundTo _ _ _ _ _ _) last
 
 pub round-spec : {M : Type 1} → statement M
 round-spec =
@@ -148,9 +157,10 @@ round-spec =
     element-copy-out-b
     cast-b
     mul-b
-    mul-hand-on
+    element-copy-out-g
+    cast-g
+    mul-g
     hand-on-requires
-    mul-hand-on-2
     hand-on-requires-2
     add-i
     loop-less

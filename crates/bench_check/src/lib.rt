@@ -1,8 +1,8 @@
 // The complementary check as an entry of its own, so that bench/stack can measure the stack that it takes by itself: in the library it shares one frame with reading.
 use join_nodes::complementary::check_type;
-use switch::Edge;
 use switch::MOST_EDGES;
 use switch::ModuleType;
+use switch::edges::edge_with;
 ghost use mathlib.Core.Path.{_≡_};
 ghost use Rattle.words.specs.Bits.{ofBool};
 ghost use Rattle.switch.specs.Records.{typeOf};
@@ -15,18 +15,12 @@ fn judged_type(h: u8, o: u8, k: u8, node: u8, label: u8, count: u8) -> ModuleTyp
     ensures { λ r. ⌜ r ≡ judged h o k node label count ⌝ }
 {
     let labels = 1 + k % 12;
-    let edge = Edge {
-        first: node % 24,
-        second: 0,
-        p_channel: label < node,
-        count: 4,
-        labels: [label % labels; 4],
-    };
+    let edge = edge_with(node % 24, 0, label % labels, label < node);
     ModuleType {
         highest: 24 + h % 8,
         output: 2 + o % 16,
         labels,
-        count: (count % 65) as usize,
+        count: (count as usize) + 1,
         edges: [edge; MOST_EDGES],
     }
 }

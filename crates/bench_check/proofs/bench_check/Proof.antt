@@ -11,23 +11,17 @@ use lib.Dec.{T, leb}
 use lib.ListN.{replicate, take}
 use Rattle.words.specs.Bits.{ofBool}
 use Rattle.switch.specs.Conduction.{between}
-use Rattle.switch.specs.Modules.{mostEdges, mostParallel, allOf, typeInRange, edgeInRange, inRange}
+use Rattle.switch.specs.Modules.{mostEdges, allOf, typeInRange, edgeInRange, inRange}
 use Rattle.switch.specs.Deciding.{isComplementary}
-use Rattle.switch.specs.Records.{edgeOf, edgesOf, typeOf, TypeGiven}
-use Rattle.switch.specs.declared.Edge.{Edge}
+use Rattle.switch.specs.Records.{edgeRecord, edgeOf, edgesOf, typeOf, TypeGiven}
 use Rattle.switch.specs.declared.ModuleType.{ModuleType}
 use Rattle.switch.proofs.Deciding.{and-both}
+use Rattle.switch.proofs.Ranges.{its-record}
 use Rattle.bench_check.specs.Judged.{judgedEdge, judged}
 use Rattle.bench_check.proofs.bench_check.Statement.{statement}
 use Rattle.bench_check.proofs.bench_check.Tie as tie
 
--- a test that one thing passes is passed by the first n of m of it, and by what is shown of them
-all-same : {A : Type 0} (test : A → Bool) (a : A) → T (test a) → (n m : ℕ) → T (allOf test (take n (replicate m a)))
-unfolding allOf
-all-same test a t zero m = tt
-all-same test a t (suc n) zero = tt
-all-same test a t (suc n) (suc m) = and-both (test a) (allOf test (take n (replicate m a))) t (all-same test a t n m)
-
+-- a test that what is shown of one thing passes is passed by what is shown of the first n of m of it
 all-shown : {A B : Type 0} (test : B → Bool) (shown : A → B) (a : A) → T (test (shown a)) → (n m : ℕ) → T (allOf test (map shown (take n (replicate m a))))
 unfolding allOf
 all-shown test shown a t zero m = tt
@@ -53,27 +47,34 @@ module _ (h o k node label count : ℕ) where
       (and-both (between 2 31 h′) (between 2 h′ (2 + o % 16)) (in-range 2 31 h′ (omega arith) (omega arith)) (in-range 2 h′ (2 + o % 16) (omega arith) (omega arith)))
       (in-range 1 12 k′ (omega arith) (omega arith))
 
-  edge-in-range : T (edgeInRange h′ k′ (edgeOf (judgedEdge k node label)))
-  unfolding edgeInRange edgeOf allOf between
+  edge-in-range : T (edgeInRange h′ k′ (edgeOf (edgeRecord (judgedEdge k node label))))
+  unfolding edgeInRange
   edge-in-range =
-      rw (le-leb (node % 24) h′ (omega arith), le-leb 0 h′ (omega arith), lt-ltb (label % k′) k′ (mod-lt label (omega arith))) tt
+      let small : label % k′ < k′ = mod-lt label (omega arith) in
+      rw (
+        its-record (judgedEdge k node label) (omega arith) (omega arith) (omega (arith, small)),
+        le-leb (node % 24) h′ (omega arith),
+        le-leb 0 h′ (omega arith),
+        lt-ltb (label % k′) k′ small,
+      )
+      tt
 
-  given : TypeGiven (judged h o k node label count)
+  given : count < 256 → TypeGiven (judged h o k node label count)
   unfolding inRange typeOf edgesOf
-  given = record {
-    places = omega arith;
-    label-places = all-same (λ (e : Edge). leb (e .count) mostParallel) (judgedEdge k node label) tt (count % 65) mostEdges;
+  given few = record {
+    places = omega (arith, few);
     ranges =
-        and-both (typeInRange h′ (2 + o % 16) k′) (allOf (edgeInRange h′ k′) (map edgeOf (take (count % 65) (replicate mostEdges (judgedEdge k node label)))))
+        and-both (typeInRange h′ (2 + o % 16) k′)
+        (allOf (edgeInRange h′ k′) (map edgeOf (take (count + 1) (replicate mostEdges (edgeRecord (judgedEdge k node label))))))
         numbers-in-range
-        (all-shown (edgeInRange h′ k′) edgeOf (judgedEdge k node label) edge-in-range (count % 65) mostEdges);
+        (all-shown (edgeInRange h′ k′) edgeOf (edgeRecord (judgedEdge k node label)) edge-in-range (count + 1) mostEdges);
   }
 
 judged-type-requires : tie.Need-judged-type-requires
 judged-type-requires c κs = search needs
 
 check-type-requires : tie.Need-check-type-requires
-check-type-requires c κs = subst TypeGiven (sym (c .judged-type .ensures)) (given _ _ _ _ _ _)
+check-type-requires c κs = subst TypeGiven (sym (c .judged-type .ensures)) (given _ _ _ _ _ _ (c .before .fits .count .fits))
 
 -- what was told of the type, as a number
 told : (t u : ModuleType) (r b : Bool) → t ≡ u → r ≡ isComplementary (typeOf t) → r ≡ b → ofBool b ≡ ofBool (isComplementary (typeOf u))

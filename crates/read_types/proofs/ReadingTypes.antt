@@ -1,35 +1,38 @@
 -- The loops that read types and edges: what holds of what was read so far, where each begins, and what each way through a turn makes of it.
-use Prim.Native.Nat.{ℕ, _+_, _<_, _≤_}
+use Prim.Native.Nat.{ℕ, zero, suc, _+_, _-_, _<_, _≤_}
 use mathlib.Core.Path.{_≡_, refl, sym, ap, subst, _∙_}
-use mathlib.Core.Bool.{Bool, true, false}
-use mathlib.Core.List.{List, [], _∷_, _++_, map, map-append}
+use mathlib.Core.Bool.{Bool, true, false, _&&_}
+use mathlib.Core.List.{List, [], _∷_, _++_, map, map-append, append-nil, append-assoc}
 use native.Mathlib.Omega.{arith}
-use lib.Dec.{T}
-use lib.ListN.{length, getD, set, replicate, length-append, length-map}
+use lib.Dec.{T, leb, ltb, leb→le, ltb→lt}
+use lib.ListN.{length, getD, drop, set, replicate, length-append, length-map}
+use lib.Seq.{getD-drop}
 use Rattle.switch.specs.Modules.{ModuleType, mostEdges, allOf, typeInRange, inRange}
 use Rattle.switch.specs.Deciding.{isComplementary}
-use Rattle.switch.specs.Records.{unusedEdge, typeOf, TypeGiven}
+use Rattle.switch.specs.Records.{noEdge, edgeRecord, typeOf, TypeGiven}
 use Rattle.switch.specs.declared.Edge.{Edge as EdgeRecord}
 use Rattle.switch.specs.declared.ModuleType.{ModuleType as TypeRecord}
 use Rattle.switch.proofs.Paths.{both}
 use Rattle.switch.proofs.Deciding.{and-both}
+use Rattle.switch.proofs.Ranges.{type-ranges}
 use Rattle.circuit.specs.Limits.{mostTypes}
 use Rattle.circuit.specs.Fields.{Field, Cut, clean, field, cutFrom}
 use Rattle.circuit.specs.Order.{type-tag, edge-tag, tagOf}
-use Rattle.circuit.specs.Known.{typeIn, edgeIn, withEdge}
-use Rattle.circuit.specs.Table.{Verdict, passes, refusedAt, firstOf, typeTests, edgeTests, edgeTestsOf}
-use Rattle.circuit.specs.Records.{padded, unusedType, edgeRecord, typeRecord}
+use Rattle.circuit.specs.Known.{typeIn, edgesIn, withEdges}
+use Rattle.circuit.specs.Table.{Verdict, passes, refusedAt, firstOf, typeTests, edgesInRange, edgeTests, edgeTestsOf}
+use Rattle.circuit.specs.Records.{padded, unusedType, typeRecord}
 use Rattle.circuit.specs.Refusals.{verdictOf}
 use Rattle.circuit.specs.Verdicts.{isRefused}
 use Rattle.circuit.specs.Stages.{Stage, ifPasses, edgeStage, failingVerdict, fieldPlace, typeStage, stageOf}
 use Rattle.read_fields.specs.Steps.{bodyOf, fieldIn, FieldAt, NextIs, endsBy, verdictBy, keptBy}
-use Rattle.read_types.specs.EdgeTurns.{edgeVerdict, edgeKept, EdgeNext, shapedRecord, EdgesEnded}
+use Rattle.read_types.specs.EdgeTurns.{edgeVerdict, edgesKept, placed, listWith, CodesFit, EdgesNext, shapedRecord, EdgesEnded}
 use Rattle.read_types.specs.ReadTypes.{bareOf, EdgesRead, TypeRead, TypesRead}
 use Rattle.read_types.specs.TypeTurns.{FoundWhole, typeVerdict, FieldTold, TypeTold, endsAt}
 use Rattle.read_fields.specs.declared.Field.{Field as FieldRecord}
 use Rattle.read_fields.specs.declared.Next.{Next}
 use Rattle.read_fields.specs.declared.Next.the-variants.{Found, Other}
 use Rattle.circuit.specs.declared.refusal.Refusal.{Refusal}
+use Rattle.read_types.specs.declared.edges.EdgeList.{EdgeList}
 use Rattle.read_types.specs.declared.edges.OneType.{OneType}
 use Rattle.read_types.specs.declared.edges.Shape.{Shape}
 use Rattle.circuit.proofs.Padding.{padded-nil, padded-snoc}
@@ -39,7 +42,7 @@ use Rattle.read_fields.proofs.Bodies.{length-body}
 use Rattle.read_fields.proofs.Cuts.{section-step, section-stop}
 use Rattle.read_fields.proofs.Turns.{Turned}
 use Rattle.circuit.proofs.Tested.{type-pass}
-use Rattle.circuit.proofs.TypeLaws.{type-back, type-given, EdgePasses, edge-passes, with-edge-ranges, with-edge-record}
+use Rattle.circuit.proofs.TypeLaws.{type-back, type-given, edges-ranges, EdgesPass, edges-pass, length-edges-in, field-ranges, with-edges-ranges, with-edges-record}
 use Rattle.read_types.proofs.TypeStages.{afterEdges, edges-first, failing-stage, Settled, settled-none, settled-more, type-step, type-stop}
 
 -- ---- a stage that fails
@@ -59,20 +62,38 @@ if-passes v w e r a cut s = rw (← e, passes-is v r)
 
 -- ---- edges
 
--- the edges from an offset on, as far as they are read: the type that they make, and the code's array, count and offset
-pub record EdgesSoFar (file : List ℕ) (from : ℕ) (shape : Shape) (edges : List EdgeRecord) (count at : ℕ) : Type 0 where
+-- edges that are stored behind those in a list's first places
+placed-behind : (rs es : List EdgeRecord) → length rs + length es ≤ mostEdges
+    → placed (padded mostEdges noEdge rs) (length rs) es ≡ padded mostEdges noEdge (rs ++ es)
+unfolding placed
+placed-behind rs [] h = ap (padded mostEdges noEdge) (sym (append-nil rs))
+placed-behind rs (e ∷ es) h =
+    let one = length-append rs (e ∷ []) in
+    let longer : suc (length rs) ≡ length (rs ++ (e ∷ [])) = omega arith in
+    rw (padded-snoc noEdge mostEdges rs e (omega arith), longer) (placed-behind (rs ++ (e ∷ [])) es (omega arith))
+    ∙ ap (padded mostEdges noEdge) (append-assoc rs (e ∷ []) es)
+
+-- labels below k have room in a code, and so has what stands past the last
+all-below : (k : ℕ) → k ≤ 12 → (ls : List ℕ) → T (allOf (λ (l : ℕ). ltb l k) ls) → (i : ℕ) → getD ls i 0 < 16
+unfolding allOf
+all-below k few [] t i = omega arith
+all-below k few (l ∷ ls) t zero = omega (arith, ltb→lt l k (both (ltb l k) (allOf (λ (l : ℕ). ltb l k) ls) t .0))
+all-below k few (l ∷ ls) t (suc i) = all-below k few ls (both (ltb l k) (allOf (λ (l : ℕ). ltb l k) ls) t .1) i
+
+-- the edges from an offset on, as far as they are read: the type that they make, and the code's list and offset
+pub record EdgesSoFar (file : List ℕ) (from : ℕ) (shape : Shape) (list : EdgeList) (at : ℕ) : Type 0 where
   pub type : ModuleType
   pub stage : edgeStage (bareOf shape) (cutFrom file from) ≡ edgeStage type (cutFrom file at)
   pub place : at ≤ length file
   pub ranges : T (inRange type)
   pub within : length (type .edges) ≤ mostEdges
-  pub is : shapedRecord shape count edges ≡ typeRecord type
+  pub is : shapedRecord shape list ≡ typeRecord type
 
-abbrev plusEdge : ModuleType → List ℕ → ModuleType
-plusEdge t body = withEdge t (edgeIn (t .output) body)
+abbrev plusEdges : ModuleType → List ℕ → ModuleType
+plusEdges t body = withEdges t (edgesIn (t .output) body)
 
 pub edges-start : (file : List ℕ) (from : ℕ) (shape : Shape) → from ≤ length file → T (typeInRange (shape .highest) (shape .output) (shape .labels))
-    → EdgesSoFar file from shape (replicate mostEdges unusedEdge) 0 from
+    → EdgesSoFar file from shape (record { count = 0; edges = replicate mostEdges noEdge }) from
 unfolding inRange allOf typeRecord
 edges-start file from shape h ranges = record {
   type = bareOf shape;
@@ -80,20 +101,26 @@ edges-start file from shape h ranges = record {
   place = h;
   ranges = and-both (typeInRange (shape .highest) (shape .output) (shape .labels)) true ranges tt;
   within = omega arith;
-  is = rw (padded-nil unusedEdge mostEdges);
+  is = rw (padded-nil noEdge mostEdges);
 }
 
-module _ {file : List ℕ} {from : ℕ} {shape : Shape} {edges : List EdgeRecord} {count at : ℕ} (sofar : EdgesSoFar file from shape edges count at) where
+module _ {file : List ℕ} {from : ℕ} {shape : Shape} {list : EdgeList} {at : ℕ} (sofar : EdgesSoFar file from shape list at) where
   abbrev made : ModuleType
   made = sofar .type
 
+  abbrev count : ℕ
+  count = list .count
+
   -- what is given where the stage ends here
   abbrev given : Refusal → OneType
-  given v = record { refusal = v; at = at; «module_type» = shapedRecord shape count edges }
+  given v = record { refusal = v; at = at; «module_type» = shapedRecord shape list }
 
-  pub edge-count : count ≡ length (made .edges)
+  edge-count : count ≡ length (made .edges)
   unfolding typeRecord
   edge-count = ap (λ (r : TypeRecord). r .count) (sofar .is)
+
+  pub edges-few : count ≤ mostEdges
+  edges-few = omega (arith, edge-count, sofar .within)
 
   -- the verdict on a field is that in the type which the edges make so far
   verdict-so-far : (f : FieldRecord) → edgeVerdict file shape count f ≡ firstOf (edgeTests made (f .at) (bodyOf file f))
@@ -119,49 +146,82 @@ module _ {file : List ℕ} {from : ℕ} {shape : Shape} {edges : List EdgeRecord
   edges-stop : NextIs file at edge-tag Other → (v : Refusal) → verdictOf v ≡ passes → EdgesRead file from shape (given v)
   unfolding NextIs
   edges-stop other v e =
-      edges-read v (section-stop edge-tag edgeTests plusEdge made file at other ∙ rw e) (λ f rest p here. other f rest here)
+      edges-read v (section-stop edge-tag edgeTests plusEdges made file at other ∙ rw e) (λ f rest p here. other f rest here)
 
   module _ (f : FieldRecord) (here : NextIs file at edge-tag (Found f)) where
-    -- the stage at this edge
+    -- the stage at this field
     stage-here : edgeStage made (cutFrom file at)
-        ≡ ifPasses (edgeVerdict file shape count f) made (cutFrom file at) (edgeStage (plusEdge made (bodyOf file f)) (cutFrom file (f .body + f .len)))
+        ≡ ifPasses (edgeVerdict file shape count f) made (cutFrom file at) (edgeStage (plusEdges made (bodyOf file f)) (cutFrom file (f .body + f .len)))
     unfolding NextIs
-    stage-here = section-step edge-tag edgeTests plusEdge made file at f (here .0) (here .1) ∙ rw (verdict-so-far f)
+    stage-here = section-step edge-tag edgeTests plusEdges made file at f (here .0) (here .1) ∙ rw (verdict-so-far f)
 
     edges-refused : (v : Refusal) → verdictOf v ≡ edgeVerdict file shape count f → isRefused (verdictOf v) ≡ true → EdgesRead file from shape (given v)
     edges-refused v tested e =
         edges-read v (stage-here ∙ if-refused (verdictOf v) _ tested e _ made (cutFrom file at)) (λ g rest p. never-passes (verdictOf v) e p)
 
     module _ (accepted : isRefused (edgeVerdict file shape count f) ≡ false) where
-      edge-passed : EdgePasses made (bodyOf file f)
-      edge-passed = edge-passes made (f .at) (bodyOf file f) (sym (verdict-so-far f) ∙ passes-is (edgeVerdict file shape count f) accepted)
+      passed : EdgesPass made (bodyOf file f)
+      passed = edges-pass made (f .at) (bodyOf file f) (sym (verdict-so-far f) ∙ passes-is (edgeVerdict file shape count f) accepted)
 
-      one-edge-more : EdgesSoFar file from shape (set edges count (edgeKept file shape f)) (count + 1) (f .body + f .len)
-      unfolding NextIs withEdge typeRecord edgeKept
-      one-edge-more =
+      -- as many edges as labels, and a place for each
+      labels-are : f .len - 2 ≡ length (edgesIn (made .output) (bodyOf file f))
+      unfolding NextIs
+      labels-are = omega (arith, length-edges-in (made .output) (bodyOf file f), length-body file f (here .0 .inside))
+
+      places : count + (f .len - 2) ≤ mostEdges
+      unfolding NextIs
+      places = omega (arith, edge-count, passed .few, length-body file f (here .0 .inside))
+
+      codes-fit : CodesFit file f
+      unfolding NextIs edgesInRange
+      codes-fit =
           let body = bodyOf file f in
-          let edge = edgeIn (made .output) body in
-          let p = edge-passed in
+          let h = made .highest in
+          let its = type-ranges h (made .output) (made .labels) (edges-ranges made (sofar .ranges) (sofar .within) .0) in
+          let first = leb (getD body 0 0) h in
+          let second = leb (getD body 1 0) h in
+          let parts = both (first && second) (allOf (λ (l : ℕ). ltb l (made .labels)) (drop 2 body)) (passed .ranges) in
+          let nodes = both first second (parts .0) in
           record {
-            type = withEdge made edge;
+            inside = here .0 .inside;
+            first = omega (arith, leb→le (getD body 0 0) h (nodes .0), its .highest);
+            second = omega (arith, leb→le (getD body 1 0) h (nodes .1), its .highest);
+            labels = λ i. rw (← getD-drop 2 body i 0) (all-below (made .labels) (its .labels-high) (drop 2 body) (parts .1) i);
+          }
+
+      edges-added : EdgesSoFar file from shape (listWith file (shape .output) list f) (f .body + f .len)
+      unfolding NextIs withEdges typeRecord listWith edgesKept
+      edges-added =
+          let body = bodyOf file f in
+          let es = edgesIn (made .output) body in
+          let old = map edgeRecord (made .edges) in
+          let long : length (made .edges) ≡ length old = sym (length-map (made .edges) edgeRecord) in
+          let fits : length old + length (map edgeRecord es) ≤ mostEdges =
+          omega (arith, long, length-map es edgeRecord, labels-are, places, edge-count) in
+          let counted = ap (λ (n : ℕ). length (made .edges) + n) labels-are in
+          let stored : placed (padded mostEdges noEdge old) (length (made .edges)) (map edgeRecord es) ≡ padded mostEdges noEdge (old ++ map edgeRecord es) =
+          rw long (placed-behind old (map edgeRecord es) fits) in
+          record {
+            type = plusEdges made body;
             stage = sofar .stage ∙ stage-here ∙ if-passes (edgeVerdict file shape count f) _ refl accepted _ _ _;
             place = here .0 .inside;
-            ranges = with-edge-ranges made edge (sofar .ranges) (p .ranges);
-            within = omega (arith, length-append (made .edges) (edge ∷ []), p .few);
+            ranges = with-edges-ranges made es (sofar .ranges) (field-ranges (made .highest) (made .output) (made .labels) body (passed .ranges));
+            within = omega (arith, length-append (made .edges) es, labels-are, places, edge-count);
             is =
                 ap (λ (r : TypeRecord). record {
                   highest = r .highest;
                   output = r .output;
                   labels = r .labels;
-                  count = r .count + 1;
-                  edges = set (r .edges) (r .count) (edgeRecord (edgeIn (r .output) body));
+                  count = r .count + (f .len - 2);
+                  edges = placed (r .edges) (r .count) (map edgeRecord (edgesIn (r .output) body));
                 }) (sofar .is)
-                ∙ sym (with-edge-record made edge (p .few));
+                ∙ (λ i. record { highest = made .highest; output = made .output; labels = made .labels; count = counted i; edges = stored i })
+                ∙ sym (with-edges-record made es);
           }
 
   -- a turn, which found n and has m behind it
   module _ {n : Next} {m : ℕ} (turn : Turned file at edge-tag n m) where
-    pub edges-end : endsBy (edgeVerdict file shape count) n ≡ true → (r : OneType) → EdgesEnded file n shape at count edges r → EdgesRead file from shape r
+    pub edges-end : endsBy (edgeVerdict file shape count) n ≡ true → (r : OneType) → EdgesEnded file n shape at list r → EdgesRead file from shape r
     unfolding endsBy verdictBy
     edges-end ends r is = subst (EdgesRead file from shape) (sym (is .rest)) (go n refl)
       where
@@ -171,32 +231,30 @@ module _ {file : List ℕ} {from : ℕ} {shape : Shape} {edges : List EdgeRecord
             let why : verdictOf (r .refusal) ≡ edgeVerdict file shape count f = rw e at (is .why) in
             edges-refused f (rw e at (turn .own)) (r .refusal) why (ap isRefused why ∙ (rw e at ends))
 
-    -- of an edge that does not end the stage
+    -- of a field that does not end the stage
     module _ (goes : endsBy (edgeVerdict file shape count) n ≡ false) where
-      pub edge-next : EdgeNext file n
-      unfolding endsBy EdgeNext NextIs
-      edge-next = go n refl
+      pub edges-next : EdgesNext file count n
+      unfolding endsBy EdgesNext
+      edges-next = go n refl
         where
-          go : (x : Next) → n ≡ x → EdgeNext file x
+          go : (x : Next) → n ≡ x → EdgesNext file count x
           go Other e = tt
           go (Found f) e =
               let here : NextIs file at edge-tag (Found f) = rw e at (turn .own) in
-              let p = edge-passed f here (rw e at goes) in
-              let size = length-body file f (here .0 .inside) in
-              (here .0 .inside, (omega (arith, p .long), omega (arith, p .short)))
+              let accepted : isRefused (edgeVerdict file shape count f) ≡ false = rw e at goes in
+              (codes-fit f here accepted, places f here accepted)
 
-      pub edges-more : EdgesSoFar file from shape (set edges count (keptBy (edgeKept file shape) unusedEdge n)) (count + 1) m × (count < mostEdges) × (at < m)
+      pub edges-more : EdgesSoFar file from shape (keptBy (listWith file (shape .output) list) list n) m × (at < m)
       unfolding endsBy NextIs keptBy
       edges-more = go n refl
         where
-          go : (x : Next) → n ≡ x → EdgesSoFar file from shape (set edges count (keptBy (edgeKept file shape) unusedEdge x)) (count + 1) m × (count < mostEdges) × (at < m)
+          go : (x : Next) → n ≡ x → EdgesSoFar file from shape (keptBy (listWith file (shape .output) list) list x) m × (at < m)
           go Other e = let z : _≡_ {A = Bool} true false = rw e at goes in let y : _≡_ {A = ℕ} 0 1 = cc in absurd (omega arith)
           go (Found f) e =
               let here : NextIs file at edge-tag (Found f) = rw e at (turn .own) in
               let accepted : isRefused (edgeVerdict file shape count f) ≡ false = rw e at goes in
               let past = turn .past f e in (
-                subst (EdgesSoFar file from shape (set edges count (edgeKept file shape f)) (count + 1)) (sym past) (one-edge-more f here accepted),
-                omega (arith, edge-count, edge-passed f here accepted .few),
+                subst (EdgesSoFar file from shape (listWith file (shape .output) list f)) (sym past) (edges-added f here accepted),
                 omega (arith, past, here .0 .further),
               )
 

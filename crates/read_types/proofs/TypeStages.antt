@@ -14,7 +14,7 @@ use Rattle.switch.specs.Deciding.{isComplementary}
 use Rattle.circuit.specs.Fields.{Field, Cut, clean, broken, field, cutFrom}
 use Rattle.circuit.specs.Circuit.{noType}
 use Rattle.circuit.specs.Order.{type-tag, edge-tag, tagOf, isEdge}
-use Rattle.circuit.specs.Known.{typeIn, edgeIn, latest, withEdge, edgeAdded}
+use Rattle.circuit.specs.Known.{typeIn, edgesIn, latest, withEdges, edgesAdded}
 use Rattle.circuit.specs.Table.{Verdict, passes, refusedAt, firstOf, notComplementary, isEmpty, typeTests, edgeTests}
 use Rattle.circuit.specs.Verdicts.{isRefused}
 use Rattle.circuit.specs.Before.{typesBefore}
@@ -35,9 +35,9 @@ pub latest-snoc : (types : List ModuleType) (t : ModuleType) → latest (types +
 unfolding latest
 latest-snoc types t = rw (last-place types t) (getD-append-seam types t [] noType)
 
-edge-added-snoc : (types : List ModuleType) (t : ModuleType) (e : Edge) → edgeAdded (types ++ (t ∷ [])) e ≡ types ++ (withEdge t e ∷ [])
-unfolding edgeAdded
-edge-added-snoc types t e = rw (latest-snoc types t, last-place types t) (set-append-seam types t [] (withEdge t e))
+edges-added-snoc : (types : List ModuleType) (t : ModuleType) (es : List Edge) → edgesAdded (types ++ (t ∷ [])) es ≡ types ++ (withEdges t es ∷ [])
+unfolding edgesAdded
+edges-added-snoc types t es = rw (latest-snoc types t, last-place types t) (set-append-seam types t [] (withEdges t es))
 
 before-snoc : (types : List ModuleType) (t : ModuleType) → typesBefore (types ++ (t ∷ [])) ≡ types
 unfolding typesBefore
@@ -53,20 +53,20 @@ unfolding ifPasses
 after-if types from passes t cut s = refl
 after-if types from (refusedAt number place) t cut s = refl
 
--- an edge at a time, or all edges first
+-- a field of edges at a time, or all edges first
 pub edges-first : (types : List ModuleType) (t : ModuleType) (from cut : Cut)
     → typeStage (types ++ (t ∷ [])) from cut ≡ afterEdges types from (edgeStage t cut)
 unfolding section typeStage ifPasses
 edges-first types t from clean = refl
 edges-first types t from (broken at) = refl
-edges-first types t from (field f rest) = go (isEdge (tagOf (f .tag))) refl (edges-first types (withEdge t (edgeIn (t .output) (f .body))) from rest)
+edges-first types t from (field f rest) = go (isEdge (tagOf (f .tag))) refl (edges-first types (withEdges t (edgesIn (t .output) (f .body))) from rest)
   where
     go : (b : Bool) → isEdge (tagOf (f .tag)) ≡ b
-        → typeStage (types ++ (withEdge t (edgeIn (t .output) (f .body)) ∷ [])) from rest ≡ afterEdges types from (edgeStage (withEdge t (edgeIn (t .output) (f .body))) rest)
+        → typeStage (types ++ (withEdges t (edgesIn (t .output) (f .body)) ∷ [])) from rest ≡ afterEdges types from (edgeStage (withEdges t (edgesIn (t .output) (f .body))) rest)
         → typeStage (types ++ (t ∷ [])) from (field f rest) ≡ afterEdges types from (edgeStage t (field f rest))
     go true e later =
-        rw (typeStage, e, snoc-some types t, latest-snoc types t, before-snoc types t, edge-added-snoc types t (edgeIn (t .output) (f .body)), later)
-        (after-if types from (firstOf (edgeTests t (f .at) (f .body))) t (field f rest) (edgeStage (withEdge t (edgeIn (t .output) (f .body))) rest))
+        rw (typeStage, e, snoc-some types t, latest-snoc types t, before-snoc types t, edges-added-snoc types t (edgesIn (t .output) (f .body)), later)
+        (after-if types from (firstOf (edgeTests t (f .at) (f .body))) t (field f rest) (edgeStage (withEdges t (edgesIn (t .output) (f .body))) rest))
     go false e later =
         let stays : edgeStage t (field f rest) ≡ stopped t (field f rest) = rw e in ap (afterEdges types from) (sym stays)
 

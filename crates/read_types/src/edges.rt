@@ -14,18 +14,17 @@ use switch::Edge;
 use switch::MOST_EDGES;
 use switch::ModuleType;
 use switch::NO_EDGE;
+use switch::edges::edge_with;
 ghost use mathlib.Core.Path.{_≡_};
-ghost use Prim.Native.Nat.{_+_, _≤_};
+ghost use Prim.Native.Nat.{_+_, _-_, _<_, _≤_};
 ghost use lib.Dec.{T, ltb};
-ghost use lib.ListN.{length, drop, replicate};
+ghost use lib.ListN.{length, getD, drop, replicate};
 ghost use Rattle.switch.specs.Conduction.{pEnds, nEnd, badEnds};
-ghost use Rattle.switch.specs.Modules.{allOf, typeInRange};
-ghost use Rattle.switch.specs.Records.{unusedEdge};
-ghost use Rattle.circuit.specs.Known.{edgeIn};
-ghost use Rattle.circuit.specs.Records.{edgeRecord};
+ghost use Rattle.switch.specs.Modules.{mostEdges, allOf, typeInRange};
+ghost use Rattle.switch.specs.Records.{noEdge};
 ghost use Rattle.circuit.specs.Refusals.{verdictOf};
 ghost use Rattle.read_fields.specs.Steps.{bodyOf, NextIn, endsBy, keptBy};
-ghost use Rattle.read_types.specs.EdgeTurns.{edgeVerdict, edgeKept, EdgeNext, EdgesEnded};
+ghost use Rattle.read_types.specs.EdgeTurns.{edgeVerdict, edgesKept, listWith, CodesFit, EdgesNext, EdgesEnded};
 ghost use Rattle.read_types.specs.ReadTypes.{EdgesRead};
 
 // What a type's own field says: its highest node, its output node and its number of labels.
@@ -33,6 +32,12 @@ pub struct Shape {
     pub highest: u8,
     pub output: u8,
     pub labels: u8,
+}
+
+// The edges of a type as far as they are read, in the first `count` places.
+pub struct EdgeList {
+    pub count: usize,
+    pub edges: [Edge; MOST_EDGES],
 }
 
 // A type with its edges, and where reading goes on.
@@ -86,9 +91,20 @@ fn bad_nodes(h: u8, o: u8, a: u8, b: u8) -> bool
     !(n_end(h, o, a) && n_end(h, o, b))
 }
 
-// The first test of an edge field that refuses, in a type of this shape with `count` edges so far.
+// How many labels a field has, each of which gives an edge: the bytes behind its two nodes.
+fn labels_in(f: Field) -> usize
+    ensures { λ r. ⌜ r ≡ f .len - 2 ⌝ }
+{
+    let len = f.len;
+    if len < 2 {
+        return 0;
+    }
+    len - 2
+}
+
+// The first test of an edge field that refuses, in a type of this shape with `count` edges so far. The sum of count and labels might not fit its type, so the labels are held against the places that are left.
 fn edge_verdict(file: &[u8], f: Field, shape: Shape, count: usize) -> Refusal
-    requires { ⌜ f .body + f .len ≤ length (now file) ⌝ }
+    requires { ⌜ (f .body + f .len ≤ length (now file)) × (count ≤ mostEdges) ⌝ }
     ensures { λ r. ⌜ verdictOf r ≡ edgeVerdict (now (file .entry)) shape count f ⌝ }
 {
     let h = shape.highest;
@@ -102,37 +118,45 @@ fn edge_verdict(file: &[u8], f: Field, shape: Shape, count: usize) -> Refusal
         f.len < 3 || 6 < f.len,
         Refusal::WrongLength(f.at),
     );
-    let v = or_if(v, MOST_EDGES <= count, Refusal::TooMany(f.at));
+    let v = or_if(v, MOST_EDGES - count < labels_in(f), Refusal::TooMany(f.at));
     let v = or_if(v, !in_range, Refusal::OutOfRange(f.at));
     or_if(v, bad_nodes(h, o, a, b), Refusal::BadEnds(f.at))
 }
 
-// The edge of a field that has passed its tests, in a type with the output node o.
-fn edge_in(file: &[u8], f: Field, o: u8) -> Edge
-    requires { ⌜ f .body + f .len ≤ length (now file) ⌝ }
-    requires { ⌜ (2 ≤ f .len) × (f .len ≤ 6) ⌝ }
-    ensures { λ r. ⌜ r ≡ edgeRecord (edgeIn o (bodyOf (now (file .entry)) f)) ⌝ }
+// The edge of one of a field's labels, by the label's number, in a type with the output node o.
+fn edge_for(file: &[u8], f: Field, o: u8, j: usize) -> Edge
+    requires { ⌜ CodesFit (now file) f ⌝ }
+    requires { ⌜ j < f .len - 2 ⌝ }
+    ensures { λ r. ⌜ r ≡ getD (edgesKept (now (file .entry)) o f) j noEdge ⌝ }
 {
-    let len = f.len;
     let a = byte(file, f, 0);
     let b = byte(file, f, 1);
-    let mut labels = [0u8; 4];
-    labels[0] = byte(file, f, 2);
-    labels[1] = byte(file, f, 3);
-    labels[2] = byte(file, f, 4);
-    labels[3] = byte(file, f, 5);
-    Edge {
-        first: a,
-        second: b,
-        p_channel: p_ends(o, a, b),
-        count: (len - 2) as u8,
-        labels,
+    edge_with(a, b, byte(file, f, 2 + j), p_ends(o, a, b))
+}
+
+// The list with the edges of a field behind those that stand there.
+fn with_edges(file: &[u8], f: Field, o: u8, list: EdgeList) -> EdgeList
+    requires { ⌜ CodesFit (now file) f ⌝ }
+    requires { ⌜ list .count + (f .len - 2) ≤ mostEdges ⌝ }
+    ensures { λ r. ⌜ r ≡ listWith (now (file .entry)) o list f ⌝ }
+{
+    let labels = labels_in(f);
+    let count = list.count;
+    let mut edges = list.edges;
+    let mut j: usize = 0;
+    while j < labels {
+        edges[count + j] = edge_for(file, f, o, j);
+        j += 1;
+    }
+    EdgeList {
+        count: count + labels,
+        edges,
     }
 }
 
-// Whether the stage ends here: no edge stands next, or one that is refused.
+// Whether the stage ends here: no edge field stands next, or one that is refused.
 fn ends(file: &[u8], found: Next, shape: Shape, count: usize) -> bool
-    requires { ⌜ NextIn (now file) found ⌝ }
+    requires { ⌜ NextIn (now file) found × (count ≤ mostEdges) ⌝ }
     ensures { λ r. ⌜ r ≡ endsBy (edgeVerdict (now (file .entry)) shape count) found ⌝ }
 {
     match found {
@@ -141,29 +165,24 @@ fn ends(file: &[u8], found: Next, shape: Shape, count: usize) -> bool
     }
 }
 
-// The edge that was found.
-fn edge_of(file: &[u8], found: Next, shape: Shape) -> Edge
-    requires { ⌜ EdgeNext (now file) found ⌝ }
-    ensures { λ r. ⌜ r ≡ keptBy (edgeKept (now (file .entry)) shape) unusedEdge found ⌝ }
+// The list with the edges that were found.
+fn with_found(file: &[u8], found: Next, shape: Shape, list: EdgeList) -> EdgeList
+    requires { ⌜ EdgesNext (now file) (list .count) found ⌝ }
+    ensures { λ r. ⌜ r ≡ keptBy (listWith (now (file .entry)) (shape .output) list) list found ⌝ }
 {
     match found {
-        Next::Found(f) => edge_in(file, f, shape.output),
-        Next::Other => NO_EDGE,
+        Next::Found(f) => with_edges(file, f, shape.output, list),
+        Next::Other => list,
     }
 }
 
 // The type with the edges that were read, and why the stage ended there.
-fn ended(
-    file: &[u8],
-    found: Next,
-    shape: Shape,
-    at: usize,
-    count: usize,
-    edges: [Edge; MOST_EDGES],
-) -> OneType
-    requires { ⌜ NextIn (now file) found ⌝ }
-    ensures { λ r. ⌜ EdgesEnded (now (file .entry)) found shape at count edges r ⌝ }
+fn ended(file: &[u8], found: Next, shape: Shape, at: usize, list: EdgeList) -> OneType
+    requires { ⌜ NextIn (now file) found × (list .count ≤ mostEdges) ⌝ }
+    ensures { λ r. ⌜ EdgesEnded (now (file .entry)) found shape at list r ⌝ }
 {
+    let count = list.count;
+    let edges = list.edges;
     let refusal = match found {
         Next::Found(f) => edge_verdict(file, f, shape, count),
         Next::Other => Refusal::Nothing,
@@ -182,10 +201,13 @@ fn ended(
     }
 }
 
-fn no_edges() -> [Edge; MOST_EDGES]
-    ensures { λ r. ⌜ r ≡ replicate 64 unusedEdge ⌝ }
+fn no_edges() -> EdgeList
+    ensures { λ r. ⌜ r ≡ record { count = 0; edges = replicate 256 noEdge } ⌝ }
 {
-    [NO_EDGE; MOST_EDGES]
+    EdgeList {
+        count: 0,
+        edges: [NO_EDGE; MOST_EDGES],
+    }
 }
 
 // The edges from an offset on, of a type of this shape, read by one reader.
@@ -194,15 +216,13 @@ pub fn read_edges(file: &[u8], from: usize, shape: Shape) -> OneType
     ensures { λ r. ⌜ EdgesRead (now (file .entry)) from shape r ⌝ }
 {
     let mut reader = reader_at(file, from);
-    let mut edges = no_edges();
-    let mut count: usize = 0;
+    let mut list = no_edges();
     loop {
         let at = reader.at;
         let found = own_field(next(&mut reader), Kind::Edge);
-        if ends(file, found, shape, count) {
-            return ended(file, found, shape, at, count, edges);
+        if ends(file, found, shape, list.count) {
+            return ended(file, found, shape, at, list);
         }
-        edges[count] = edge_of(file, found, shape);
-        count += 1;
+        list = with_found(file, found, shape, list);
     }
 }

@@ -1,20 +1,17 @@
--- `read_types::edges::edge_verdict` meets its contract: each test of the table, in its order. The code does not count an edge's labels again for number 7:
--- where the field's length has passed 5 there are 1 to 4. Assumes nothing.
-use Prim.Native.Nat.{ℕ, _<_, _≤_}
+-- `read_types::edges::edge_verdict` meets its contract: each test of the table, in its order. Assumes nothing.
+use Prim.Native.Nat.{ℕ, _+_, _-_, _<_, _≤_}
 use mathlib.Core.Logic.{⊎-elim}
 use mathlib.Core.Path.{_≡_, refl, sym, _∙_}
 use mathlib.Core.Bool.{Bool, true, false, not, _&&_}
 use mathlib.Core.List.{List}
 use native.Mathlib.Omega.{arith}
 use borrow.Author.Needs.{needs}
-use borrow.Author.Tests.{le-leb, lt-leb, lt-ltb, ltb-true, ltb-false}
+use borrow.Author.Tests.{le-leb, lt-leb, lt-ltb, le-ltb, ltb-true, ltb-false}
 use lib.Dec.{leb, ltb}
-use lib.ListN.{length, getD, drop, length-drop}
+use lib.ListN.{length, getD, drop}
 use Rattle.switch.specs.Conduction.{between, badEnds}
-use Rattle.switch.specs.Modules.{mostEdges, allOf, edgeInRange}
-use Rattle.switch.proofs.Channels.{in-between}
-use Rattle.circuit.specs.Known.{edgeIn}
-use Rattle.circuit.specs.Table.{passes, refusedAt, firstOf, edgeTestsOf}
+use Rattle.switch.specs.Modules.{mostEdges, allOf}
+use Rattle.circuit.specs.Table.{passes, refusedAt, firstOf, edgesInRange, edgeTestsOf}
 use Rattle.circuit.specs.Refusals.{refusalNumber, refusalPlace, numberedVerdict, verdictOf}
 use Rattle.circuit.specs.Verdicts.{orIf}
 use Rattle.read_fields.specs.Steps.{bodyOf}
@@ -26,37 +23,21 @@ use Rattle.read_types.specs.EdgeTurns.{edgeVerdict}
 use Rattle.read_types.proofs.edges.edge_verdict.Statement.{statement}
 use Rattle.read_types.proofs.edges.edge_verdict.Tie as tie
 
--- the labels behind two nodes are 1 to 4 where the body has 3 to 6 bytes
-counted : (body : List ℕ) → between 3 6 (length body) ≡ true → between 1 4 (length (drop 2 body)) ≡ true
-counted body e =
-    let size = in-between 3 6 (length body) (rw e tt) in
-    let rest = length-drop 2 body in
-    between-in 1 4 (length (drop 2 body)) (omega (arith, size .0)) (omega (arith, size .1))
-
-and-true : (b : Bool) → (b && true) ≡ b
-and-true true = refl
-and-true false = refl
-
--- so the code's test is that of the table
-counted-range : (h o k : ℕ) (body : List ℕ) → between 3 6 (length body) ≡ true
-    → edgeInRange h k (edgeIn o body) ≡ (leb (getD body 0 0) h && leb (getD body 1 0) h && allOf (λ (l : ℕ). ltb l k) (drop 2 body))
-unfolding edgeInRange edgeIn
-counted-range h o k body e = rw (counted body e, and-true (leb (getD body 0 0) h && leb (getD body 1 0) h))
-
 -- the tests one after the other, from their flags
-in-turn : (h o k count at : ℕ) (body : List ℕ) (length-bad range ends-bad : Bool) → length-bad ≡ not (between 3 6 (length body))
-    → range ≡ (leb (getD body 0 0) h && leb (getD body 1 0) h && allOf (λ (l : ℕ). ltb l k) (drop 2 body))
-    → ends-bad ≡ badEnds h o (getD body 0 0) (getD body 1 0)
-    → orIf (orIf (orIf (orIf passes length-bad (refusedAt 5 at)) (leb mostEdges count) (refusedAt 6 at)) (not range) (refusedAt 7 at)) ends-bad (refusedAt 8 at)
+in-turn : (h o k count at : ℕ) (body : List ℕ) (length-bad many range ends-bad : Bool) → length-bad ≡ not (between 3 6 (length body))
+    → many ≡ ltb mostEdges (count + (length body - 2)) → range ≡ edgesInRange h k body → ends-bad ≡ badEnds h o (getD body 0 0) (getD body 1 0)
+    → orIf (orIf (orIf (orIf passes length-bad (refusedAt 5 at)) many (refusedAt 6 at)) (not range) (refusedAt 7 at)) ends-bad (refusedAt 8 at)
     ≡ firstOf (edgeTestsOf h o k count at body)
-unfolding edgeTestsOf firstAfter firstOf orIf
-in-turn h o k count at body length-bad range ends-bad p q r = go (between 3 6 (length body)) refl
+unfolding edgeTestsOf firstAfter
+in-turn h o k count at body length-bad many range ends-bad p q r s = rw (p, q, r, s) (sym (chain (edgeTestsOf h o k count at body)))
+
+-- more than the places that are left, or more in all than there are places
+no-room : (count n : ℕ) → count ≤ mostEdges → ltb (mostEdges - count) n ≡ ltb mostEdges (count + n)
+no-room count n few = go (ltb mostEdges (count + n)) refl
   where
-    go : (b : Bool) → between 3 6 (length body) ≡ b
-        → orIf (orIf (orIf (orIf passes length-bad (refusedAt 5 at)) (leb mostEdges count) (refusedAt 6 at)) (not range) (refusedAt 7 at)) ends-bad (refusedAt 8 at)
-        ≡ firstOf (edgeTestsOf h o k count at body)
-    go true e = rw (p, q, r, ← counted-range h o k body e) (sym (chain (edgeTestsOf h o k count at body)))
-    go false e = rw (p, e)
+    go : (b : Bool) → ltb mostEdges (count + n) ≡ b → ltb (mostEdges - count) n ≡ b
+    go true e = lt-ltb (mostEdges - count) n (omega (arith, ltb-true mostEdges (count + n) e))
+    go false e = le-ltb (mostEdges - count) n (omega (arith, ltb-false mostEdges (count + n) e))
 
 -- the flag of a length below 3, or at least 3 and above 6
 below : (n : ℕ) (b : Bool) → n < 3 → b ≡ ltb n 3 → b ≡ not (between 3 6 n)
@@ -81,6 +62,12 @@ labels-below-requires c κs = search needs
 or-if-requires : tie.Need-or-if-requires
 or-if-requires c κs = search needs
 
+sub-or-if : tie.Need-sub-or-if
+sub-or-if c = search needs
+
+labels-in-requires : tie.Need-labels-in-requires
+labels-in-requires c κs = search needs
+
 or-if-requires-2 : tie.Need-or-if-requires-2
 or-if-requires-2 c κs = search needs
 
@@ -94,31 +81,36 @@ or-if-requires-4 : tie.Need-or-if-requires-4
 or-if-requires-4 c κs = search needs
 
 returns : tie.Need-returns
-unfolding edgeVerdict verdictOf refusalNumber refusalPlace numberedVerdict
+unfolding edgeVerdict verdictOf refusalNumber refusalPlace numberedVerdict edgesInRange
 returns c =
-    let start = c .before .before .before .before .before .before .before .before .before .before .before in
+    let start = c .before .before .before .before .before .before .before .before .before .before .before .before in
     let a = start .args in
     let file = a .file .now in
     let shape = a .shape in
     let body = bodyOf file (a .f) in
-    let nodes = c .before .before .before .before .before .before .before in
+    let long = length-body file (a .f) (start .pre .0) in
+    let nodes = c .before .before .before .before .before .before .before .before in
     let first = nodes .before .before .byte in
     let second = nodes .before .byte2 in
     let both-nodes : nodes .if1 .if2 ≡ (leb (first .result) (shape .highest) && leb (second .result) (shape .highest)) =
     and-came (leb (first .result) (shape .highest)) (leb (second .result) (shape .highest)) (nodes .if1 .if2) (nodes .if1 .came)
     (λ w. (le-leb (first .result) (shape .highest) (w .0 .taken), w .1))
     (λ w. (lt-leb (first .result) (shape .highest) (w .0 .left), w .1)) in
-    let all = c .before .before .before .before .before .before .if2 in
+    let all = c .before .before .before .before .before .before .before .if2 in
     let below-k : Bool = allOf (λ (l : ℕ). ltb l (shape .labels)) (drop 2 body) in
     let range : all .in-range ≡ (leb (first .result) (shape .highest) && leb (second .result) (shape .highest) && below-k) =
     and-came (leb (first .result) (shape .highest) && leb (second .result) (shape .highest)) below-k (all .in-range) (all .came)
     (λ w. (sym both-nodes ∙ w .0 .taken, w .2 ∙ w .1 .ensures))
     (λ w. (sym both-nodes ∙ w .0 .left, w .1 ∙ both-nodes)) in
-    let size = c .before .before .before .before .before .if3 in
+    let size = c .before .before .before .before .before .before .if3 in
     let length-bad : size .or-if ≡ not (between 3 6 (a .f .len)) =
     ⊎-elim (λ w. below (a .f .len) (size .or-if) (w .0 .taken) (w .1)) (λ w. above (a .f .len) (size .or-if) (w .0 .left) (w .1)) (size .came) in
+    let labels = c .before .before .before .before .labels-in in
+    let told : labels .result ≡ length body - 2 = omega (arith, labels .ensures, long) in
+    let many : ltb (mostEdges - a .count) (labels .result) ≡ ltb mostEdges (a .count + (length body - 2)) =
+    rw told (no-room (a .count) (length body - 2) (start .pre .1)) in
     c .or-if4 .ensures
-    ∙ rw (c .before .before .or-if3 .ensures, c .before .before .before .or-if2 .ensures, c .before .before .before .before .or-if .ensures)
+    ∙ rw (c .before .before .or-if3 .ensures, c .before .before .before .or-if2 .ensures, c .before .before .before .before .before .or-if .ensures)
     (in-turn
     (shape .highest)
     (shape .output)
@@ -127,9 +119,11 @@ returns c =
     (a .f .at)
     body
     (size .or-if)
+    (ltb (mostEdges - a .count) (labels .result))
     (all .in-range)
     (c .before .bad-nodes .result)
-    (length-bad ∙ rw (length-body file (a .f) (start .pre)))
+    (length-bad ∙ rw long)
+    many
     (range ∙ rw (first .ensures, second .ensures))
     (c .before .bad-nodes .ensures ∙ rw (first .ensures, second .ensures)))
 
@@ -141,6 +135,8 @@ edge-verdict-spec =
     byte-requires-2
     labels-below-requires
     or-if-requires
+    sub-or-if
+    labels-in-requires
     or-if-requires-2
     or-if-requires-3
     bad-nodes-requires

@@ -14,7 +14,7 @@ edge-verdict-requires : tie.Need-edge-verdict-requires
 edge-verdict-requires c κs =
     let f = c .before .found .given in
     let start = c .before .before .before .before in
-    inside (start .args .found) (start .args .file .now) (f .0 .0) (f .1) (start .pre)
+    (inside (start .args .found) (start .args .file .now) (f .0 .0) (f .1) (start .pre .0), start .pre .1)
 
 refuses-requires : tie.Need-refuses-requires
 refuses-requires c κs = search needs

@@ -7,6 +7,7 @@ use native.Mathlib.Omega.{arith}
 use lib.Dec.{T, leb, ltb, leb→le, ltb→lt}
 use lib.ListN.{length, getD, drop, set, replicate, length-append, length-map}
 use lib.Seq.{getD-drop}
+use Rattle.switch.specs.Conduction.{Edge}
 use Rattle.switch.specs.Modules.{ModuleType, mostEdges, allOf, typeInRange, inRange}
 use Rattle.switch.specs.Deciding.{isComplementary}
 use Rattle.switch.specs.Records.{noEdge, edgeRecord, typeOf, TypeGiven}
@@ -72,6 +73,25 @@ placed-behind rs (e ∷ es) h =
     let longer : suc (length rs) ≡ length (rs ++ (e ∷ [])) = omega arith in
     rw (padded-snoc noEdge mostEdges rs e (omega arith), longer) (placed-behind (rs ++ (e ∷ [])) es (omega arith))
     ∙ ap (padded mostEdges noEdge) (append-assoc rs (e ∷ []) es)
+
+-- the record of a type in which es are stored behind its edges
+stored-behind : (t : ModuleType) (es : List Edge) → length (t .edges) + length es ≤ mostEdges
+    → _≡_ {A = TypeRecord}
+    (record {
+      highest = t .highest;
+      output = t .output;
+      labels = t .labels;
+      count = length (t .edges) + length es;
+      edges = placed (padded mostEdges noEdge (map edgeRecord (t .edges))) (length (t .edges)) (map edgeRecord es);
+    })
+    (typeRecord (withEdges t es))
+stored-behind t es h =
+    let old = map edgeRecord (t .edges) in
+    let long : length (t .edges) ≡ length old = sym (length-map (t .edges) edgeRecord) in
+    let stored : placed (padded mostEdges noEdge old) (length (t .edges)) (map edgeRecord es) ≡ padded mostEdges noEdge (old ++ map edgeRecord es) =
+    rw long (placed-behind old (map edgeRecord es) (omega (arith, long, length-map es edgeRecord))) in
+    (λ i. record { highest = t .highest; output = t .output; labels = t .labels; count = length (t .edges) + length es; edges = stored i })
+    ∙ sym (with-edges-record t es)
 
 -- labels below k have room in a code, and so has what stands past the last
 all-below : (k : ℕ) → k ≤ 12 → (ls : List ℕ) → T (allOf (λ (l : ℕ). ltb l k) ls) → (i : ℕ) → getD ls i 0 < 16
@@ -194,29 +214,23 @@ module _ {file : List ℕ} {from : ℕ} {shape : Shape} {list : EdgeList} {at : 
       edges-added =
           let body = bodyOf file f in
           let es = edgesIn (made .output) body in
-          let old = map edgeRecord (made .edges) in
-          let long : length (made .edges) ≡ length old = sym (length-map (made .edges) edgeRecord) in
-          let fits : length old + length (map edgeRecord es) ≤ mostEdges =
-          omega (arith, long, length-map es edgeRecord, labels-are, places, edge-count) in
-          let counted = ap (λ (n : ℕ). length (made .edges) + n) labels-are in
-          let stored : placed (padded mostEdges noEdge old) (length (made .edges)) (map edgeRecord es) ≡ padded mostEdges noEdge (old ++ map edgeRecord es) =
-          rw long (placed-behind old (map edgeRecord es) fits) in
+          let fits : length (made .edges) + length es ≤ mostEdges = omega (arith, labels-are, places, edge-count) in
           record {
             type = plusEdges made body;
             stage = sofar .stage ∙ stage-here ∙ if-passes (edgeVerdict file shape count f) _ refl accepted _ _ _;
             place = here .0 .inside;
             ranges = with-edges-ranges made es (sofar .ranges) (field-ranges (made .highest) (made .output) (made .labels) body (passed .ranges));
-            within = omega (arith, length-append (made .edges) es, labels-are, places, edge-count);
+            within = omega (arith, length-append (made .edges) es, fits);
             is =
-                ap (λ (r : TypeRecord). record {
+                rw labels-are
+                (ap (λ (r : TypeRecord). record {
                   highest = r .highest;
                   output = r .output;
                   labels = r .labels;
-                  count = r .count + (f .len - 2);
+                  count = r .count + length es;
                   edges = placed (r .edges) (r .count) (map edgeRecord (edgesIn (r .output) body));
                 }) (sofar .is)
-                ∙ (λ i. record { highest = made .highest; output = made .output; labels = made .labels; count = counted i; edges = stored i })
-                ∙ sym (with-edges-record made es);
+                ∙ stored-behind made es fits);
           }
 
   -- a turn, which found n and has m behind it

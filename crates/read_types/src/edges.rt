@@ -134,26 +134,6 @@ fn edge_for(file: &[u8], f: Field, o: u8, j: usize) -> Edge
     edge_with(a, b, byte(file, f, 2 + j), p_ends(o, a, b))
 }
 
-// The list with the edges of a field behind those that stand there.
-fn with_edges(file: &[u8], f: Field, o: u8, list: EdgeList) -> EdgeList
-    requires { ⌜ CodesFit (now file) f ⌝ }
-    requires { ⌜ list .count + (f .len - 2) ≤ mostEdges ⌝ }
-    ensures { λ r. ⌜ r ≡ listWith (now (file .entry)) o list f ⌝ }
-{
-    let labels = labels_in(f);
-    let count = list.count;
-    let mut edges = list.edges;
-    let mut j: usize = 0;
-    while j < labels {
-        edges[count + j] = edge_for(file, f, o, j);
-        j += 1;
-    }
-    EdgeList {
-        count: count + labels,
-        edges,
-    }
-}
-
 // Whether the stage ends here: no edge field stands next, or one that is refused.
 fn ends(file: &[u8], found: Next, shape: Shape, count: usize) -> bool
     requires { ⌜ NextIn (now file) found × (count ≤ mostEdges) ⌝ }
@@ -165,15 +145,24 @@ fn ends(file: &[u8], found: Next, shape: Shape, count: usize) -> bool
     }
 }
 
-// The list with the edges that were found.
+// The list with the edges that were found behind those that stand there.
 fn with_found(file: &[u8], found: Next, shape: Shape, list: EdgeList) -> EdgeList
     requires { ⌜ EdgesNext (now file) (list .count) found ⌝ }
     ensures { λ r. ⌜ r ≡ keptBy (listWith (now (file .entry)) (shape .output) list) list found ⌝ }
 {
-    match found {
-        Next::Found(f) => with_edges(file, f, shape.output, list),
-        Next::Other => list,
+    let Next::Found(f) = found else {
+        return list;
+    };
+    let labels = labels_in(f);
+    let count = list.count;
+    let mut list = list;
+    let mut j: usize = 0;
+    while j < labels {
+        list.edges[count + j] = edge_for(file, f, shape.output, j);
+        j += 1;
     }
+    list.count = count + labels;
+    list
 }
 
 // The type with the edges that were read, and why the stage ended there.

@@ -3,7 +3,7 @@ use mathlib.Core.Path.{_≡_, sym, ap, _∙_}
 use mathlib.Core.Bool.{not, _&&_}
 use borrow.Author.Needs.{needs}
 use borrow.Author.Tests.{eq-eqb, ne-eqb}
-use Rattle.switch.specs.Conduction.{pEnds, nEnd, nEnds, badEnds}
+use Rattle.switch.specs.Conduction.{nEnd, nEnds, badEnds}
 use Rattle.circuit.proofs.TypeLaws.{and-came}
 use Rattle.read_types.proofs.edges.bad_nodes.Statement.{statement}
 use Rattle.read_types.proofs.edges.bad_nodes.Tie as tie

@@ -1,4 +1,5 @@
--- Rounds of joining, as lists of words: what a round adds to the words; words that a round leaves as they are tell which nodes are joined to the rail; and the sum of words that grow. Assumes nothing.
+-- Rounds of joining, as lists of words: what a round adds to the words; words that a round leaves as they are tell which nodes are joined to the
+-- rail; and the sum of words that grow. Assumes nothing.
 use Prim.Native.Nat.{ℕ, zero, suc, _+_, _-_, _*_, _^_, _≤_, _<_, max}
 use native.Mathlib.Nat.{not-suc-le-zero, le-of-suc-le-suc, eq-or-lt-of-le, le-refl, le-trans, lt-of-le-of-lt, suc-mul, lt-of-not-le}
 use native.Mathlib.Decide.{ℕ-discrete}

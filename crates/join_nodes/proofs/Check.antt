@@ -22,8 +22,7 @@ use Rattle.switch.specs.Blocks.{blockHolds}
 use Rattle.switch.specs.Records.{channelBy}
 use Rattle.switch.proofs.Deciding.{same-test}
 use Rattle.switch.proofs.Blocks.{block-each}
-use Rattle.join_nodes.specs.Model.{edgeIn, typeIn, ColumnsGiven, WidePlanes, gateWord, joinedWords, outputWords, OutputTold, settingOnes, settingZeros}
-use Rattle.join_nodes.specs.declared.complementary.OutputWords.{OutputWords}
+use Rattle.join_nodes.specs.Model.{edgeIn, typeIn, ColumnsGiven, WidePlanes, gateWord, joinedWords, OutputTold, settingOnes, settingZeros}
 use Rattle.join_nodes.proofs.RailWords.{links-are, gate-tells}
 use Rattle.join_nodes.proofs.SettingBlocks.{settings-switch}
 
@@ -37,8 +36,8 @@ one-of-two false true = refl
 one-of-two false false = refl
 
 -- the places where exactly one of two words has a 1
-abbrev oneWord : OutputWords → ℕ
-oneWord r = bitAnd (bitOr (r .supply) (r .ground)) ((2 ^ 64 - 1) - bitAnd (r .supply) (r .ground))
+abbrev oneOf : ℕ → ℕ → ℕ
+oneOf s g = bitAnd (bitOr s g) ((2 ^ 64 - 1) - bitAnd s g)
 
 module _ (ws : ℕ → List Link) (o : ℕ) (node : o < 32) where
   abbrev bits : ℕ → ℕ → ℕ
@@ -54,7 +53,7 @@ module _ (ws : ℕ → List Link) (o : ℕ) (node : o < 32) where
   rail-fits : (rail : ℕ) → getD (joinedWords ws rail) o 0 < 2 ^ 64
   rail-fits rail = rw (word-of rail) (word-lt (bits rail) (λ u. ofBool-le-one (joins (ws u) o rail)))
 
-  one-bit : (v : ℕ) → v < 64 → bit (oneWord (outputWords ws o)) v ≡ ofBool (not (Bool·beq (joins (ws v) o ground) (joins (ws v) o supply)))
+  one-bit : (v : ℕ) → v < 64 → bit (oneOf (getD (joinedWords ws supply) o 0) (getD (joinedWords ws ground) o 0)) v ≡ ofBool (not (Bool·beq (joins (ws v) o ground) (joins (ws v) o supply)))
   one-bit v h =
       let s : ℕ = getD (joinedWords ws supply) o 0 in
       let g : ℕ = getD (joinedWords ws ground) o 0 in
@@ -119,18 +118,19 @@ module _ {h o k : ℕ} {firsts seconds gates : List ℕ} {n : ℕ} (given : Colu
         ∙ rw (one-each 12 (settingOnes block) (length-table 12 _), one-each 12 (settingZeros block) (length-table 12 _))
         (ap ofBool (settings-switch block v (channelBy (g / 16)) (g % 16) m (given .label i l)))
 
-    one-word : (words : OutputWords) → OutputTold firsts seconds gates planes n o words
-        → (v : ℕ) → v < 64 → bit (oneWord words) v ≡ ofBool (oneRail t (setting v))
+    one-word : (s g : ℕ) → OutputTold firsts seconds gates planes n o supply s → OutputTold firsts seconds gates planes n o ground g
+        → (v : ℕ) → v < 64 → bit (oneOf s g) v ≡ ofBool (oneRail t (setting v))
     unfolding oneRail typeIn linksOf
-    one-word words told v m =
-        rw (told (λ (u : ℕ). linksOf t (setting u)) (links-are firsts seconds gates n (gateWord 1 0 gates planes) (λ (u : ℕ). byValues (setting u)) by-settings))
-        (one-bit (λ (u : ℕ). linksOf t (setting u)) o (given .output) v m)
+    one-word s g toldS toldG v m =
+        let ws : ℕ → List Link = λ (u : ℕ). linksOf t (setting u) in
+        let are = links-are firsts seconds gates n (gateWord 1 0 gates planes) (λ (u : ℕ). byValues (setting u)) by-settings in
+        rw (toldS ws are, toldG ws are) (one-bit ws o (given .output) v m)
 
   -- the test of a block, from what the calls give
-  pub block-verdict : (settings counts : ℕ) (ones zeros planes : List ℕ) (words : OutputWords)
+  pub block-verdict : (settings counts : ℕ) (ones zeros planes : List ℕ) (s g : ℕ)
       → settings ≡ 2 ^ k → ones ≡ settingOnes block → zeros ≡ settingZeros block → WidePlanes ones zeros 1 planes
-      → OutputTold firsts seconds gates planes n o words → counts ≡ firstOnes (settings - 64 * block)
-      → eqb (bitAnd (oneWord words) counts) counts ≡ blockHolds t block
+      → OutputTold firsts seconds gates planes n o supply s → OutputTold firsts seconds gates planes n o ground g → counts ≡ firstOnes (settings - 64 * block)
+      → eqb (bitAnd (oneOf s g) counts) counts ≡ blockHolds t block
   unfolding counted typeIn
-  block-verdict settings counts ones zeros planes words e isOnes isZeros wide told c =
-      rw (c, e) (holds t block (oneWord words) (one-word planes (rw (isOnes, isZeros) at wide) words told))
+  block-verdict settings counts ones zeros planes s g e isOnes isZeros wide toldS toldG c =
+      rw (c, e) (holds t block (oneOf s g) (one-word planes (rw (isOnes, isZeros) at wide) s g toldS toldG))

@@ -9,7 +9,7 @@ use lib.ListN.{length, getD, set, take, drop}
 use Rattle.words.specs.Bits.{bit, ofBool, word}
 use Rattle.words.specs.Each.{wordOfEach}
 use Rattle.words.specs.Tables.{table, upTo}
-use Rattle.switch.specs.Conduction.{Channel, p-channel, n-channel, Edge, Link, Among, ground, supply}
+use Rattle.switch.specs.Conduction.{Channel, p-channel, n-channel, Edge, Link, Among}
 use Rattle.switch.specs.Modules.{ModuleType, mostEdges, mostNodes, mostLabels}
 use Rattle.switch.specs.Deciding.{joins}
 use Rattle.switch.specs.Records.{noEdge, channelBy, firstIn, secondIn, gateIn}
@@ -18,7 +18,6 @@ use Rattle.switch.specs.Promises.{railsOf}
 use Rattle.switch.specs.declared.Rails.{Rails}
 use Rattle.join_nodes.specs.declared.Columns.{Columns}
 use Rattle.join_nodes.specs.declared.edges.Parts.{Parts}
-use Rattle.join_nodes.specs.declared.complementary.OutputWords.{OutputWords}
 
 -- what switches an edge, its gate, is below this
 abbrev pub mostGates : ℕ
@@ -105,15 +104,10 @@ LinksAre firsts seconds on n ws = (v : ℕ) → v < 64 → (u : Link) → Among 
 unfoldable pub joinedWords : (ℕ → List Link) → ℕ → List ℕ
 joinedWords ws rail = table mostNodes (λ (m : ℕ). word (λ (v : ℕ). ofBool (joins (ws v) m rail)))
 
--- the words of an output for each rail
-abbrev pub outputWords : (ℕ → List Link) → ℕ → OutputWords
-outputWords ws output =
-    record { supply = getD (joinedWords ws supply) output 0; ground = getD (joinedWords ws ground) output 0 }
-
--- told over any such lists
-abbrev pub OutputTold : List ℕ → List ℕ → List ℕ → List ℕ → ℕ → ℕ → OutputWords → Type 0
-OutputTold firsts seconds gates planes n output r =
-    (ws : ℕ → List Link) → LinksAre firsts seconds (gateWord 1 0 gates planes) n ws → r ≡ outputWords ws output
+-- the word of an output for a rail, over any such lists
+abbrev pub OutputTold : List ℕ → List ℕ → List ℕ → List ℕ → ℕ → ℕ → ℕ → ℕ → Type 0
+OutputTold firsts seconds gates planes n output rail r =
+    (ws : ℕ → List Link) → LinksAre firsts seconds (gateWord 1 0 gates planes) n ws → r ≡ getD (joinedWords ws rail) output 0
 
 -- ---- rounds
 

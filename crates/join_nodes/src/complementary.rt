@@ -12,33 +12,30 @@ use switch::MOST_NODES;
 use switch::ModuleType;
 use words::first_ones;
 ghost use mathlib.Core.Path.{_≡_};
-ghost use Prim.Native.Nat.{_<_, _≤_, _*_, _^_};
+ghost use Prim.Native.Nat.{_+_, _<_, _≤_, _*_, _^_};
 ghost use Rattle.switch.specs.Records.{TypeGiven, EdgesGiven, typeOf, typeWith};
 ghost use Rattle.switch.specs.Deciding.{isComplementary};
 ghost use Rattle.switch.specs.Blocks.{blockHolds, byBlocks};
 ghost use Rattle.switch.specs.Modules.{mostLabels, mostNodes};
 ghost use Rattle.join_nodes.specs.Model.{ColumnsFit, ColumnsGiven, typeIn, OutputTold};
 
-// The words of a type's output for each rail, under 64 settings of its labels.
-struct OutputWords {
-    supply: u64,
-    ground: u64,
-}
-
-fn output_words<'a>(
+// The word of an output for a rail, under 64 settings of the labels.
+fn output_word<'a>(
     firsts: &'a [u8; MOST_EDGES],
     seconds: &'a [u8; MOST_EDGES],
     gates: &'a [u8; MOST_EDGES],
     count: usize,
     planes: &[u64; MOST_GATES],
-    nodes: usize,
-    output: usize,
-) -> OutputWords
-    requires { ⌜ ColumnsFit (now firsts) (now seconds) (now gates) count nodes ⌝ }
-    requires { ⌜ output < mostNodes ⌝ }
-    ensures { λ r. ⌜ OutputTold (now (firsts .entry)) (now (seconds .entry)) (now (gates .entry)) (now (planes .entry)) count output r ⌝ }
+    highest: u8,
+    output: u8,
+    rail: usize,
+) -> u64
+    requires { ⌜ ColumnsFit (now firsts) (now seconds) (now gates) count (highest + 1) ⌝ }
+    requires { ⌜ (output < mostNodes) × (rail < mostNodes) ⌝ }
+    ensures { λ r. ⌜ OutputTold (now (firsts .entry)) (now (seconds .entry)) (now (gates .entry)) (now (planes .entry)) count output rail r ⌝ }
 {
-    let mut supply = [0u64; MOST_NODES];
+    let nodes = (highest as usize) + 1;
+    let mut joined = [0u64; MOST_NODES];
     let mut next = [0u64; MOST_NODES];
     joined_to(
         firsts,
@@ -48,28 +45,11 @@ fn output_words<'a>(
         count,
         1,
         nodes,
-        1,
-        &mut supply,
+        rail,
+        &mut joined,
         &mut next,
     );
-    let mut ground = [0u64; MOST_NODES];
-    next = [0u64; MOST_NODES];
-    joined_to(
-        firsts,
-        seconds,
-        gates,
-        planes,
-        count,
-        1,
-        nodes,
-        0,
-        &mut ground,
-        &mut next,
-    );
-    OutputWords {
-        supply: supply[output],
-        ground: ground[output],
-    }
+    joined[output as usize]
 }
 
 // How many settings some labels have.
@@ -99,18 +79,10 @@ fn block_holds<'a>(
     let zeros = setting_zeros(block);
     let mut planes = [0u64; MOST_GATES];
     gate_planes(&ones, &zeros, 1, &mut planes);
-    let nodes = (highest as usize) + 1;
-    let words = output_words(
-        firsts,
-        seconds,
-        gates,
-        count,
-        &planes,
-        nodes,
-        output as usize,
-    );
+    let supply = output_word(firsts, seconds, gates, count, &planes, highest, output, 1);
+    let ground = output_word(firsts, seconds, gates, count, &planes, highest, output, 0);
     let counted = first_ones(settings_of(labels) - 64 * block);
-    let one = (words.supply | words.ground) & !(words.supply & words.ground);
+    let one = (supply | ground) & !(supply & ground);
     one & counted == counted
 }
 

@@ -22,11 +22,11 @@ slice-aggregate-gate-planes-3 c = search needs
 gate-planes-requires : tie.Need-gate-planes-requires
 gate-planes-requires c κs = search needs
 
-add-nodes : tie.Need-add-nodes
-add-nodes c = search needs
+output-word-requires : tie.Need-output-word-requires
+output-word-requires c κs = search needs
 
-output-words-requires : tie.Need-output-words-requires
-output-words-requires c κs = search needs
+output-word-requires-2 : tie.Need-output-word-requires-2
+output-word-requires-2 c κs = search needs
 
 settings-of-requires : tie.Need-settings-of-requires
 settings-of-requires c κs = search needs
@@ -42,10 +42,10 @@ first-ones-requires c κs = search needs
 
 returns : tie.Need-returns
 returns c =
-    let counted = c .before .before in
-    let settings = counted .before in
-    let told = settings .before in
-    let planes = told .before .before .before in
+    let settings = c .before in
+    let ground = settings .before in
+    let supply = ground .before .before in
+    let planes = supply .before .before .before in
     let zeros = planes .before .before .before .before in
     let ones = zeros .before in
     let start = ones .before in
@@ -53,17 +53,19 @@ returns c =
     (start .pre .0)
     (start .args .block)
     (settings .settings-of .result)
-    (counted .first-ones .result)
+    (c .first-ones .result)
     (ones .setting-ones .result)
     (zeros .setting-zeros .result)
     _
-    (told .output-words .result)
+    (supply .output-word .result)
+    (ground .output-word2 .result)
     (settings .settings-of .ensures .0)
     (ones .setting-ones .ensures)
     (zeros .setting-zeros .ensures)
     (planes .gate-planes .ensures)
-    (told .output-words .ensures)
-    (counted .first-ones .ensures)
+    (supply .output-word .ensures)
+    (ground .output-word2 .ensures)
+    (c .first-ones .ensures)
 
 pub block-holds-spec : {M : Type 1} → statement M
 block-holds-spec =
@@ -75,8 +77,8 @@ block-holds-spec =
     slice-aggregate-gate-planes-2
     slice-aggregate-gate-planes-3
     gate-planes-requires
-    add-nodes
-    output-words-requires
+    output-word-requires
+    output-word-requires-2
     settings-of-requires
     mul-first-ones
     sub-first-ones

@@ -1,0 +1,57 @@
+-- `join_nodes::complementary::output_word` meets its contract: of what the rounds leave, one word each, it is the output's. Assumes nothing.
+use mathlib.Core.Path.{refl, sym, _∙_}
+use mathlib.Core.List.{List}
+use Prim.Native.Nat.{ℕ}
+use native.Mathlib.Omega.{arith}
+use borrow.Author.Needs.{needs}
+use lib.ListN.{getD}
+use denote.Ref.{now}
+use Rattle.words.proofs.EachLaws.{one-each}
+use Rattle.join_nodes.specs.Model.{OutputTold, WideJoined}
+use Rattle.join_nodes.proofs.complementary.output_word.Statement.{statement}
+use Rattle.join_nodes.proofs.complementary.output_word.Tie as tie
+
+output-told : (firsts seconds gates planes : List ℕ) (n o rail : ℕ) (joined : List ℕ) → WideJoined firsts seconds gates planes n 1 rail joined
+    → OutputTold firsts seconds gates planes n o rail (getD joined o 0)
+output-told firsts seconds gates planes n o rail joined told ws are =
+    rw (sym (one-each 32 joined (told .long)) ∙ told .each 0 (omega arith) ws are)
+
+-- the start, from where the rail's words are asked for
+abbrev start : tie.After-next → tie.Start
+start c = c .before .before .before
+
+add-nodes : tie.Need-add-nodes
+add-nodes c = search needs
+
+slice-aggregate-joined-to : tie.Need-slice-aggregate-joined-to
+slice-aggregate-joined-to c = search needs
+
+slice-aggregate-joined-to-2 : tie.Need-slice-aggregate-joined-to-2
+slice-aggregate-joined-to-2 c = search needs
+
+joined-to-requires : tie.Need-joined-to-requires
+joined-to-requires c κs = (start c .pre .0, ((omega arith, search needs), (start c .pre .1 .1, (refl, refl))))
+
+mul-result : tie.Need-mul-result
+mul-result c = search needs
+
+array-read-result : tie.Need-array-read-result
+array-read-result c = search needs
+
+returns : tie.Need-returns
+returns c =
+    let told = c .before .before in
+    let x = start (told .before) .args in
+    output-told (now (x .firsts)) (now (x .seconds)) (now (x .gates)) (now (x .planes)) (x .count) (x .output) (x .rail) _ (told .joined-to .ensures .0)
+
+pub output-word-spec : {M : Type 1} → statement M
+output-word-spec =
+    tie.close
+    (tie.spec
+    add-nodes
+    slice-aggregate-joined-to
+    slice-aggregate-joined-to-2
+    joined-to-requires
+    mul-result
+    array-read-result
+    returns)

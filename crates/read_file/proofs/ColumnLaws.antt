@@ -8,7 +8,7 @@ use native.Mathlib.Omega.{arith}
 use lib.ListN.{length, getD, set, replicate, List·getD-eq-default, List·getD-map}
 use Rattle.words.specs.Tables.{table, upTo}
 use Rattle.words.proofs.Tables.{length-table, getD-table, up-past, fill-none, fill-more, getD-fill}
-use Rattle.switch.specs.Modules.{ModuleType}
+use Rattle.switch.specs.Modules.{ModuleType, mostEdges}
 use Rattle.switch.specs.Records.{noEdge}
 use Rattle.switch.specs.declared.ModuleType.{ModuleType as TypeRecord}
 use Rattle.circuit.specs.Limits.{mostTypes}
@@ -37,7 +37,7 @@ column-more shown all past i h ts is =
 
 no-type-record : typeRecord noType ≡ unusedType
 unfolding typeRecord
-no-type-record = rw (padded-nil noEdge 256)
+no-type-record = rw (padded-nil noEdge mostEdges)
 
 -- the record in a place is that of the type there, and of no type past the last
 type-at : (types : List ModuleType) (d : TypeRecord) (m : ℕ) → m < 16

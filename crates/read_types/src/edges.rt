@@ -35,9 +35,9 @@ pub struct Shape {
 }
 
 // The edges of a type as far as they are read, in the first `count` places.
-pub struct EdgeList {
-    pub count: usize,
-    pub edges: [Edge; MOST_EDGES],
+struct EdgeList {
+    count: usize,
+    edges: [Edge; MOST_EDGES],
 }
 
 // A type with its edges, and where reading goes on.
@@ -191,7 +191,7 @@ fn ended(file: &[u8], found: Next, shape: Shape, at: usize, list: EdgeList) -> O
 }
 
 fn no_edges() -> EdgeList
-    ensures { λ r. ⌜ r ≡ record { count = 0; edges = replicate 256 noEdge } ⌝ }
+    ensures { λ r. ⌜ r ≡ record { count = 0; edges = replicate mostEdges noEdge } ⌝ }
 {
     EdgeList {
         count: 0,

@@ -329,7 +329,7 @@ module _ {M : Type 1} (𝓤 : URA M) (H : Heap 𝓤) (A : Atoms 𝓤) (W : Given
         move ! (1 ∷ []) $ fsplit ! $ use1 W (‵ Own ⊛ ‵ Own) (Lo.twice 𝓤 H A W mem run κ q s) $ split ! $ move ! (1 ∷ 2 ∷ []) $ fjoin ! $
         move ! (25 ∷ 23 ∷ 11 ∷ 19 ∷ 2 ∷ 1 ∷ []) $ Lo.makes 𝓤 H A W mem run κ q s fm ! known-made (λ Δ. from ! (stop !)) (λ Δ. from ! (stop !)) (λ Δ. from ! (stop !)) (λ Δ. from ! (stop !)) n ok start (
         nothing ! $ use1 W (raw (Blank 𝓤 H A mem run .pre to-blank)) goes-blank $
-        called W blank.ended (blank.clauses 𝓤 H A mem run) (to-blank .0) tt ! fm known-blank (λ r ws. r ≡ record { count = 0; edges = replicate 256 noEdge }) (λ r ws. id⊢ 𝓤 _) (no-more !) (λ r ws w e told.
+        called W blank.ended (blank.clauses 𝓤 H A mem run) (to-blank .0) tt ! fm known-blank (λ r ws. r ≡ record { count = 0; edges = replicate mostEdges noEdge }) (λ r ws. id⊢ 𝓤 _) (no-more !) (λ r ws w e told.
         land ! (from ! (stop !)) (init ! 23 refl (LL.lawful E.the-type E′.the-laws 𝓤 H A W .typed r _ told .0)) $ rewrite ! 23 (λ (z : Val). ‵ (fat fullShare E′.mir l₅ 0 z)) (list-told r w told) refl $
         keep ! (10 ∷ 11 ∷ 12 ∷ 13 ∷ 14 ∷ 15 ∷ 16 ∷ 17 ∷ 5 ∷ 18 ∷ 19 ∷ 20 ∷ 21 ∷ 22 ∷ 23 ∷ 24 ∷ 6 ∷ 25 ∷ 26 ∷ 27 ∷ 4 ∷ 28 ∷ 3 ∷ 29 ∷ 30 ∷ 31 ∷ 8 ∷ 7 ∷ 9 ∷ []) $
         first ! $ blocks ! $ loops ! 𝓣 Nearer Nearer-wf At turns (r, n, subst (λ (z : Val). Is E.the-row r (z ∷ [])) (list-told r w told) told, subst (λ (l : EdgeList). EdgesSoFar (now s) n shape l n) (sym e) (edges-start (now s) n shape start ranges))))

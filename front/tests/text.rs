@@ -11,7 +11,8 @@ use second::show::show_of;
 
 const NAND: &str = "inputs 2
 type 1 3 2 2
-edge 1 2 0 1
+edge 1 2 0
+edge 1 2 1
 edge 2 3 0
 edge 3 0 1
 bridge 1 n 2 3
@@ -32,6 +33,15 @@ fn nand_file() -> Vec<u8> {
 #[test]
 fn a_text_is_its_file() {
     assert_eq!(make(NAND.as_bytes()), Ok(nand_file()));
+}
+
+/// Several labels on one line are one field, as in old files.
+#[test]
+fn a_line_with_several_labels() {
+    let grouped = NAND.replace("edge 1 2 0\nedge 1 2 1\n", "edge 1 2 0 1\n");
+    let made = make(grouped.as_bytes()).expect("a line may have several labels");
+    assert_eq!(made.len() + 5, nand_file().len());
+    assert_eq!(read(&made), read(&nand_file()));
 }
 
 /// Whether an edge field has several labels, as in old files.

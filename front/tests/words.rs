@@ -299,7 +299,7 @@ fn references_and_lists() {
     );
     check(
         one_input().nand().instance(1, 0, &[1]),
-        "refused 10 at 30: instance 1, bytes 30 to 36",
+        "refused 10 at 35: instance 1, bytes 35 to 41",
         "here: type 1 has 2 labels, but 1 reference is given.",
     );
     let listed = || {

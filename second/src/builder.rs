@@ -6,31 +6,39 @@
 pub type EdgeRow<'a> = (u8, u8, &'a [u8]);
 
 pub const INVERTER: &[EdgeRow] = &[(1, 2, &[0]), (0, 2, &[0])];
-pub const NAND: &[EdgeRow] = &[(1, 2, &[0, 1]), (2, 3, &[0]), (3, 0, &[1])];
+pub const NAND: &[EdgeRow] = &[(1, 2, &[0]), (1, 2, &[1]), (2, 3, &[0]), (3, 0, &[1])];
+/// The same NAND as an old file has it.
+pub const GROUPED_NAND: &[EdgeRow] = &[(1, 2, &[0, 1]), (2, 3, &[0]), (3, 0, &[1])];
 /// A NOR, whose inner node is in the p network.
-pub const NOR: &[EdgeRow] = &[(1, 2, &[0]), (2, 3, &[1]), (0, 3, &[0, 1])];
+pub const NOR: &[EdgeRow] = &[(1, 2, &[0]), (2, 3, &[1]), (0, 3, &[0]), (0, 3, &[1])];
 
 /// The thesis's circuit 3, the complement of an adder's carry.
 pub const CARRY: &[EdgeRow] = &[
     (1, 3, &[0]),
     (3, 2, &[1]),
     (1, 2, &[2]),
-    (2, 4, &[0, 1]),
+    (2, 4, &[0]),
+    (2, 4, &[1]),
     (4, 5, &[2]),
-    (5, 0, &[0, 1]),
+    (5, 0, &[0]),
+    (5, 0, &[1]),
     (4, 6, &[0]),
     (6, 0, &[1]),
 ];
 
 /// The thesis's circuit 4, the complement of an adder's sum; label 3 is the carry's.
 pub const SUM: &[EdgeRow] = &[
-    (1, 2, &[0, 1, 2]),
+    (1, 2, &[0]),
+    (1, 2, &[1]),
+    (1, 2, &[2]),
     (2, 3, &[1]),
     (3, 4, &[2]),
     (4, 5, &[0]),
     (2, 5, &[3]),
     (5, 6, &[3]),
-    (6, 0, &[0, 1, 2]),
+    (6, 0, &[0]),
+    (6, 0, &[1]),
+    (6, 0, &[2]),
     (5, 7, &[0]),
     (7, 8, &[1]),
     (8, 0, &[2]),
@@ -68,6 +76,10 @@ impl FileBuilder {
 
     pub fn nand(self) -> FileBuilder {
         self.module(3, 2, 2, NAND)
+    }
+
+    pub fn grouped_nand(self) -> FileBuilder {
+        self.module(3, 2, 2, GROUPED_NAND)
     }
 
     pub fn nor(self) -> FileBuilder {

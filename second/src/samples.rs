@@ -1,11 +1,12 @@
 //! Sample circuits for newcomers: small files by hand, each of which shows one
-//! thing, and a full-size one. `circuits/README.md` of the project explains them.
+//! thing, and a full-size one. `circuits/README.md` of the project explains them. All
+//! have a field for each edge, but for one that shows what an old file is like.
 
 use crate::builder::{FileBuilder, NamedFile, CARRY, SUM};
 use crate::make::full_circuit;
 use crate::random::Random;
-use crate::starts::{inverter_file, nand_under, nothing};
-use crate::write::bytes_of;
+use crate::starts::{inverter_file, nand_under, nothing, two_inputs};
+use crate::write::{bytes_of, fields_of};
 
 /// A seed that gives 64 inputs too, and X for a quarter of the vectors' bytes.
 const FULL_SEED: u64 = 14;
@@ -15,6 +16,7 @@ pub fn sample_files() -> Vec<NamedFile> {
     let samples = [
         ("inverter", inverter_file()),
         ("nand", nand()),
+        ("grouped", grouped()),
         ("reconvergent", reconvergent()),
         ("both_ends", both_ends()),
         ("floating", floating()),
@@ -33,8 +35,18 @@ pub fn sample_files() -> Vec<NamedFile> {
     samples.into_iter().map(named).collect()
 }
 
+const NAND_VECTORS: &[&str] = &["00", "01", "10", "11", "0X", "1X", "XX"];
+
 fn nand() -> FileBuilder {
-    nand_under(&["00", "01", "10", "11", "0X", "1X", "XX"])
+    nand_under(NAND_VECTORS)
+}
+
+/// The same as an old file: both p-channel edges are in one field.
+fn grouped() -> FileBuilder {
+    two_inputs()
+        .grouped_nand()
+        .instance(1, -1, &[1, 2])
+        .vectors(NAND_VECTORS)
 }
 
 /// An inverter, then a NAND of the same input and the inverter's output.
@@ -146,5 +158,5 @@ fn adder() -> FileBuilder {
 
 fn full() -> FileBuilder {
     let made = full_circuit(&mut Random::for_file(FULL_SEED, 0));
-    nothing().raw(&bytes_of(&made.fields()))
+    nothing().raw(&bytes_of(&fields_of(&made.circuit)))
 }

@@ -1,7 +1,7 @@
 //! An old file's grouped field is one edge for each label, in order: the file with a
 //! field for each edge is the same circuit, with the same marks, classes and counts.
 
-use second::builder::{FileBuilder, NAND, NOR};
+use second::builder::{FileBuilder, NOR};
 use second::limits::limit_files;
 use second::make::made_file;
 use second::read::read;
@@ -31,15 +31,14 @@ fn ungrouped(bytes: &[u8]) -> Vec<u8> {
 
 #[test]
 fn a_nand_by_one_field_or_by_two() {
-    let single = FileBuilder::inputs(2)
+    let single = nand_under(&["00", "01", "10", "11", "0X", "1X", "XX"]);
+    let grouped = FileBuilder::inputs(2)
         .field(2, &[3, 2, 2])
-        .field(3, &[1, 2, 0])
-        .field(3, &[1, 2, 1])
+        .field(3, &[1, 2, 0, 1])
         .field(3, &[2, 3, 0])
         .field(3, &[3, 0, 1])
         .instance(1, -1, &[1, 2])
         .vectors(&["00", "01", "10", "11", "0X", "1X", "XX"]);
-    let grouped = nand_under(&["00", "01", "10", "11", "0X", "1X", "XX"]);
     assert_eq!(single.end(), grouped.end() + 5);
     assert_eq!(read(&single.bytes), read(&grouped.bytes));
     assert_eq!(report_of(&single.bytes), report_of(&grouped.bytes));
@@ -67,7 +66,7 @@ fn edges_in_the_order_of_the_labels() {
 /// Each label is an edge of its own in a refused file's listing too.
 #[test]
 fn listed_up_to_a_refusal() {
-    let file = FileBuilder::inputs(2).module(3, 2, 2, NAND).raw(&[9]);
+    let file = FileBuilder::inputs(2).grouped_nand().raw(&[9]);
     let shown = "inputs 2\ntype 1 3 2 2\nedge 1 2 0\nedge 1 2 1\nedge 2 3 0\nedge 3 0 1\n";
     assert_eq!(show_of(&file.bytes), format!("{shown}refused 2 at 30\n"));
 }

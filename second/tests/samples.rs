@@ -8,6 +8,8 @@ use second::conduction::{is_on, output_value, Graph, GROUND, SUPPLY};
 use second::grade::{Graded, Row};
 use second::read::read;
 use second::report::report_of;
+use second::samples::sample_files;
+use second::show::show_of;
 use second::starts::nand_under;
 use second::write::{bytes_of, fields_of};
 use support::{answer, digits, sample_file, Accepted};
@@ -41,6 +43,21 @@ fn inverter() {
 fn nand() {
     let line = "vectors 7 faults 14 classes 14 found 14";
     assert_eq!(first_line("nand"), line);
+}
+
+/// The only sample with a grouped field; it is the circuit of `nand`, so all that is
+/// printed of it is the same.
+#[test]
+fn grouped() {
+    let nand = sample_file("nand");
+    assert_eq!(sample_file("grouped").len() + 5, nand.len());
+    assert_eq!(circuit("grouped"), circuit("nand"));
+    assert_eq!(report_of(&sample_file("grouped")), report_of(&nand));
+    assert_eq!(show_of(&sample_file("grouped")), show_of(&nand));
+    for file in sample_files() {
+        let is_single = file.bytes == bytes_of(&fields_of(&circuit(&file.name)));
+        assert_eq!(is_single, file.name != "grouped", "{}", file.name);
+    }
 }
 
 #[test]

@@ -112,11 +112,12 @@ impl Module {
         self.edges.iter().any(ends)
     }
 
+    /// With a field for each transistor; the thesis has parallel ones for one edge.
     pub fn added_to(&self, file: FileBuilder) -> FileBuilder {
         let edges: Vec<EdgeRow> = self
             .edges
             .iter()
-            .map(|(a, b, labels)| (*a, *b, labels.as_slice()))
+            .flat_map(|(a, b, labels)| labels.chunks(1).map(move |label| (*a, *b, label)))
             .collect();
         file.module(self.highest, self.output, self.labels, &edges)
     }

@@ -54,7 +54,7 @@ enum {
  * The longest file that is graded, the most faults that a file can have, the words of the matrix for each, and the bytes of stack that are enough for a call.
  * MOST_FAULTS * WORDS_A_FAULT words of matrix, MOST_FAULTS classes and MOST_FAULTS rows are enough for every file.
  */
-#define TOGYAMIRU_MOST_BYTES 32768
+#define TOGYAMIRU_MOST_BYTES 57344
 #define TOGYAMIRU_MOST_FAULTS 2048
 #define TOGYAMIRU_WORDS_A_FAULT 4
 #define TOGYAMIRU_MOST_STACK 65536
@@ -128,7 +128,7 @@ static inline const char *togyamiru_words(uint64_t number)
     case TOGYAMIRU_NOT_REFUSED:
         return "not refused";
     case TOGYAMIRU_TOO_LONG:
-        return "file longer than 32,768 bytes";
+        return "file longer than 57,344 bytes";
     case TOGYAMIRU_BROKEN:
         return "fewer than 3 bytes left for a head, or fewer than its length";
     case TOGYAMIRU_UNKNOWN_TAG:

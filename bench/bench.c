@@ -37,31 +37,31 @@ static double time_block(grade_function *grade, const struct input *input, size_
     return (microseconds() - begin) / calls;
 }
 
-/* How many calls make a block of the plain grader. */
-static unsigned calls_for(const struct input *input, size_t words)
+/* How many calls of a grader make a block. */
+static unsigned calls_for(grade_function *grade, const struct input *input, size_t words)
 {
     unsigned calls = 1;
-    while (calls * time_block(plain_grade, input, words, calls) < BLOCK_MICROSECONDS)
+    while (calls * time_block(grade, input, words, calls) < BLOCK_MICROSECONDS)
         calls *= 2;
     return calls;
 }
 
-/* Blocks of both, one right after the other; in every second round the plain one first. */
-static void time_part(const struct input *input, unsigned part, size_t words, unsigned calls, unsigned round)
+/* Blocks of both, one right after the other; in every second round the other one first. */
+static void time_part(const struct input *input, grade_function *other, unsigned part, size_t words, unsigned calls, unsigned round)
 {
     if (round % 2)
-        plain[part][round] = time_block(plain_grade, input, words, calls);
+        plain[part][round] = time_block(other, input, words, calls);
     ours[part][round] = time_block(togyamiru_grade, input, words, calls);
     if (round % 2 == 0)
-        plain[part][round] = time_block(plain_grade, input, words, calls);
+        plain[part][round] = time_block(other, input, words, calls);
 }
 
-static void time_rounds(const struct input *input)
+static void time_rounds(const struct input *input, grade_function *other)
 {
-    unsigned reading_calls = calls_for(input, 0), whole_calls = calls_for(input, BOTH_WORDS);
+    unsigned reading_calls = calls_for(other, input, 0), whole_calls = calls_for(other, input, BOTH_WORDS);
     for (unsigned r = 0; r < ROUNDS; r++) {
-        time_part(input, READING, 0, reading_calls, r);
-        time_part(input, WHOLE, BOTH_WORDS, whole_calls, r);
+        time_part(input, other, READING, 0, reading_calls, r);
+        time_part(input, other, WHOLE, BOTH_WORDS, whole_calls, r);
         ours[GRADING][r] = ours[WHOLE][r] - ours[READING][r];
         plain[GRADING][r] = plain[WHOLE][r] - plain[READING][r];
         for (unsigned part = 0; part < PARTS; part++)
@@ -83,28 +83,33 @@ static double quartile(double *rounds, unsigned quarters)
 }
 
 /* A line of the table. Grading that is less than a twentieth of the whole is lost in the spread of both times: its ratio is left out. */
-static void print_part(const struct input *input, unsigned part)
+static void print_part(const struct input *input, unsigned part, int is_alone)
 {
     double our_time = quartile(ours[part], 2), plain_time = quartile(plain[part], 2), whole_time = quartile(plain[WHOLE], 2);
     printf("%-14s %-8s ", part == READING ? input->name : "", part_names[part]);
-    if (20 * plain_time < whole_time)
+    if (is_alone || 20 * plain_time < whole_time)
         printf("%7s   %18s", "-", "");
     else
         printf("%7.2f   %7.2f to %-7.2f", quartile(ratios[part], 2), quartile(ratios[part], 1), quartile(ratios[part], 3));
-    printf(" %10.2f %10.2f\n", our_time, plain_time);
+    printf(" %10.2f", our_time);
+    if (is_alone)
+        printf(" %10s\n", "-");
+    else
+        printf(" %10.2f\n", plain_time);
 }
 
-/* Whether both graders agree on the input; if so it is timed. */
+/* Whether both graders agree on the input; if so it is timed. What is left out is timed alone: the proved grader takes both turns, and no ratio is printed. */
 static int measure(unsigned number)
 {
     struct input input = make_input(number);
-    if (!both_agree_on(input.file, input.length)) {
+    int is_alone = both_leave_out(input.file, input.length) != 0;
+    if (!is_alone && !both_agree_on(input.file, input.length)) {
         printf("the graders differ on %s\n", input.name);
         return 0;
     }
-    time_rounds(&input);
+    time_rounds(&input, is_alone ? togyamiru_grade : plain_grade);
     for (unsigned part = 0; part < PARTS; part++)
-        print_part(&input, part);
+        print_part(&input, part, is_alone);
     return 1;
 }
 

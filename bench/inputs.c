@@ -144,7 +144,7 @@ static void put_vectors(unsigned count, unsigned inputs, unsigned zeros)
     }
 }
 
-static const struct gate inverter = {1, 1, 1, 1, 0}, nand = {1, 2, 2, 1, 0}, wide = {3, 4, 4, 3, 64}, deep = {1, 12, 30, 1, 0};
+static const struct gate inverter = {1, 1, 1, 1, 0}, nand = {1, 2, 2, 1, 0}, wide = {3, 4, 4, 3, 64}, crowded = {3, 4, 4, 3, 256}, deep = {1, 12, 30, 1, 0};
 
 static const struct gate gates[] = {{1, 1, 1, 1, 0}, {1, 2, 2, 1, 0}, {2, 1, 1, 1, 0}, {1, 3, 3, 1, 0},
                                     {3, 1, 1, 1, 0}, {2, 2, 2, 1, 0}, {1, 4, 4, 1, 0}, {3, 2, 2, 1, 0}};
@@ -173,11 +173,11 @@ static void make_deep(void)
     make_circuit(&deep, 1, 16, 128, 256, 16);
 }
 
-static void make_types(void)
+static void make_types(struct gate g)
 {
     struct gate types[16];
     for (unsigned t = 0; t < 16; t++)
-        types[t] = wide;
+        types[t] = g;
     make_circuit(types, 16, 16, 16, 64, 2);
 }
 
@@ -244,9 +244,9 @@ static void make_inverter(void)
 struct input make_judged_type(void)
 {
     begin(1);
-    put_gate(wide);
+    put_gate(crowded);
     put_byte(4);
-    return (struct input){"judged", "one 12-label type of 64 edges, then a broken field", file, length};
+    return (struct input){"judged", "one 12-label type of 256 edges, then a broken field", file, length};
 }
 
 /* The inputs of growth, four in a family. */
@@ -268,6 +268,7 @@ static const struct {
     {"full", "2,048 faults, 256 vectors, 128 instances of eight gates"},
     {"deep", "the same sizes, series chains of 30 edges"},
     {"types", "sixteen types of 12 labels and 64 edges"},
+    {"edges", "the same with 256 edges"},
     {"rows", "2,048 rows in four instances, two of them with the 880 rows of h=31 and k=12"},
     {"lesson", "a full adder of nine NANDs, every bridge, ten vectors"},
     {"inverter", "the scope paper's 42 bytes"},
@@ -299,15 +300,18 @@ struct input make_input(unsigned number)
         make_deep();
         break;
     case 2:
-        make_types();
+        make_types(wide);
         break;
     case 3:
-        make_rows();
+        make_types(crowded);
         break;
     case 4:
-        make_lesson();
+        make_rows();
         break;
     case 5:
+        make_lesson();
+        break;
+    case 6:
         make_inverter();
         break;
     default:

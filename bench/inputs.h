@@ -5,7 +5,7 @@
 #include <stddef.h>
 #include <stdint.h>
 
-enum { INPUT_MOST_BYTES = 32768 };
+enum { INPUT_MOST_BYTES = 57344 };
 
 struct input {
     const char *name;
@@ -15,12 +15,12 @@ struct input {
 };
 
 /* How many inputs there are. Of these the first `INPUTS_ALONE` are measured by themselves, the others in rising order to show growth. */
-enum { INPUTS_ALONE = 6, INPUTS = 22 };
+enum { INPUTS_ALONE = 7, INPUTS = 23 };
 
 /* Makes the input with a number from 0 to INPUTS - 1. It stays until the next is made. */
 struct input make_input(unsigned number);
 
-/* Makes a file that is refused right after its one type, of 12 labels and 64 edges, has been judged. */
+/* Makes a file that is refused right after its one type, of 12 labels and 256 edges, has been judged. */
 struct input make_judged_type(void);
 
 #endif

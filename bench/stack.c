@@ -24,7 +24,7 @@ static void grade(void)
 
 static void check(void)
 {
-    answer[0] = bench_check(7, 0, 11, 2, 1, 64);
+    answer[0] = bench_check(7, 0, 11, 2, 1, 255);
 }
 
 static void list_rows(void)

@@ -2,26 +2,20 @@
 #include "both.h"
 #include <string.h>
 
-/* Whether plain.c refuses a file by this number, and where. */
-static int is_refused_by(uint64_t number, const uint8_t *file, size_t n, uint64_t *place)
+/* Longer than plain.c takes a file, and no longer than the library does. */
+static int is_long(const uint8_t *file, size_t n)
+{
+    (void)file;
+    return n > 32768 && n <= TOGYAMIRU_MOST_BYTES;
+}
+
+/* Refused by plain.c at an edge field as one too many. */
+static int has_many_edges(const uint8_t *file, size_t n)
 {
     uint64_t answer[TOGYAMIRU_NUMBERS], no_word;
     uint16_t no_entry;
     plain_grade(file, n, &no_word, 0, &no_entry, 0, answer);
-    *place = answer[TOGYAMIRU_PLACE];
-    return answer[TOGYAMIRU_NUMBER] == number;
-}
-
-static int is_long(const uint8_t *file, size_t n)
-{
-    uint64_t place;
-    return is_refused_by(TOGYAMIRU_TOO_LONG, file, n, &place);
-}
-
-static int has_many_edges(const uint8_t *file, size_t n)
-{
-    uint64_t place;
-    return is_refused_by(TOGYAMIRU_TOO_MANY, file, n, &place) && file[place] == 3;
+    return answer[TOGYAMIRU_NUMBER] == TOGYAMIRU_TOO_MANY && file[answer[TOGYAMIRU_PLACE]] == 3;
 }
 
 /*
@@ -31,7 +25,7 @@ static int has_many_edges(const uint8_t *file, size_t n)
 static const struct {
     const char *reason;
     int (*holds)(const uint8_t *file, size_t n);
-} left_out[] = {{"longer than 32,768 bytes", is_long}, {"more than 64 edge fields in a type", has_many_edges}, {0, 0}};
+} left_out[] = {{"32,769 to 57,344 bytes", is_long}, {"more than 64 edge fields in a type", has_many_edges}, {0, 0}};
 
 /*
  * and which numbers of an answer are by the same rule: those before the counts of classes and of found ones. plain.c keeps instances apart, the library takes what joins the same

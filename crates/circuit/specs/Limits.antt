@@ -1,5 +1,5 @@
--- 01, "The circuit file": at most 16 types, 256 bridges, 128 instances, 256 vectors, 2,048 faults; 02, "No more grouped transistors": 57,344
--- bytes and 256 edges a type. The limit of a type's edges stands with the type, in Modules of the crate `switch`.
+-- 01, "The circuit file": at most 16 types, 256 bridges, 128 instances, 256 vectors, 2,048 faults. 02, "No more grouped transistors":
+-- 57,344 bytes and 256 edges a type. The limit of a type's edges stands with the type, in Modules of the crate `switch`.
 use Prim.Native.Nat.{ℕ}
 
 abbrev pub mostBytes : ℕ

@@ -34,7 +34,7 @@ use Rattle.demands.proofs.CircuitCallsProof.{circuit-is-graded-as-file,
 use Rattle.demands.proofs.CircuitCallsProof.{circuits-meet-two, circuit-column-is-of-its-vector, circuits-meet-three}
 use Rattle.demands.proofs.UniqueProof.{unique}
 use Rattle.demands.proofs.MetProof.{met-by-every-file}
-use Rattle.demands.proofs.KnownProof.{all-known}
+use Rattle.demands.proofs.KnownProof.{all-known, edges-known}
 use Rattle.switch.proofs.Blocks.{blocks-tell}
 use Rattle.switch.proofs.Groups.{groups-link-alike}
 use Rattle.demands.proofs.ModuleCheckProof.{nine-as-before, wrong-checks-are-wrong}
@@ -98,6 +98,7 @@ all-proved = record {
   answered-as-before = answered-as-before;
   accepted-as-before = accepted-as-before;
   grouped-fields-read = grouped-fields-read;
+  edges-known = edges-known;
   wrong-edges-are-wrong = wrong-edges-are-wrong;
   grade-is-kept = grade-is-kept;
   entry-is-kept = entry-is-kept;

@@ -9,7 +9,7 @@ use Rattle.print_report.specs.Lines.{firstLine, kindLetter, digitsOfMarks, rowL
 use Rattle.demands.specs.Calls.{cellAt}
 use Rattle.print_report.specs.Report.{lineOf, rowLines, countsLine, reportLines, reportOf}
 use Rattle.demands.specs.Claims.{marksFrom, marksIn, floatsUnder, floatsOf, floatsIn, Holds, no-more, _and_}
-use Rattle.demands.specs.KnownResults.{AllKnown}
+use Rattle.demands.specs.KnownResults.{AllKnown, EdgesKnown}
 use Rattle.demands.proofs.Computing.{computing}
 
 pub all-known : AllKnown
@@ -20,4 +20,8 @@ all-known =
     refl and refl and refl and refl and refl and refl and refl and refl and refl and refl and refl and refl and refl and refl and refl and refl and refl and refl and refl and refl
     and refl and refl and refl and refl and refl and refl and refl and refl and refl and refl and refl and refl and refl and refl and refl and refl and refl and refl and refl and refl
     and refl and refl and refl and refl and refl and refl and refl and refl and refl and refl and refl and refl and refl and refl and refl and refl and refl and refl and refl and refl
-    and refl and refl and refl and refl and refl and refl and refl and refl and refl and refl and refl and refl and refl and refl and refl and refl and refl and refl and refl and refl and refl and refl and refl and refl and refl and refl and refl and refl and refl and refl and no-more
+    and refl and refl and refl and refl and refl and refl and refl and refl and refl and refl and refl and refl and refl and refl and refl and refl and refl and refl and refl and refl and refl and no-more
+
+pub edges-known : EdgesKnown
+unfolding computing Holds
+edges-known = refl and refl and refl and refl and refl and refl and refl and refl and refl and no-more

@@ -23,13 +23,13 @@ use Rattle.demands.proofs.RightProof.{rightly-is-right}
 
 -- ---- the circuit
 
-abbrev edge : ℕ → ℕ → Channel → List ℕ → Edge
-edge a b channel labels = record { first = a; second = b; channel = channel; labels = labels }
+abbrev edge : ℕ → ℕ → Channel → ℕ → Edge
+edge a b channel label = record { first = a; second = b; channel = channel; label = label }
 
 abbrev twoTypes : List ModuleType
 twoTypes =
-    record { highest = 2; output = 2; labels = 1; edges = edge 1 2 p-channel (0 ∷ []) ∷ edge 0 2 n-channel (0 ∷ []) ∷ [] }
-    ∷ record { highest = 3; output = 2; labels = 2; edges = edge 1 2 p-channel (0 ∷ 1 ∷ []) ∷ edge 2 3 n-channel (0 ∷ []) ∷ edge 3 0 n-channel (1 ∷ []) ∷ [] }
+    record { highest = 2; output = 2; labels = 1; edges = edge 1 2 p-channel 0 ∷ edge 0 2 n-channel 0 ∷ [] }
+    ∷ record { highest = 3; output = 2; labels = 2; edges = edge 1 2 p-channel 0 ∷ edge 1 2 p-channel 1 ∷ edge 2 3 n-channel 0 ∷ edge 3 0 n-channel 1 ∷ [] }
     ∷ []
 
 abbrev twoInstances : List Instance

@@ -1,5 +1,5 @@
--- 01, "Known results": all of them, those marked P first, then the whole example of "The report" and more of both kinds; the classes of 02,
--- "One wire, one short", and the limits of 02, "No more grouped transistors". They stand in one table under one statement, `AllKnown`. What a line says is in specs/Claims; the proof, by
+-- 01, "Known results": all of them, those marked P first, then the whole example of "The report" and more of both kinds; and the classes of
+-- 02, "One wire, one short". They stand in one table under one statement, `AllKnown`. What a line says is in specs/Claims; the proof, by
 -- computation, is in proofs/KnownProof.
 use Prim.Native.Nat.{ℕ, _-_, _^_}
 use Prim.Native.String.{String}
@@ -8,8 +8,8 @@ use lib.ListN.{replicate}
 use Rattle.switch.specs.Bridges.{nodes, input}
 use Rattle.circuit.specs.Circuit.{primary, outputOf, exhaustive, no-faults, list, joinLists}
 use Rattle.grading.specs.Buffers.{buffersOf, roomFor}
-use Rattle.demands.specs.Files.{fieldBytes, inputsField, typeField, edgeField, instanceField, times, oneUnder, inverterFields, inverter}
-use Rattle.demands.specs.Files.{inverterUnder}
+use Rattle.demands.specs.Files.{fieldBytes, inputsField, typeField, edgeField, instanceField, times, oneUnder, inverterFields}
+use Rattle.demands.specs.Files.{inverter, inverterUnder}
 use Rattle.demands.specs.Files.{inverterListed, inverterChoosing, nandUnder, norUnder, branches, inverterThenNand}
 use Rattle.demands.specs.Files.{nandOfOne, oneType, splitRails, invertersOf, fourInstances, twoInverters, driverAndInput, twoNands}
 use Rattle.demands.specs.Files.{twinNands, manyFaults}
@@ -23,10 +23,6 @@ all-four = "00" ∷ "01" ∷ "10" ∷ "11" ∷ []
 -- every vector of two inputs
 abbrev pub nine : List String
 nine = "00" ∷ "01" ∷ "10" ∷ "11" ∷ "0X" ∷ "1X" ∷ "X0" ∷ "X1" ∷ "XX" ∷ []
-
--- four labels of one old edge field
-abbrev pub four : List ℕ
-four = 0 ∷ 0 ∷ 0 ∷ 0 ∷ []
 
 -- ---- the table: 01's sentences, each with its lines, then more
 
@@ -243,19 +239,41 @@ knownResults =
     ∷ refuses (inverterUnder ("2" ∷ [])) 7 30
     ∷ refuses (invertersOf []) 14 27
     ∷ refuses (inverterUnder []) 14 30
-    -- 02, "No more grouped transistors": 256 edges pass, in fields of one label or of four; a 257th is 6, after 5 and before 7 and 8, and so
-    -- is a field of two labels behind 255; the 65th field of one label is none too many
-    ∷ sizes (oneUnder 1 (typeField 2 2 1 ++ times 128 (edgeField 1 2 (0 ∷ []) ++ edgeField 0 2 (0 ∷ []))) ("0" ∷ [])) 6 6
-    ∷ sizes (oneUnder 1 (typeField 2 2 1 ++ times 32 (edgeField 1 2 four ++ edgeField 0 2 four)) ("0" ∷ [])) 6 6
-    ∷ refuses (inputsField 1 ++ typeField 2 2 1 ++ times 64 (edgeField 1 2 four) ++ edgeField 1 2 (0 ∷ [])) 6 587
-    ∷ refuses (inputsField 1 ++ typeField 2 2 1 ++ times 64 (edgeField 1 2 four) ++ fieldBytes 3 (1 ∷ 2 ∷ [])) 5 587
-    ∷ refuses (inputsField 1 ++ typeField 2 2 1 ++ times 64 (edgeField 1 2 four) ++ edgeField 1 2 (1 ∷ [])) 6 587
-    ∷ refuses (inputsField 1 ++ typeField 2 2 1 ++ times 64 (edgeField 1 2 four) ++ edgeField 2 2 (0 ∷ [])) 6 587
-    ∷ refuses (inputsField 1 ++ typeField 2 2 1 ++ times 256 (edgeField 1 2 (0 ∷ [])) ++ edgeField 1 2 (0 ∷ [])) 6 1547
-    ∷ refuses (inputsField 1 ++ typeField 2 2 1 ++ times 255 (edgeField 1 2 (0 ∷ [])) ++ edgeField 1 2 (0 ∷ 0 ∷ [])) 6 1541
-    ∷ refuses (inputsField 1 ++ typeField 2 2 1 ++ times 64 (edgeField 1 2 (0 ∷ [])) ++ edgeField 2 2 (0 ∷ [])) 8 395
     ∷ []
 
 -- all results of the table hold
 abbrev pub AllKnown : Type 0
 AllKnown = AllHold knownResults
+
+-- ---- 02, "No more grouped transistors": how many edges a type may have
+
+-- a file with one input, up to the type that these edge fields follow; and the whole file of an inverter with them
+abbrev pub ofEdges : List ℕ → List ℕ
+ofEdges fields = inputsField 1 ++ typeField 2 2 1 ++ fields
+
+abbrev pub inverterOf : List ℕ → List ℕ
+inverterOf fields = oneUnder 1 (typeField 2 2 1 ++ fields) ("0" ∷ [])
+
+abbrev pub one : List ℕ
+one = 0 ∷ []
+
+abbrev pub four : List ℕ
+four = 0 ∷ 0 ∷ 0 ∷ 0 ∷ []
+
+-- 256 edges pass, in fields of one label or of four. A 257th is 6, after 5 and before 7 and 8, and so is a field of two labels behind 255.
+-- The 65th field of one label is none too many
+abbrev pub edgeResults : List Claim
+edgeResults =
+    sizes (inverterOf (times 128 (edgeField 1 2 one ++ edgeField 0 2 one))) 6 6
+    ∷ sizes (inverterOf (times 32 (edgeField 1 2 four ++ edgeField 0 2 four))) 6 6
+    ∷ refuses (ofEdges (times 64 (edgeField 1 2 four) ++ edgeField 1 2 one)) 6 587
+    ∷ refuses (ofEdges (times 64 (edgeField 1 2 four) ++ fieldBytes 3 (1 ∷ 2 ∷ []))) 5 587
+    ∷ refuses (ofEdges (times 64 (edgeField 1 2 four) ++ edgeField 1 2 (1 ∷ []))) 6 587
+    ∷ refuses (ofEdges (times 64 (edgeField 1 2 four) ++ edgeField 2 2 one)) 6 587
+    ∷ refuses (ofEdges (times 256 (edgeField 1 2 one) ++ edgeField 1 2 one)) 6 1547
+    ∷ refuses (ofEdges (times 255 (edgeField 1 2 one) ++ edgeField 1 2 (0 ∷ 0 ∷ []))) 6 1541
+    ∷ refuses (ofEdges (times 64 (edgeField 1 2 one) ++ edgeField 2 2 one)) 8 395
+    ∷ []
+
+abbrev pub EdgesKnown : Type 0
+EdgesKnown = AllHold edgeResults

@@ -27,7 +27,7 @@ use Rattle.demands.specs.CircuitCalls.{CircuitIsGradedAsFile, CircuitAns
 use Rattle.demands.specs.CircuitCalls.{CircuitsMeetTwo, CircuitColumnIsOfItsVector, CircuitsMeetThree}
 use Rattle.demands.specs.Unique.{Unique}
 use Rattle.demands.specs.Met.{MetByEveryFile}
-use Rattle.demands.specs.KnownResults.{AllKnown}
+use Rattle.demands.specs.KnownResults.{AllKnown, EdgesKnown}
 use Rattle.demands.specs.Graders.{RightlyIsRight}
 use Rattle.demands.specs.Wrong.{RefusesEveryIsWrong, SkipsNineIsWrong, SkipsFourteenIsWrong, MarksAllIsWrong, MarksNeverIsWrong}
 use Rattle.demands.specs.Wrong.{LeavesMatrixIsWrong, FirstWordOnlyIsWrong, InventsFoundIsWrong, SweepsOnceIsWrong, OnePlaneIsWrong}
@@ -96,6 +96,7 @@ pub record AllProved : Type 2 where
   pub answered-as-before : AnsweredAsBefore
   pub accepted-as-before : AcceptedAsBefore
   pub grouped-fields-read : GroupedFieldsRead
+  pub edges-known : EdgesKnown
   pub wrong-edges-are-wrong : WrongEdgesAreWrong
   -- the code
   pub grade-is-kept : GradeIsKept

@@ -1,7 +1,7 @@
 -- 02, "No more grouped transistors", on files. The grader as it was before: 01's, with the classes of 02, "One wire, one short". It took an
--- edge field for one group of parallel transistors, with 01's limits of 32,768 bytes and 64 edge fields a type. Every file is answered as it
--- was, answer and buffers, but for those that `Changed` names, and these are not. The proofs are in proofs/GroupsGrade, GroupsRead and
--- SingleTransistorsProof.
+-- edge field for one group of parallel transistors, with 01's limits of 32,768 bytes and 64 edge fields a type. Every file is answered as
+-- it was, answer and buffers, but for those that `Changed` names, and these are not. The proofs are in proofs/GroupsGrade, GroupsRead,
+-- SingleTransistorsProof and WrongEdges.
 use Prim.Native.Nat.{ℕ, _+_, _-_, _^_, _<_, _≤_}
 use mathlib.Core.Path.{_≡_}
 use mathlib.Core.Bool.{Bool, true, false, cond, not, _&&_, Bool·beq}

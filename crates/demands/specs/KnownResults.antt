@@ -254,25 +254,25 @@ ofEdges fields = inputsField 1 ++ typeField 2 2 1 ++ fields
 abbrev pub inverterOf : List ℕ → List ℕ
 inverterOf fields = oneUnder 1 (typeField 2 2 1 ++ fields) ("0" ∷ [])
 
-abbrev pub one : List ℕ
-one = 0 ∷ []
+abbrev pub oneLabel : List ℕ
+oneLabel = 0 ∷ []
 
-abbrev pub four : List ℕ
-four = 0 ∷ 0 ∷ 0 ∷ 0 ∷ []
+abbrev pub fourLabels : List ℕ
+fourLabels = 0 ∷ 0 ∷ 0 ∷ 0 ∷ []
 
 -- 256 edges pass, in fields of one label or of four. A 257th is 6, after 5 and before 7 and 8, and so is a field of two labels behind 255.
 -- The 65th field of one label is none too many
 abbrev pub edgeResults : List Claim
 edgeResults =
-    sizes (inverterOf (times 128 (edgeField 1 2 one ++ edgeField 0 2 one))) 6 6
-    ∷ sizes (inverterOf (times 32 (edgeField 1 2 four ++ edgeField 0 2 four))) 6 6
-    ∷ refuses (ofEdges (times 64 (edgeField 1 2 four) ++ edgeField 1 2 one)) 6 587
-    ∷ refuses (ofEdges (times 64 (edgeField 1 2 four) ++ fieldBytes 3 (1 ∷ 2 ∷ []))) 5 587
-    ∷ refuses (ofEdges (times 64 (edgeField 1 2 four) ++ edgeField 1 2 (1 ∷ []))) 6 587
-    ∷ refuses (ofEdges (times 64 (edgeField 1 2 four) ++ edgeField 2 2 one)) 6 587
-    ∷ refuses (ofEdges (times 256 (edgeField 1 2 one) ++ edgeField 1 2 one)) 6 1547
-    ∷ refuses (ofEdges (times 255 (edgeField 1 2 one) ++ edgeField 1 2 (0 ∷ 0 ∷ []))) 6 1541
-    ∷ refuses (ofEdges (times 64 (edgeField 1 2 one) ++ edgeField 2 2 one)) 8 395
+    sizes (inverterOf (times 128 (edgeField 1 2 oneLabel ++ edgeField 0 2 oneLabel))) 6 6
+    ∷ sizes (inverterOf (times 32 (edgeField 1 2 fourLabels ++ edgeField 0 2 fourLabels))) 6 6
+    ∷ refuses (ofEdges (times 64 (edgeField 1 2 fourLabels) ++ edgeField 1 2 oneLabel)) 6 587
+    ∷ refuses (ofEdges (times 64 (edgeField 1 2 fourLabels) ++ fieldBytes 3 (1 ∷ 2 ∷ []))) 5 587
+    ∷ refuses (ofEdges (times 64 (edgeField 1 2 fourLabels) ++ edgeField 1 2 (1 ∷ []))) 6 587
+    ∷ refuses (ofEdges (times 64 (edgeField 1 2 fourLabels) ++ edgeField 2 2 oneLabel)) 6 587
+    ∷ refuses (ofEdges (times 256 (edgeField 1 2 oneLabel) ++ edgeField 1 2 oneLabel)) 6 1547
+    ∷ refuses (ofEdges (times 255 (edgeField 1 2 oneLabel) ++ edgeField 1 2 (0 ∷ 0 ∷ []))) 6 1541
+    ∷ refuses (ofEdges (times 64 (edgeField 1 2 oneLabel) ++ edgeField 2 2 oneLabel)) 8 395
     ∷ []
 
 abbrev pub EdgesKnown : Type 0

@@ -22,7 +22,7 @@ use Rattle.switch.specs.Blocks.{blockHolds}
 use Rattle.switch.specs.Records.{channelBy}
 use Rattle.switch.proofs.Deciding.{same-test}
 use Rattle.switch.proofs.Blocks.{block-each}
-use Rattle.join_nodes.specs.Model.{edgeIn, typeIn, ColumnsGiven, WidePlanes, gateWord, joinedWords, OutputTold, settingOnes, settingZeros}
+use Rattle.join_nodes.specs.Model.{edgeInColumns, typeInColumns, ColumnsGiven, WidePlanes, gateWord, joinedWords, OutputTold, settingOnes, settingZeros}
 use Rattle.join_nodes.proofs.RailWords.{links-are, gate-tells}
 use Rattle.join_nodes.proofs.SettingBlocks.{settings-switch}
 
@@ -102,7 +102,7 @@ module _ (t : ModuleType) (block one : ℕ) (bits : (v : ℕ) → v < 64 → bit
 
 module _ {h o k : ℕ} {firsts seconds gates : List ℕ} {n : ℕ} (given : ColumnsGiven h o k firsts seconds gates n) (block : ℕ) where
   abbrev t : ModuleType
-  t = typeIn h o k firsts seconds gates n
+  t = typeInColumns h o k firsts seconds gates n
 
   abbrev setting : ℕ → ℕ → Value
   setting v = settingOf (64 * block + v)
@@ -110,8 +110,8 @@ module _ {h o k : ℕ} {firsts seconds gates : List ℕ} {n : ℕ} (given : Colu
   -- the planes of a block's settings switch on what the settings do
   module _ (planes : List ℕ) (wide : WidePlanes (settingOnes block) (settingZeros block) 1 planes) where
     by-settings : (v i : ℕ) → v < 64 → i < n
-        → bit (gateWord 1 0 gates planes i) v ≡ ofBool (edgeOn (byValues (setting v)) (edgeIn firsts seconds gates i))
-    unfolding edgeOn edgeIn settingOnes settingZeros
+        → bit (gateWord 1 0 gates planes i) v ≡ ofBool (edgeOn (byValues (setting v)) (edgeInColumns firsts seconds gates i))
+    unfolding edgeOn edgeInColumns settingOnes settingZeros
     by-settings v i m l =
         let g : ℕ = getD gates i 0 in
         gate-tells firsts seconds gates n (given .fit) wide 0 (omega arith) v i m l
@@ -120,7 +120,7 @@ module _ {h o k : ℕ} {firsts seconds gates : List ℕ} {n : ℕ} (given : Colu
 
     one-word : (s g : ℕ) → OutputTold firsts seconds gates planes n o supply s → OutputTold firsts seconds gates planes n o ground g
         → (v : ℕ) → v < 64 → bit (oneOf s g) v ≡ ofBool (oneRail t (setting v))
-    unfolding oneRail typeIn linksOf
+    unfolding oneRail typeInColumns linksOf
     one-word s g toldS toldG v m =
         let ws : ℕ → List Link = λ (u : ℕ). linksOf t (setting u) in
         let are = links-are firsts seconds gates n (gateWord 1 0 gates planes) (λ (u : ℕ). byValues (setting u)) by-settings in
@@ -131,6 +131,6 @@ module _ {h o k : ℕ} {firsts seconds gates : List ℕ} {n : ℕ} (given : Colu
       → settings ≡ 2 ^ k → ones ≡ settingOnes block → zeros ≡ settingZeros block → WidePlanes ones zeros 1 planes
       → OutputTold firsts seconds gates planes n o supply s → OutputTold firsts seconds gates planes n o ground g → counts ≡ firstOnes (settings - 64 * block)
       → eqb (bitAnd (oneOf s g) counts) counts ≡ blockHolds t block
-  unfolding counted typeIn
+  unfolding counted typeInColumns
   block-verdict settings counts ones zeros planes s g e isOnes isZeros wide toldS toldG c =
       rw (c, e) (holds t block (oneOf s g) (one-word planes (rw (isOnes, isZeros) at wide) s g toldS toldG))

@@ -9,11 +9,11 @@ use lib.ListN.{length, getD, set, replicate, length-map, List·getD-map}
 use lib.Seq.{take-all}
 use Rattle.words.specs.Tables.{upTo}
 use Rattle.words.proofs.Tables.{length-table, is-table, fill-none, fill-more, getD-fill}
-use Rattle.switch.specs.Records.{noEdge, firstIn, secondIn, gateIn, edgeOf, edgesOf, typeOf, typeWith, TypeGiven, EdgesGiven}
+use Rattle.switch.specs.Records.{noEdge, firstNodeIn, secondNodeIn, gateIn, edgeOf, edgesOf, typeOf, typeWith, TypeGiven, EdgesGiven}
 use Rattle.switch.specs.declared.Edge.{Edge as EdgeRecord}
 use Rattle.switch.specs.declared.ModuleType.{ModuleType as TypeRecord}
 use Rattle.switch.proofs.Ranges.{TypeRanges, EdgeRanges, given-type, given-edge}
-use Rattle.join_nodes.specs.Model.{column, columnsOf, edgeIn, edgesIn, typeIn, ColumnsFit, ColumnsGiven}
+use Rattle.join_nodes.specs.Model.{column, columnsOf, edgeInColumns, edgesInColumns, typeInColumns, ColumnsFit, ColumnsGiven}
 use Rattle.join_nodes.specs.declared.Columns.{Columns}
 
 -- ---- filling a column
@@ -41,16 +41,16 @@ module _ (rs : List EdgeRecord) (few : length rs ≤ 256) where
   unfolding column
   column-at part i h = getD-fill 256 (parts part rs) (length rs) i h few
 
-  pub edges-told : (h o k : ℕ) (c : Columns) → c ≡ columnsOf rs → typeWith h o k rs .edges ≡ edgesIn (c .firsts) (c .seconds) (c .gates) (c .count)
-  unfolding typeWith edgesOf edgeOf edgesIn edgeIn
+  pub edges-told : (h o k : ℕ) (c : Columns) → c ≡ columnsOf rs → typeWith h o k rs .edges ≡ edgesInColumns (c .firsts) (c .seconds) (c .gates) (c .count)
+  unfolding typeWith edgesOf edgeOf edgesInColumns edgeInColumns
   edges-told h o k c is =
       let own : Columns = columnsOf rs in
       rw is
-      (is-table (edgeOf noEdge) (length rs) (edgeIn (own .firsts) (own .seconds) (own .gates)) (edgesOf rs) (length-map rs edgeOf) (λ i l.
-      List·getD-map edgeOf rs i noEdge ∙ rw (column-at firstIn i l, column-at secondIn i l, column-at gateIn i l)))
+      (is-table (edgeOf noEdge) (length rs) (edgeInColumns (own .firsts) (own .seconds) (own .gates)) (edgesOf rs) (length-map rs edgeOf) (λ i l.
+      List·getD-map edgeOf rs i noEdge ∙ rw (column-at firstNodeIn i l, column-at secondNodeIn i l, column-at gateIn i l)))
 
-  pub type-told : (h o k : ℕ) (c : Columns) → c ≡ columnsOf rs → typeIn h o k (c .firsts) (c .seconds) (c .gates) (c .count) ≡ typeWith h o k rs
-  unfolding typeIn typeWith
+  pub type-told : (h o k : ℕ) (c : Columns) → c ≡ columnsOf rs → typeInColumns h o k (c .firsts) (c .seconds) (c .gates) (c .count) ≡ typeWith h o k rs
+  unfolding typeInColumns typeWith
   type-told h o k c is = rw (← edges-told h o k c is)
 
 -- ---- a slice that a file can give
@@ -76,8 +76,8 @@ module _ (h o k : ℕ) (rs : List EdgeRecord) (g : EdgesGiven h o k rs) where
       rw is
       (record {
         places = g .places;
-        first = λ i l. rw (column-at rs (g .places) firstIn i l) (omega (arith, edge-ranges i l .first));
-        second = λ i l. rw (column-at rs (g .places) secondIn i l) (omega (arith, edge-ranges i l .second));
+        first = λ i l. rw (column-at rs (g .places) firstNodeIn i l) (omega (arith, edge-ranges i l .first));
+        second = λ i l. rw (column-at rs (g .places) secondNodeIn i l) (omega (arith, edge-ranges i l .second));
         gate = λ i l. rw (column-at rs (g .places) gateIn i l) (omega arith);
         few-nodes = omega (arith, ranges .highest);
       })

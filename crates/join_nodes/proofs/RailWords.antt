@@ -15,26 +15,26 @@ use Rattle.switch.specs.Modules.{ModuleType}
 use Rattle.switch.specs.Records.{noEdge, edgeOf, channelBy, byPlanes}
 use Rattle.switch.specs.Promises.{railWords, fourRailWords}
 use Rattle.switch.proofs.Paths.{OnAt, links-among}
-use Rattle.join_nodes.specs.Model.{edgeIn, edgesIn, RailsTold, ColumnsFit, WidePlanes, gateWord, OnLink, LinksAre, joinedWords, WideJoined}
+use Rattle.join_nodes.specs.Model.{edgeInColumns, edgesInColumns, RailsTold, ColumnsFit, WidePlanes, gateWord, OnLink, LinksAre, joinedWords, WideJoined}
 use Rattle.join_nodes.proofs.GatePlanes.{bit-planeOf}
 
 module _ (firsts seconds gates : List ℕ) (n : ℕ) where
   abbrev edge : ℕ → Edge
-  edge = edgeIn firsts seconds gates
+  edge = edgeInColumns firsts seconds gates
 
   abbrev edges : List Edge
-  edges = edgesIn firsts seconds gates n
+  edges = edgesInColumns firsts seconds gates n
 
   -- where the words tell which edges are on, the links of the edges in the columns are those that are on
   module _ (on : ℕ → ℕ) (switched : ℕ → Switching)
       (tells : (v i : ℕ) → v < 64 → i < n → bit (on i) v ≡ ofBool (edgeOn (switched v) (edge i))) where
     module _ (v : ℕ) (vector : v < 64) (u : Link) where
       is-edge : (i : ℕ) → i < n → getD edges i (edgeOf noEdge) ≡ edge i
-      unfolding edgesIn
+      unfolding edgesInColumns
       is-edge i h = getD-table n edge (edgeOf noEdge) i h
 
       in-columns : OnAt (switched v) edges (edgeOf noEdge) u → OnLink firsts seconds on n v u
-      unfolding edgesIn edgeIn
+      unfolding edgesInColumns edgeInColumns
       in-columns a =
           let within : a .place < n = omega (arith, a .within, length-table n edge) in
           let same = is-edge (a .place) within in
@@ -46,7 +46,7 @@ module _ (firsts seconds gates : List ℕ) (n : ℕ) where
           }
 
       in-edges : OnLink firsts seconds on n v u → OnAt (switched v) edges (edgeOf noEdge) u
-      unfolding edgesIn edgeIn
+      unfolding edgesInColumns edgeInColumns
       in-edges a =
           let same = is-edge (a .place) (a .within) in
           record {
@@ -71,7 +71,7 @@ module _ (firsts seconds gates : List ℕ) (n : ℕ) where
     zeros-w = wordOfEach width w 12 zeros
 
     pub gate-tells : (v i : ℕ) → v < 64 → i < n → bit (gateWord width w gates planes i) v ≡ ofBool (edgeOn (byPlanes ones-w zeros-w v) (edge i))
-    unfolding edgeOn edgeIn
+    unfolding edgeOn edgeInColumns
     gate-tells v i k l =
         let g : ℕ = getD gates i 0 in
         ap (λ (x : ℕ). bit x v) (wide .each w g h (fit .gate i l)) ∙ bit-planeOf ones-w zeros-w v (channelBy (g / 16)) (g % 16)

@@ -12,7 +12,7 @@ use Rattle.words.specs.Tables.{table, upTo}
 use Rattle.switch.specs.Conduction.{Channel, p-channel, n-channel, Edge, Link, Among}
 use Rattle.switch.specs.Modules.{ModuleType, mostEdges, mostNodes, mostLabels}
 use Rattle.switch.specs.Deciding.{joins}
-use Rattle.switch.specs.Records.{noEdge, channelBy, firstIn, secondIn, gateIn}
+use Rattle.switch.specs.Records.{noEdge, channelBy, firstNodeIn, secondNodeIn, gateIn}
 use Rattle.switch.specs.declared.Edge.{Edge as EdgeRecord}
 use Rattle.switch.specs.Promises.{railsOf}
 use Rattle.switch.specs.declared.Rails.{Rails}
@@ -26,7 +26,7 @@ mostGates = 32
 -- ---- edges in columns
 
 abbrev pub partsOf : EdgeRecord → Parts
-partsOf e = record { first = firstIn e; second = secondIn e; gate = gateIn e }
+partsOf e = record { first = firstNodeIn e; second = secondNodeIn e; gate = gateIn e }
 
 -- one part of each of the first n edges, and 0 in the other places
 unfoldable pub column : (EdgeRecord → ℕ) → List EdgeRecord → ℕ → List ℕ
@@ -35,20 +35,20 @@ column part edges n = table mostEdges (upTo n (λ (i : ℕ). part (getD edges i 
 abbrev pub columnsOf : List EdgeRecord → Columns
 columnsOf edges =
     let n = length edges in
-    record { count = n; firsts = column firstIn edges n; seconds = column secondIn edges n; gates = column gateIn edges n }
+    record { count = n; firsts = column firstNodeIn edges n; seconds = column secondNodeIn edges n; gates = column gateIn edges n }
 
 -- the edge that columns have in a place, and those in their first n places
-unfoldable pub edgeIn : List ℕ → List ℕ → List ℕ → ℕ → Edge
-edgeIn firsts seconds gates i =
+unfoldable pub edgeInColumns : List ℕ → List ℕ → List ℕ → ℕ → Edge
+edgeInColumns firsts seconds gates i =
     let g = getD gates i 0 in
     record { first = getD firsts i 0; second = getD seconds i 0; channel = channelBy (g / 16); label = g % 16 }
 
-unfoldable pub edgesIn : List ℕ → List ℕ → List ℕ → ℕ → List Edge
-edgesIn firsts seconds gates n = table n (edgeIn firsts seconds gates)
+unfoldable pub edgesInColumns : List ℕ → List ℕ → List ℕ → ℕ → List Edge
+edgesInColumns firsts seconds gates n = table n (edgeInColumns firsts seconds gates)
 
 -- the type with these edges
-unfoldable pub typeIn : ℕ → ℕ → ℕ → List ℕ → List ℕ → List ℕ → ℕ → ModuleType
-typeIn h o k firsts seconds gates n = record { highest = h; output = o; labels = k; edges = edgesIn firsts seconds gates n }
+unfoldable pub typeInColumns : ℕ → ℕ → ℕ → List ℕ → List ℕ → List ℕ → ℕ → ModuleType
+typeInColumns h o k firsts seconds gates n = record { highest = h; output = o; labels = k; edges = edgesInColumns firsts seconds gates n }
 
 -- the rails' words of any type that has these edges
 abbrev pub RailsTold : List Edge → List ℕ → List ℕ → Rails → Type 0

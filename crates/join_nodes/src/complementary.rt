@@ -17,7 +17,7 @@ ghost use Rattle.switch.specs.Records.{TypeGiven, EdgesGiven, typeOf, typeWith}
 ghost use Rattle.switch.specs.Deciding.{isComplementary};
 ghost use Rattle.switch.specs.Blocks.{blockHolds, byBlocks};
 ghost use Rattle.switch.specs.Modules.{mostLabels, mostNodes};
-ghost use Rattle.join_nodes.specs.Model.{ColumnsFit, ColumnsGiven, typeIn, OutputTold};
+ghost use Rattle.join_nodes.specs.Model.{ColumnsFit, ColumnsGiven, typeInColumns, OutputTold};
 
 // The word of an output for a rail, under 64 settings of the labels.
 fn output_word<'a>(
@@ -73,7 +73,7 @@ fn block_holds<'a>(
 ) -> bool
     requires { ⌜ ColumnsGiven highest output labels (now firsts) (now seconds) (now gates) count ⌝ }
     requires { ⌜ 64 * block < 2 ^ labels ⌝ }
-    ensures { λ r. ⌜ r ≡ blockHolds (typeIn highest output labels (now (firsts .entry)) (now (seconds .entry)) (now (gates .entry)) count) block ⌝ }
+    ensures { λ r. ⌜ r ≡ blockHolds (typeInColumns highest output labels (now (firsts .entry)) (now (seconds .entry)) (now (gates .entry)) count) block ⌝ }
 {
     let ones = setting_ones(block);
     let zeros = setting_zeros(block);
@@ -89,7 +89,7 @@ fn block_holds<'a>(
 // Whether a type is complementary, block by block: the work, on the columns of its edges and its three numbers.
 fn complementary_of(c: Columns, highest: u8, output: u8, labels: u8) -> bool
     requires { ⌜ ColumnsGiven highest output labels (c .firsts) (c .seconds) (c .gates) (c .count) ⌝ }
-    ensures { λ r. ⌜ r ≡ byBlocks (typeIn highest output labels (c .firsts) (c .seconds) (c .gates) (c .count)) ⌝ }
+    ensures { λ r. ⌜ r ≡ byBlocks (typeInColumns highest output labels (c .firsts) (c .seconds) (c .gates) (c .count)) ⌝ }
 {
     let count = c.count;
     let settings = settings_of(labels);

@@ -26,7 +26,7 @@ use Rattle.circuit.specs.Refusals.{verdictOf}
 use Rattle.circuit.specs.Verdicts.{isRefused}
 use Rattle.circuit.specs.Stages.{Stage, ifPasses, edgeStage, failingVerdict, fieldPlace, typeStage, stageOf}
 use Rattle.read_fields.specs.Steps.{bodyOf, fieldIn, FieldAt, NextIs, endsBy, verdictBy, keptBy}
-use Rattle.read_types.specs.EdgeTurns.{edgeVerdict, edgesKept, placed, listWith, CodesFit, EdgesNext, shapedRecord, EdgesEnded}
+use Rattle.read_types.specs.EdgeTurns.{edgeVerdict, edgesKept, placed, listWith, EdgeCodesFit, EdgesNext, shapedRecord, EdgesEnded}
 use Rattle.read_types.specs.ReadTypes.{bareOf, EdgesRead, TypeRead, TypesRead}
 use Rattle.read_types.specs.TypeTurns.{FoundWhole, typeVerdict, FieldTold, TypeTold, endsAt}
 use Rattle.read_fields.specs.declared.Field.{Field as FieldRecord}
@@ -192,7 +192,7 @@ module _ {file : List ℕ} {from : ℕ} {shape : Shape} {list : EdgeList} {at : 
       unfolding NextIs
       places = omega (arith, edge-count, passed .few, length-body file f (here .0 .inside))
 
-      codes-fit : CodesFit file f
+      codes-fit : EdgeCodesFit file f
       unfolding NextIs edgesInRange
       codes-fit =
           let body = bodyOf file f in

@@ -37,7 +37,7 @@ unfoldable pub listWith : List ℕ → ℕ → EdgeList → FieldRecord → Edge
 listWith file o list f = record { count = list .count + (f .len - 2); edges = placed (list .edges) (list .count) (edgesKept file o f) }
 
 -- the field lies in the file, and its nodes and labels have room in an edge's code. A byte past the field's end is 0
-pub record CodesFit (file : List ℕ) (f : FieldRecord) : Type 0 where
+pub record EdgeCodesFit (file : List ℕ) (f : FieldRecord) : Type 0 where
   pub inside : f .body + f .len ≤ length file
   pub first : getD (bodyOf file f) 0 0 < 32
   pub second : getD (bodyOf file f) 1 0 < 32
@@ -45,7 +45,7 @@ pub record CodesFit (file : List ℕ) (f : FieldRecord) : Type 0 where
 
 -- of the field that was found so, and behind `count` edges there is a place for each of its labels
 unfoldable pub EdgesNext : List ℕ → ℕ → Next → Type 0
-EdgesNext file count (Found f) = CodesFit file f × (count + (f .len - 2) ≤ mostEdges)
+EdgesNext file count (Found f) = EdgeCodesFit file f × (count + (f .len - 2) ≤ mostEdges)
 EdgesNext file count Other = Unit {0}
 
 -- the record of a type of this shape, with these edges

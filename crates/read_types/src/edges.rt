@@ -24,7 +24,7 @@ ghost use Rattle.switch.specs.Modules.{mostEdges, allOf, typeInRange};
 ghost use Rattle.switch.specs.Records.{noEdge};
 ghost use Rattle.circuit.specs.Refusals.{verdictOf};
 ghost use Rattle.read_fields.specs.Steps.{bodyOf, NextIn, endsBy, keptBy};
-ghost use Rattle.read_types.specs.EdgeTurns.{edgeVerdict, edgesKept, listWith, CodesFit, EdgesNext, EdgesEnded};
+ghost use Rattle.read_types.specs.EdgeTurns.{edgeVerdict, edgesKept, listWith, EdgeCodesFit, EdgesNext, EdgesEnded};
 ghost use Rattle.read_types.specs.ReadTypes.{EdgesRead};
 
 // What a type's own field says: its highest node, its output node and its number of labels.
@@ -125,7 +125,7 @@ fn edge_verdict(file: &[u8], f: Field, shape: Shape, count: usize) -> Refusal
 
 // The edge of one of a field's labels, by the label's number, in a type with the output node o.
 fn edge_for(file: &[u8], f: Field, o: u8, j: usize) -> Edge
-    requires { ⌜ CodesFit (now file) f ⌝ }
+    requires { ⌜ EdgeCodesFit (now file) f ⌝ }
     requires { ⌜ j < f .len - 2 ⌝ }
     ensures { λ r. ⌜ r ≡ getD (edgesKept (now (file .entry)) o f) j noEdge ⌝ }
 {

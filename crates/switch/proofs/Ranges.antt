@@ -10,7 +10,7 @@ use lib.ListN.{length, getD, take, List·getD-map}
 use lib.Seq.{getD-take}
 use Rattle.switch.specs.Conduction.{Channel, p-channel, n-channel, Edge, between}
 use Rattle.switch.specs.Modules.{allOf, typeInRange, edgeInRange, inRange}
-use Rattle.switch.specs.Records.{noEdge, channelBit, channelBy, gateOf, edgeRecord, firstIn, secondIn, gateIn, edgeOf, edgesOf, typeOf}
+use Rattle.switch.specs.Records.{noEdge, channelBit, channelBy, gateOf, edgeRecord, firstNodeIn, secondNodeIn, gateIn, edgeOf, edgesOf, typeOf}
 use Rattle.switch.specs.Records.{TypeGiven}
 use Rattle.switch.specs.declared.Edge.{Edge as EdgeRecord}
 use Rattle.switch.specs.declared.ModuleType.{ModuleType as TypeRecord}
@@ -67,7 +67,7 @@ module _ (a b l : ℕ) (ha : a < 32) (hb : b < 32) (hl : l < 16) where
   abbrev coded : ℕ → EdgeRecord
   coded gate = record { code = a + 32 * b + 1024 * gate }
 
-  parts : (gate : ℕ) → gate < 32 → (firstIn (coded gate) ≡ a) × (secondIn (coded gate) ≡ b) × (gateIn (coded gate) ≡ gate)
+  parts : (gate : ℕ) → gate < 32 → (firstNodeIn (coded gate) ≡ a) × (secondNodeIn (coded gate) ≡ b) × (gateIn (coded gate) ≡ gate)
   parts gate h = (omega arith, omega arith, omega arith)
 
   its-record-by : (c : Channel)

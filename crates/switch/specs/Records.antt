@@ -28,11 +28,11 @@ gateOf e = e .label + 16 * channelBit (e .channel)
 unfoldable pub edgeRecord : Edge → EdgeRecord
 edgeRecord e = record { code = e .first + 32 * e .second + 1024 * gateOf e }
 
-abbrev pub firstIn : EdgeRecord → ℕ
-firstIn r = r .code % 32
+abbrev pub firstNodeIn : EdgeRecord → ℕ
+firstNodeIn r = r .code % 32
 
-abbrev pub secondIn : EdgeRecord → ℕ
-secondIn r = r .code / 32 % 32
+abbrev pub secondNodeIn : EdgeRecord → ℕ
+secondNodeIn r = r .code / 32 % 32
 
 abbrev pub gateIn : EdgeRecord → ℕ
 gateIn r = r .code / 1024 % 32
@@ -42,7 +42,7 @@ labelIn r = gateIn r % 16
 
 -- the edge of a record
 unfoldable pub edgeOf : EdgeRecord → Edge
-edgeOf r = record { first = firstIn r; second = secondIn r; channel = channelBy (gateIn r / 16); label = labelIn r }
+edgeOf r = record { first = firstNodeIn r; second = secondNodeIn r; channel = channelBy (gateIn r / 16); label = labelIn r }
 
 -- what stands in the places of a type that no edge fills, and past the end of a list of edge records. It is no edge of a file: its ends are
 -- equal

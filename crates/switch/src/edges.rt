@@ -4,7 +4,7 @@ ghost use mathlib.Core.Bool.{cond};
 ghost use mathlib.Core.Path.{_≡_};
 ghost use Prim.Native.Nat.{_<_};
 ghost use Rattle.switch.specs.Conduction.{p-channel, n-channel};
-ghost use Rattle.switch.specs.Records.{edgeRecord, firstIn, secondIn, labelIn, gateIn};
+ghost use Rattle.switch.specs.Records.{edgeRecord, firstNodeIn, secondNodeIn, labelIn, gateIn};
 
 // The edge with these ends and this label.
 pub fn edge_with(first: u8, second: u8, label: u8, p_channel: bool) -> Edge
@@ -19,13 +19,13 @@ pub fn edge_with(first: u8, second: u8, label: u8, p_channel: bool) -> Edge
 }
 
 pub fn first_of(e: Edge) -> u8
-    ensures { λ r. ⌜ r ≡ firstIn e ⌝ }
+    ensures { λ r. ⌜ r ≡ firstNodeIn e ⌝ }
 {
     (e.code % 32) as u8
 }
 
 pub fn second_of(e: Edge) -> u8
-    ensures { λ r. ⌜ r ≡ secondIn e ⌝ }
+    ensures { λ r. ⌜ r ≡ secondNodeIn e ⌝ }
 {
     (e.code / 32 % 32) as u8
 }

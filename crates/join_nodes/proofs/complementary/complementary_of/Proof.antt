@@ -7,14 +7,14 @@ use lib.Dec.{T}
 use Rattle.switch.specs.Modules.{ModuleType}
 use Rattle.switch.specs.Blocks.{runningVerdict}
 use Rattle.switch.proofs.Blocks.{none-yet, one-block-more, block-fails, after-the-last}
-use Rattle.join_nodes.specs.Model.{typeIn}
+use Rattle.join_nodes.specs.Model.{typeInColumns}
 use Rattle.join_nodes.proofs.complementary.complementary_of.Statement.{statement}
 use Rattle.join_nodes.proofs.complementary.complementary_of.Tie as tie
 
 abbrev Inv-loop : tie.InvT-loop
 Inv-loop highest output labels c count settings block₀ block =
     (settings ≡ 2 ^ labels) × (settings ≤ 4096) × (64 * block < settings + 64)
-    × T (runningVerdict (typeIn highest output labels (c .firsts) (c .seconds) (c .gates) (c .count)) block)
+    × T (runningVerdict (typeInColumns highest output labels (c .firsts) (c .seconds) (c .gates) (c .count)) block)
 
 abbrev μ-loop : tie.MeasureT-loop
 μ-loop highest output labels c count settings block₀ block = settings - 64 * block
@@ -29,7 +29,7 @@ turn-of c = c .before .before .before .before .before .before
 abbrev type-of : tie.Start Inv-loop μ-loop → ModuleType
 type-of s =
     let a = s .args in
-    typeIn (a .highest) (a .output) (a .labels) (a .t1 .firsts) (a .t1 .seconds) (a .t1 .gates) (a .t1 .count)
+    typeInColumns (a .highest) (a .output) (a .labels) (a .t1 .firsts) (a .t1 .seconds) (a .t1 .gates) (a .t1 .count)
 
 settings-of-requires : tie.Need-settings-of-requires Inv-loop μ-loop
 settings-of-requires c κs = c .pre .labels
@@ -46,7 +46,7 @@ block-holds-requires c κs =
     (start turn .pre, omega (arith, turn .loop .inv .0))
 
 returns : tie.Need-returns Inv-loop μ-loop
-unfolding typeIn
+unfolding typeInColumns
 returns c =
     let told = c .before in
     let turn = turn-of told in
@@ -77,7 +77,7 @@ loop-again c =
     )
 
 returns-2 : tie.Need-returns-2 Inv-loop μ-loop
-unfolding typeIn
+unfolding typeInColumns
 returns-2 c =
     after-the-last
     (type-of (start (c .before)))

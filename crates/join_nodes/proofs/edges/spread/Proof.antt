@@ -47,7 +47,7 @@ use denote.Exit.{yes}
 use denote.Shadow.{shadow}
 use borrow.Struct.Items.{is-same}
 use Rattle.switch.specs.declared.Edge.{Edge}
-use Rattle.switch.specs.Records.{noEdge, firstIn, secondIn, gateIn}
+use Rattle.switch.specs.Records.{noEdge, firstNodeIn, secondNodeIn, gateIn}
 use Rattle.switch.proofs.Edge as T
 use Rattle.switch.proofs.Edge.Laws as T′
 use Rattle.join_nodes.specs.Model.{partsOf, column, columnsOf}
@@ -190,14 +190,14 @@ module _ {M : Type 1} (𝓤 : URA M) (H : Heap 𝓤) (A : Atoms 𝓤) (W : Given
 
   -- ---- the end
   abbrev made : ℕ → Columns
-  made i = record { count = i; firsts = column firstIn ys i; seconds = column secondIn ys i; gates = column gateIn ys i }
+  made i = record { count = i; firsts = column firstNodeIn ys i; seconds = column secondNodeIn ys i; gates = column gateIn ys i }
 
   abbrev val : ℕ → Val → Val → Val → Val
   val i va vb vg = vstruct (ofList (vint w64 i ∷ va ∷ vb ∷ vg ∷ []))
 
-  module _ (i : ℕ) (va vb vg : Val) (fits : i < 2 ^ 64) (isa : Is A256 (column firstIn ys i) (va ∷ [])) (isb : Is A256 (column secondIn ys i) (vb ∷ [])) (isg : Is A256 (column gateIn ys i) (vg ∷ [])) where
+  module _ (i : ℕ) (va vb vg : Val) (fits : i < 2 ^ 64) (isa : Is A256 (column firstNodeIn ys i) (va ∷ [])) (isb : Is A256 (column secondNodeIn ys i) (vb ∷ [])) (isg : Is A256 (column gateIn ys i) (vg ∷ [])) where
     made-is : Is R.the-row (made i) (val i va vb vg ∷ [])
-    made-is = ((vint w64 i ∷ [], (va ∷ [], (vb ∷ [], (vg ∷ [], tt)))), (refl, ((refl, fits), (as-field (column firstIn ys i) va isa, (as-field (column secondIn ys i) vb isb, (as-field (column gateIn ys i) vg isg, tt))))))
+    made-is = ((vint w64 i ∷ [], (va ∷ [], (vb ∷ [], (vg ∷ [], tt)))), (refl, ((refl, fits), (as-field (column firstNodeIn ys i) va isa, (as-field (column secondNodeIn ys i) vb isb, (as-field (column gateIn ys i) vg isg, tt))))))
 
     exits : made i ≡ columnsOf ys → ent 𝓤 (⋆ 𝓤 H A (Token ∷ ‵ Owns ∷ [])) (Post (val i va vb vg))
     exits e =
@@ -237,7 +237,7 @@ module _ {M : Type 1} (𝓤 : URA M) (H : Heap 𝓤) (A : Atoms 𝓤) (W : Given
 
     -- the locals of a turn, with the columns of the first i edges
     abbrev With : (edge test count parts : Fml) → ℕ → List (Item 𝓤) → List (Item 𝓤)
-    With edge test count parts i = Locals edge test count parts (fat fullShare word l₅ 0 (vint w64 i)) (row u8 fullShare (column gateIn ys i) l₄ 0) (row u8 fullShare (column secondIn ys i) l₃ 0) (row u8 fullShare (column firstIn ys i) l₂ 0)
+    With edge test count parts i = Locals edge test count parts (fat fullShare word l₅ 0 (vint w64 i)) (row u8 fullShare (column gateIn ys i) l₄ 0) (row u8 fullShare (column secondNodeIn ys i) l₃ 0) (row u8 fullShare (column firstNodeIn ys i) l₂ 0)
 
     abbrev Test : ℕ → Fml
     Test i = fat fullShare tyBool l₈ 0 (vbool (ltb i (length ys)))
@@ -268,18 +268,18 @@ module _ {M : Type 1} (𝓤 : URA M) (H : Heap 𝓤) (A : Atoms 𝓤) (W : Given
         assigns ! (addr ! (from ! (stop !))) (from ! (stop !)) (init ! 20 refl (tt, tt)) $
         assigns ! (bin ! (load ! (from ! (stop !)) (look ! 20 refl)) (load ! (from ! (stop !)) (look ! 30 refl)) tt) (from ! (stop !)) (init ! 18 refl (tt, tt)) $
         rewrite ! 18 (λ (n : ℕ). ‵ (fat fullShare tyPtr m₁ 0 (vptr l₂ n))) (sym (place-byte 0 (i .0))) refl $
-        move ! (36 ∷ []) $ elem-out ! u8 (Is u8) (shows 𝓤 H A u8) (uint-vals w8) (uint-tells w8) fullShare (column firstIn ys (i .0)) (i .0) 0 l₂ 0 (inside firstIn) (λ _.
+        move ! (36 ∷ []) $ elem-out ! u8 (Is u8) (shows 𝓤 H A u8) (uint-vals w8) (uint-tells w8) fullShare (column firstNodeIn ys (i .0)) (i .0) 0 l₂ 0 (inside firstNodeIn) (λ _.
         assigns ! (of-opd ! (load ! (from ! (fld ! refl (stop !))) (look-in ! 31 (sub ! 0 refl (whole !))))) (from ! (hop ! (look ! 21 refl) (stop !))) (store-raw ! 0 refl (tt, record { fits = its .0 .1 })) $
-        owned ! u8 (Is u8) (uint-makes 𝓤 H A W w8) (p .first) (vint w8 (p .first) ∷ []) (refl, its .0 .1) $ move ! (1 ∷ 0 ∷ 3 ∷ []) $ elem-put ! u8 fullShare (column firstIn ys (i .0)) (i .0) (p .first) (vint w8 (p .first) ∷ []) l₂ 0 (inside firstIn) $ move ! (1 ∷ []) $ drop ! $
-        rewrite ! 0 (λ (xs : List ℕ). ‵ (row u8 fullShare xs l₂ 0)) (column-more firstIn ys (i .0) (p .first) (omega (arith, h, few)) (ap (λ (r : Parts). r .first) told-p)) refl $
+        owned ! u8 (Is u8) (uint-makes 𝓤 H A W w8) (p .first) (vint w8 (p .first) ∷ []) (refl, its .0 .1) $ move ! (1 ∷ 0 ∷ 3 ∷ []) $ elem-put ! u8 fullShare (column firstNodeIn ys (i .0)) (i .0) (p .first) (vint w8 (p .first) ∷ []) l₂ 0 (inside firstNodeIn) $ move ! (1 ∷ []) $ drop ! $
+        rewrite ! 0 (λ (xs : List ℕ). ‵ (row u8 fullShare xs l₂ 0)) (column-more firstNodeIn ys (i .0) (p .first) (omega (arith, h, few)) (ap (λ (r : Parts). r .first) told-p)) refl $
         -- [the first column; what the parts own; …]
         assigns ! (addr ! (from ! (stop !))) (from ! (stop !)) (init ! 17 refl (tt, tt)) $
         assigns ! (bin ! (load ! (from ! (stop !)) (look ! 17 refl)) (load ! (from ! (stop !)) (look ! 31 refl)) tt) (from ! (stop !)) (init ! 15 refl (tt, tt)) $
         rewrite ! 15 (λ (n : ℕ). ‵ (fat fullShare tyPtr m₃ 0 (vptr l₃ n))) (sym (place-byte 0 (i .0))) refl $
-        move ! (35 ∷ []) $ elem-out ! u8 (Is u8) (shows 𝓤 H A u8) (uint-vals w8) (uint-tells w8) fullShare (column secondIn ys (i .0)) (i .0) 0 l₃ 0 (inside secondIn) (λ _.
+        move ! (35 ∷ []) $ elem-out ! u8 (Is u8) (shows 𝓤 H A u8) (uint-vals w8) (uint-tells w8) fullShare (column secondNodeIn ys (i .0)) (i .0) 0 l₃ 0 (inside secondNodeIn) (λ _.
         assigns ! (of-opd ! (load ! (from ! (fld ! refl (stop !))) (look-in ! 32 (sub ! 1 refl (whole !))))) (from ! (hop ! (look ! 18 refl) (stop !))) (store-raw ! 0 refl (tt, record { fits = its .1 .0 .1 })) $
-        owned ! u8 (Is u8) (uint-makes 𝓤 H A W w8) (p .second) (vint w8 (p .second) ∷ []) (refl, its .1 .0 .1) $ move ! (1 ∷ 0 ∷ 3 ∷ []) $ elem-put ! u8 fullShare (column secondIn ys (i .0)) (i .0) (p .second) (vint w8 (p .second) ∷ []) l₃ 0 (inside secondIn) $ move ! (1 ∷ []) $ drop ! $
-        rewrite ! 0 (λ (xs : List ℕ). ‵ (row u8 fullShare xs l₃ 0)) (column-more secondIn ys (i .0) (p .second) (omega (arith, h, few)) (ap (λ (r : Parts). r .second) told-p)) refl $
+        owned ! u8 (Is u8) (uint-makes 𝓤 H A W w8) (p .second) (vint w8 (p .second) ∷ []) (refl, its .1 .0 .1) $ move ! (1 ∷ 0 ∷ 3 ∷ []) $ elem-put ! u8 fullShare (column secondNodeIn ys (i .0)) (i .0) (p .second) (vint w8 (p .second) ∷ []) l₃ 0 (inside secondNodeIn) $ move ! (1 ∷ []) $ drop ! $
+        rewrite ! 0 (λ (xs : List ℕ). ‵ (row u8 fullShare xs l₃ 0)) (column-more secondNodeIn ys (i .0) (p .second) (omega (arith, h, few)) (ap (λ (r : Parts). r .second) told-p)) refl $
         assigns ! (addr ! (from ! (stop !))) (from ! (stop !)) (init ! 14 refl (tt, tt)) $
         assigns ! (bin ! (load ! (from ! (stop !)) (look ! 14 refl)) (load ! (from ! (stop !)) (look ! 32 refl)) tt) (from ! (stop !)) (init ! 12 refl (tt, tt)) $
         rewrite ! 12 (λ (n : ℕ). ‵ (fat fullShare tyPtr m₅ 0 (vptr l₄ n))) (sym (place-byte 0 (i .0))) refl $
@@ -319,18 +319,18 @@ module _ {M : Type 1} (𝓤 : URA M) (H : Heap 𝓤) (A : Atoms 𝓤) (W : Given
     leaves i e =
         let fits : i .0 < 2 ^ 64 = omega (arith, e, few) in
         forget ! 20 refl $ forget ! 22 refl $
-        move ! (32 ∷ []) $ feqI ! ℕ (length (column firstIn ys (i .0))) 256 (column-long firstIn ys (i .0)) $ fjoin ! $
-        use1 W (some (λ (y : Val). ‵ (fat fullShare array l₂ 0 y) ⊛ ‵ (A256 .own (column firstIn ys (i .0)) (y ∷ [])))) (array-of 𝓤 H A W u8 256 l₂ 0 (column firstIn ys (i .0))) $ pick ! (λ va. split ! $ move ! (1 ∷ []) $
-        peeks ! A256 (Is A256) (shows 𝓤 H A A256) (column firstIn ys (i .0)) (va ∷ []) (λ isa.
-        move ! (32 ∷ []) $ feqI ! ℕ (length (column secondIn ys (i .0))) 256 (column-long secondIn ys (i .0)) $ fjoin ! $
-        use1 W (some (λ (y : Val). ‵ (fat fullShare array l₃ 0 y) ⊛ ‵ (A256 .own (column secondIn ys (i .0)) (y ∷ [])))) (array-of 𝓤 H A W u8 256 l₃ 0 (column secondIn ys (i .0))) $ pick ! (λ vb. split ! $ move ! (1 ∷ []) $
-        peeks ! A256 (Is A256) (shows 𝓤 H A A256) (column secondIn ys (i .0)) (vb ∷ []) (λ isb.
+        move ! (32 ∷ []) $ feqI ! ℕ (length (column firstNodeIn ys (i .0))) 256 (column-long firstNodeIn ys (i .0)) $ fjoin ! $
+        use1 W (some (λ (y : Val). ‵ (fat fullShare array l₂ 0 y) ⊛ ‵ (A256 .own (column firstNodeIn ys (i .0)) (y ∷ [])))) (array-of 𝓤 H A W u8 256 l₂ 0 (column firstNodeIn ys (i .0))) $ pick ! (λ va. split ! $ move ! (1 ∷ []) $
+        peeks ! A256 (Is A256) (shows 𝓤 H A A256) (column firstNodeIn ys (i .0)) (va ∷ []) (λ isa.
+        move ! (32 ∷ []) $ feqI ! ℕ (length (column secondNodeIn ys (i .0))) 256 (column-long secondNodeIn ys (i .0)) $ fjoin ! $
+        use1 W (some (λ (y : Val). ‵ (fat fullShare array l₃ 0 y) ⊛ ‵ (A256 .own (column secondNodeIn ys (i .0)) (y ∷ [])))) (array-of 𝓤 H A W u8 256 l₃ 0 (column secondNodeIn ys (i .0))) $ pick ! (λ vb. split ! $ move ! (1 ∷ []) $
+        peeks ! A256 (Is A256) (shows 𝓤 H A A256) (column secondNodeIn ys (i .0)) (vb ∷ []) (λ isb.
         move ! (32 ∷ []) $ feqI ! ℕ (length (column gateIn ys (i .0))) 256 (column-long gateIn ys (i .0)) $ fjoin ! $
         use1 W (some (λ (y : Val). ‵ (fat fullShare array l₄ 0 y) ⊛ ‵ (A256 .own (column gateIn ys (i .0)) (y ∷ [])))) (array-of 𝓤 H A W u8 256 l₄ 0 (column gateIn ys (i .0))) $ pick ! (λ vg. split ! $ move ! (1 ∷ []) $
         peeks ! A256 (Is A256) (shows 𝓤 H A A256) (column gateIn ys (i .0)) (vg ∷ []) (λ isg.
         -- [what the columns own and their locals, the last first; _18; …]
-        assigns ! (of-opd ! (load ! (from ! (stop !)) (look ! 5 refl))) (from ! (stop !)) (init ! 10 refl (array-lawful 𝓤 H A W u8 (uint-lawful 𝓤 H A W w8) 256 .typed (column firstIn ys (i .0)) _ isa .0)) $
-        assigns ! (of-opd ! (load ! (from ! (stop !)) (look ! 3 refl))) (from ! (stop !)) (init ! 8 refl (array-lawful 𝓤 H A W u8 (uint-lawful 𝓤 H A W w8) 256 .typed (column secondIn ys (i .0)) _ isb .0)) $
+        assigns ! (of-opd ! (load ! (from ! (stop !)) (look ! 5 refl))) (from ! (stop !)) (init ! 10 refl (array-lawful 𝓤 H A W u8 (uint-lawful 𝓤 H A W w8) 256 .typed (column firstNodeIn ys (i .0)) _ isa .0)) $
+        assigns ! (of-opd ! (load ! (from ! (stop !)) (look ! 3 refl))) (from ! (stop !)) (init ! 8 refl (array-lawful 𝓤 H A W u8 (uint-lawful 𝓤 H A W w8) 256 .typed (column secondNodeIn ys (i .0)) _ isb .0)) $
         assigns ! (of-opd ! (load ! (from ! (stop !)) (look ! 1 refl))) (from ! (stop !)) (init ! 6 refl (array-lawful 𝓤 H A W u8 (uint-lawful 𝓤 H A W w8) 256 .typed (column gateIn ys (i .0)) _ isg .0)) $
         assigns ! (agg ! (and-then ! (load ! (from ! (stop !)) (look ! 32 refl)) (and-then ! (load ! (from ! (stop !)) (look ! 10 refl)) (and-then ! (load ! (from ! (stop !)) (look ! 8 refl)) (and-then ! (load ! (from ! (stop !)) (look ! 6 refl)) (no-more !)))))) (from ! (stop !))
         (init ! 39 refl (LL.lawful R.the-type R′.the-laws 𝓤 H A W .typed (made (i .0)) _ (made-is (i .0) va vb vg fits isa isb isg) .0)) $
@@ -357,9 +357,9 @@ module _ {M : Type 1} (𝓤 : URA M) (H : Heap 𝓤) (A : Atoms 𝓤) (W : Given
     begins is =
         assigns ! (of-opd ! (lit ! tt)) (from ! (stop !)) (init ! 26 refl (tt, record { fits = lit< tt })) $
         owned ! A256 (Is A256) (array-makes 𝓤 H A W u8 (uint-makes 𝓤 H A W w8) 256) (replicate 256 0) ((arrayVal (replicate 256 (vint w8 0))) ∷ []) is $ move ! (33 ∷ 0 ∷ []) $ use2 W (‵ (arr-parts (shares u8) 256 .part fullShare (replicate 256 0) l₂ 0)) (elements-of 𝓤 H A W u8 256 l₂ 0 (replicate 256 0) tt (arrayVal (replicate 256 (vint w8 0)))) $ fsplit ! $ drop ! $
-        rewrite ! 0 (λ (xs : List ℕ). ‵ (row u8 fullShare xs l₂ 0)) (column-none firstIn ys) refl $
+        rewrite ! 0 (λ (xs : List ℕ). ‵ (row u8 fullShare xs l₂ 0)) (column-none firstNodeIn ys) refl $
         owned ! A256 (Is A256) (array-makes 𝓤 H A W u8 (uint-makes 𝓤 H A W w8) 256) (replicate 256 0) ((arrayVal (replicate 256 (vint w8 0))) ∷ []) is $ move ! (32 ∷ 0 ∷ []) $ use2 W (‵ (arr-parts (shares u8) 256 .part fullShare (replicate 256 0) l₃ 0)) (elements-of 𝓤 H A W u8 256 l₃ 0 (replicate 256 0) tt (arrayVal (replicate 256 (vint w8 0)))) $ fsplit ! $ drop ! $
-        rewrite ! 0 (λ (xs : List ℕ). ‵ (row u8 fullShare xs l₃ 0)) (column-none secondIn ys) refl $
+        rewrite ! 0 (λ (xs : List ℕ). ‵ (row u8 fullShare xs l₃ 0)) (column-none secondNodeIn ys) refl $
         owned ! A256 (Is A256) (array-makes 𝓤 H A W u8 (uint-makes 𝓤 H A W w8) 256) (replicate 256 0) ((arrayVal (replicate 256 (vint w8 0))) ∷ []) is $ move ! (31 ∷ 0 ∷ []) $ use2 W (‵ (arr-parts (shares u8) 256 .part fullShare (replicate 256 0) l₄ 0)) (elements-of 𝓤 H A W u8 256 l₄ 0 (replicate 256 0) tt (arrayVal (replicate 256 (vint w8 0)))) $ fsplit ! $ drop ! $
         rewrite ! 0 (λ (xs : List ℕ). ‵ (row u8 fullShare xs l₄ 0)) (column-none gateIn ys) refl $
         move ! (39 ∷ []) $ fsplit ! $ use1 W (‵ Own ⊛ ‵ Own) (shr-slice-copy 𝓤 H A W (named 0) κ T.the-row .twice s (v ∷ [])) $ split ! $ move ! (1 ∷ 2 ∷ []) $ fjoin ! $

@@ -41,7 +41,7 @@ use Rattle.switch.specs.declared.Rails.{Rails}
 use Rattle.switch.proofs.Edge as T
 use Rattle.switch.proofs.Rails as Q
 use Rattle.switch.proofs.Rails.Laws as Q′
-use Rattle.join_nodes.specs.Model.{edgesIn, RailsTold, ColumnsFit}
+use Rattle.join_nodes.specs.Model.{edgesInColumns, RailsTold, ColumnsFit}
 use Rattle.join_nodes.specs.declared.Columns.{Columns}
 use Rattle.join_nodes.proofs.Columns as R
 use Rattle.join_nodes.proofs.Columns.Laws as R′
@@ -136,7 +136,7 @@ module _ {M : Type 1} (𝓤 : URA M) (H : Heap 𝓤) (A : Atoms 𝓤) (W : Model
       owned ! u8 (Is u8) (uint-makes 𝓤 H A W w8) hi _ (refl, ghi) $ fjoin ! $ move ! (1 ∷ 0 ∷ []) $ fjoin ! $ move ! (1 ∷ 0 ∷ []) $ done !
 
   abbrev Says : Columns → Rails → Type 0
-  Says c r = RailsTold (edgesIn (c .firsts) (c .seconds) (c .gates) (c .count)) (now ones) (now zeros) r
+  Says c r = RailsTold (edgesInColumns (c .firsts) (c .seconds) (c .gates) (c .count)) (now ones) (now zeros) r
 
   abbrev Said : Columns → Rails → SProp 𝓤
   Said c r = ensured 𝓤 H A work.ended (work.clauses 𝓤 H A mem run) (κ₁, (κ₂, tt)) (c, (hi, (ones, (zeros, tt)))) tt r

@@ -19,7 +19,7 @@ use Rattle.read_fields.specs.declared.Next.{Next}
 use Rattle.read_fields.specs.declared.Next.the-variants.{Found}
 use Rattle.read_fields.proofs.Bodies.{length-body}
 use Rattle.read_fields.proofs.Turns.{kept-found, kept-other}
-use Rattle.read_types.specs.EdgeTurns.{edgesKept, placed, listWith, CodesFit, EdgesNext}
+use Rattle.read_types.specs.EdgeTurns.{edgesKept, placed, listWith, EdgeCodesFit, EdgesNext}
 use Rattle.read_types.proofs.edges.EdgeList as E
 use Rattle.read_types.proofs.edges.EdgeList.Laws as E′
 use Rattle.read_types.proofs.edges.with_found.Statement.{statement}
@@ -37,7 +37,7 @@ unfolding placed
 one-more edges es count j e h is =
     let next : count + (j + 1) ≡ suc (count + j) = omega arith in rw (drop-cons es j noEdge h, next, add-one j, is)
 
-fits : (file : List ℕ) (count : ℕ) (n : Next) (f : FieldRecord) → n ≡ Found f → EdgesNext file count n → CodesFit file f × (count + (f .len - 2) ≤ mostEdges)
+fits : (file : List ℕ) (count : ℕ) (n : Next) (f : FieldRecord) → n ≡ Found f → EdgesNext file count n → EdgeCodesFit file f × (count + (f .len - 2) ≤ mostEdges)
 unfolding EdgesNext
 fits file count n f e is = rw e at is
 
@@ -51,7 +51,7 @@ abbrev μ-loop : tie.MeasureT-loop
 
 -- the field that was found, and what holds of it
 here : (c : tie.After-found Inv-loop μ-loop) → let a = c .before .before .before .args in let f = c .found .given .0 .0 in
-    CodesFit (a .file .now) f × (a .list .count + (f .len - 2) ≤ mostEdges)
+    EdgeCodesFit (a .file .now) f × (a .list .count + (f .len - 2) ≤ mostEdges)
 here c =
     let start = c .before .before .before in
     let f = c .found .given in

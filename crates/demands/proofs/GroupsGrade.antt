@@ -1,13 +1,13 @@
 -- Groups and their edges conduct alike, so a circuit is graded by its types' groups as by their edges (specs/SingleTransistors). Assumes nothing.
 use Prim.Native.Nat.{ℕ, zero, suc, _^_}
 use mathlib.Core.Path.{_≡_, refl, sym, ap, _∙_, fun-ext}
-use mathlib.Core.Bool.{Bool, true, false, cond, not, _&&_, _||_, Bool·beq}
+use mathlib.Core.Bool.{Bool, true, false}
 use mathlib.Core.List.{List, [], _∷_, _++_, map, List·Memᴰ·head, List·Memᴰ·tail}
-use lib.Dec.{T, eqb, ltb}
+use lib.Dec.{T}
 use lib.ListN.{length, getD, List·getD-map}
-use Rattle.words.specs.Bits.{ofBool, sumTo}
+use Rattle.words.specs.Bits.{ofBool}
 use Rattle.words.specs.Rows.{rowOf}
-use Rattle.switch.specs.Conduction.{Value, at0, at1, atX, Edge, Switching, byValues, links, Link, Among, ground, supply}
+use Rattle.switch.specs.Conduction.{Value, Edge, Switching, byValues, links, Link, Among, ground, supply}
 use Rattle.switch.specs.Modules.{ModuleType, linksOf, settingOf}
 use Rattle.switch.specs.Bridges.{closing}
 use Rattle.switch.specs.Deciding.{joins, allBelow, oneRail, isComplementary, levelIn, isMarked}
@@ -20,8 +20,8 @@ use Rattle.grading.specs.Values.{labelValues, outputsAfter, outputsOf}
 use Rattle.grading.specs.Rows.{Row, noInstance, rowsOf, rowValues, cell, markOf}
 use Rattle.grading.specs.Classes.{sameClass, classesBy, hasMarkBy, classFoundBy, foundBy}
 use Rattle.grading.proofs.Everywhere.{Every}
-use Rattle.grading.proofs.RowsPlaced.{Placed, rows-placed}
-use Rattle.demands.specs.Graders.{Work, workBy, rightWork}
+use Rattle.grading.proofs.RowsPlaced.{rows-placed}
+use Rattle.demands.specs.Graders.{workBy, rightWork}
 use Rattle.demands.specs.SingleTransistors.{groupsComplementary, instanceLinks, groupsOutputs, groupsMark, groupsWork}
 
 -- ---- what is joined

@@ -1,14 +1,14 @@
 -- 01's reading by groups and today's, field by field: as long as no limit of 01 is passed, each test tells the same and each type has the edges of its groups
 -- (specs/SingleTransistors). Assumes nothing.
 use Prim.Native.Nat.{ℕ, zero, suc, _+_, _-_, _*_, _≤_, _<_}
-use mathlib.Core.Path.{_≡_, refl, sym, ap, subst, _∙_}
+use mathlib.Core.Path.{_≡_, refl, sym, ap, _∙_}
 use mathlib.Core.Bool.{Bool, true, false, cond, not, _&&_}
 use mathlib.Core.Logic.{_⊎_, inl, inr}
 use mathlib.Core.List.{List, [], _∷_, _++_, map, map-append, append-assoc, append-nil}
 use native.Mathlib.Decide.{decLt}
 use native.Mathlib.Omega.{arith}
 use borrow.Author.Tests.{leb-false, le-ltb}
-use lib.Dec.{T, eqb, leb, ltb}
+use lib.Dec.{leb, ltb}
 use lib.ListN.{length, getD, drop, set, length-append, length-map, length-set, List·getD-eq-default}
 use lib.Seq.{getD-append-seam, getD-set-same}
 use Rattle.switch.specs.Conduction.{Edge, edgesFor, channelOf, between, badEnds}
@@ -17,15 +17,15 @@ use Rattle.switch.specs.Deciding.{isComplementary}
 use Rattle.switch.specs.Grouped.{Group, ofGroups}
 use Rattle.switch.proofs.Channels.{in-between}
 use Rattle.circuit.specs.Fields.{Field, Cut, clean, broken, field}
-use Rattle.circuit.specs.Circuit.{Circuit, noType}
-use Rattle.circuit.specs.Order.{Tag, inputs-tag, type-tag, edge-tag, bridge-tag, instance-tag, vector-tag, no-tag, tagOf, isKind, isEdge, isUnknown, Previous}
+use Rattle.circuit.specs.Circuit.{noType}
+use Rattle.circuit.specs.Order.{Tag, inputs-tag, type-tag, edge-tag, bridge-tag, instance-tag, vector-tag, no-tag, tagOf, isKind, isEdge}
 use Rattle.circuit.specs.Known.{Known, knownAfter, latest, typeIn, edgesIn, withEdges, edgesAdded, taken}
-use Rattle.circuit.specs.Table.{Test, test, Verdict, passes, refusedAt, firstOf, misplaced, unjudged, notComplementary, edgesInRange, bodyTests, fieldTests, endTests}
-use Rattle.circuit.specs.Table.{inputsTests, typeTests, edgeTests, edgeTestsOf, bridgeTests, instanceTests, instanceTestsOf, vectorTests}
+use Rattle.circuit.specs.Table.{Verdict, passes, refusedAt, firstOf, misplaced, unjudged, notComplementary, edgesInRange, bodyTests, fieldTests, endTests}
+use Rattle.circuit.specs.Table.{edgeTests, edgeTestsOf}
 use Rattle.circuit.specs.Reading.{Reading, accepted, refusal, unless, readFrom}
 use Rattle.circuit.proofs.OrderLaws.{kind-is}
 use Rattle.circuit.proofs.Verdicts.{first-passes}
-use Rattle.circuit.proofs.TypeLaws.{accepts, EdgesPass, edges-pass, length-edges-in}
+use Rattle.circuit.proofs.TypeLaws.{accepts, edges-pass, length-edges-in}
 use Rattle.demands.specs.SingleTransistors.{groupIn, groupsComplementary, GroupsKnown, latestGroups, groupAdded, groupsWith, groupsAfter, groupTests, groupsFailing}
 use Rattle.demands.specs.SingleTransistors.{groupsFieldTests, groupsEndTests, GroupsReading, accepted-with, refused-with, unlessRefused, groupsReadFrom, FieldOf}
 use Rattle.demands.proofs.GroupsGrade.{Aligned, edges-at, complementary-alike}

@@ -4,7 +4,7 @@ use Prim.Native.Nat.{ℕ, _*_, _<_, _≤_}
 use mathlib.Core.Path.{_≡_, refl, sym, ap, subst, _∙_}
 use mathlib.Core.Bool.{Bool, true, false, cond}
 use mathlib.Core.Logic.{_⊎_, inl, inr}
-use mathlib.Core.List.{List, [], _∷_, map}
+use mathlib.Core.List.{List, [], _∷_}
 use native.Mathlib.Omega.{arith}
 use borrow.Author.Needs.{needs}
 use borrow.Author.Tests.{ltb-true, ltb-false, lt-ltb, le-ltb, eqb-true, eqb-false}
@@ -13,21 +13,21 @@ use lib.ListN.{length}
 use Rattle.switch.specs.Grouped.{Group}
 use Rattle.circuit.specs.Limits.{mostBytes}
 use Rattle.circuit.specs.Fields.{Field, Cut, clean, broken, field, cutFrom}
-use Rattle.circuit.specs.Circuit.{Circuit, noType}
+use Rattle.circuit.specs.Circuit.{Circuit}
 use Rattle.circuit.specs.Order.{Tag, inputs-tag, type-tag, edge-tag, bridge-tag, instance-tag, vector-tag, no-tag, tagOf}
 use Rattle.circuit.specs.Known.{Known, start, knownAfter, latest}
-use Rattle.circuit.specs.Table.{Test, Verdict, passes, refusedAt, firstOf, bodyTests, fieldTests, endTests}
+use Rattle.circuit.specs.Table.{Test, refusedAt, firstOf, bodyTests, fieldTests, endTests}
 use Rattle.circuit.specs.Table.{inputsTests, typeTests, edgeTests, edgeTestsOf, bridgeTests, instanceTests, instanceTestsOf, vectorTests}
 use Rattle.circuit.specs.Reading.{Reading, accepted, refusal, unless, readFrom, readingWith, readingOf}
 use Rattle.grading.specs.Buffers.{Buffers, Room, roomOf}
 use Rattle.grading.specs.Rows.{rowsOf}
-use Rattle.grading.specs.Grading.{Grading, graded, refused, gradingOf, gradingOfCircuit, afterReading, numberIn, placeIn}
+use Rattle.grading.specs.Grading.{graded, refused, gradingOf, gradingOfCircuit, afterReading, numberIn, placeIn}
 use Rattle.grading.specs.Promise.{numberOf, placeOf}
 use Rattle.circuit.specs.Refusals.{refusalNumber, refusalPlace}
 use Rattle.demands.specs.Calls.{Kept}
 use Rattle.demands.specs.Graders.{Outcome, called, refusalOf, refusing, outcomeOf, rightWork, rightly, gradesBy}
 use Rattle.demands.specs.SingleTransistors.{latestGroups, groupsStart, GroupsReading, accepted-with, refused-with, groupsReadFrom, groupsReading, groupsWork}
-use Rattle.demands.specs.SingleTransistors.{groupsOutcome, groupwise, EdgeFieldOf, Changed, longer, more-edges, AnsweredAsBefore, AcceptedAsBefore}
+use Rattle.demands.specs.SingleTransistors.{groupsOutcome, groupwise, Changed, longer, more-edges, AnsweredAsBefore, AcceptedAsBefore}
 use Rattle.demands.proofs.GroupsGrade.{Aligned, work-alike}
 use Rattle.demands.proofs.GroupsRead.{Along, ReadAlike, OneTooMany, read-alike}
 use Rattle.demands.proofs.RightProof.{rightly-is-right}

@@ -7,7 +7,7 @@ use mathlib.Core.Logic.{_⊎_, inl, inr, ⊎-elim}
 use mathlib.Core.List.{List, [], _∷_, _++_, Memᴰ·append-left, Memᴰ·append-right, List·Memᴰ·append-cases}
 use mathlib.Core.List.{List·Memᴰ·head, List·Memᴰ·tail, List·Memᴰ·cases-cons, List·Memᴰ·not-nil}
 use lib.Dec.{T}
-use Rattle.switch.specs.Conduction.{Channel, Edge, edgesFor, Switching, edgeOn, links, Link, Among, LinkPath, here, forth, back}
+use Rattle.switch.specs.Conduction.{Channel, Edge, edgesFor, Switching, edgeOn, links, Link, Among, here, forth, back}
 use Rattle.switch.specs.Grouped.{Group, anyOf, groupOn, groupLinks, ofGroups, pathLength, PathsAlike, GroupsLinkAlike}
 
 module _ (on : Switching) where

@@ -11,7 +11,7 @@ use lib.Dec.{T}
 use lib.ListN.{length, getD}
 use Rattle.words.specs.Bits.{bit}
 use Rattle.words.proofs.Laws.{bit-not}
-use Rattle.switch.specs.Conduction.{Value, at0, at1, atX, Channel, p-channel, n-channel, Edge, transistorOn, Switching, byValues}
+use Rattle.switch.specs.Conduction.{Value, at0, at1, atX, Channel, p-channel, n-channel, Edge, transistorOn, Switching}
 use Rattle.switch.specs.Conduction.{edgeOn, links, Link, Among, Joined}
 use Rattle.switch.specs.Statements.{Within, MoreOnMoreJoined, WordAt, Excluding, possibly, SureIsPossible}
 use Rattle.switch.specs.Records.{isSet, complement, byPlanes}

@@ -8,7 +8,7 @@ use mathlib.Core.Logic.{_⊎_, inl, inr, _↔_}
 use mathlib.Core.List.{List, [], _∷_, List·Memᴰ·head, List·Memᴰ·tail, List·Memᴰ·cases-cons, List·Memᴰ·not-nil}
 use lib.Dec.{T, leb, ltb, ltb→lt}
 use lib.ListN.{length, getD}
-use Rattle.switch.specs.Conduction.{Value, Edge, Channel, n-channel, Link, Among, Joined, here, forth, back, between}
+use Rattle.switch.specs.Conduction.{Value, Edge, Channel, n-channel, Link, Among, Joined, here, forth, back}
 use Rattle.switch.specs.Conduction.{transistorOn, Switching, byValues, edgeOn, links}
 use Rattle.switch.specs.Modules.{ModuleType, allOf, typeInRange, edgeInRange, inRange, linksOf}
 use Rattle.switch.specs.Statements.{JoinedIsEquivalence, MoreLinks}

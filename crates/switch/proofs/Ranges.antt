@@ -6,7 +6,7 @@ use mathlib.Core.Path.{_≡_, ap, subst, _∙_}
 use mathlib.Core.Bool.{Bool, _&&_}
 use mathlib.Core.List.{List, [], _∷_}
 use lib.Dec.{T, leb, ltb, leb→le, ltb→lt}
-use lib.ListN.{length, getD, take, List·getD-map}
+use lib.ListN.{getD, take, List·getD-map}
 use lib.Seq.{getD-take}
 use Rattle.switch.specs.Conduction.{Channel, p-channel, n-channel, Edge, between}
 use Rattle.switch.specs.Modules.{allOf, typeInRange, edgeInRange, inRange}

@@ -8,7 +8,7 @@ use Rattle.program_grade.proofs.main.Tie as tie
 
 abbrev Inv-loop : tie.InvT-loop
 Inv-loop out₀ file₀ matrix₀ classes₀ output₀ count i₀ out file matrix classes output i =
-    (length out ≡ 65536) × (length file ≡ 32769) × (length matrix ≡ 8192) × (length classes ≡ 2048)
+    (length out ≡ 65536) × (length file ≡ 57345) × (length matrix ≡ 8192) × (length classes ≡ 2048)
 
 abbrev μ-loop : tie.MeasureT-loop
 μ-loop out₀ file₀ matrix₀ classes₀ output₀ count i₀ out file matrix classes output i = count - i

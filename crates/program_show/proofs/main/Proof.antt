@@ -8,7 +8,7 @@ use Rattle.program_show.proofs.main.Tie as tie
 
 abbrev Inv-loop : tie.InvT-loop
 Inv-loop out₀ file₀ output₀ count i₀ out file output i =
-    (length out ≡ 65536) × (length file ≡ 32769)
+    (length out ≡ 65536) × (length file ≡ 57345)
 
 abbrev μ-loop : tie.MeasureT-loop
 μ-loop out₀ file₀ output₀ count i₀ out file output i = count - i

@@ -131,7 +131,7 @@ length-for a b c (l ∷ ls) = ap suc (length-for a b c ls)
 
 pub length-edges-in : (o : ℕ) (body : List ℕ) → length (edgesIn o body) ≡ length body - 2
 unfolding edgesIn
-length-edges-in o body = length-for (getD body 0 0) (getD body 1 0) (channelOf o (getD body 0 0) (getD body 1 0)) (drop 2 body) ∙ length-drop 2 body
+length-edges-in o body = length-for _ _ _ _ ∙ length-drop 2 body
 
 -- what holds of an edge with each of the labels holds of all of them
 pub all-for : (test : Edge → Bool) (a b : ℕ) (c : Channel) (label : ℕ → Bool)

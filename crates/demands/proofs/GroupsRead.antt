@@ -26,7 +26,7 @@ use Rattle.circuit.specs.Reading.{Reading, accepted, refusal, unless, readFrom}
 use Rattle.circuit.proofs.OrderLaws.{kind-is}
 use Rattle.circuit.proofs.Verdicts.{first-passes}
 use Rattle.circuit.proofs.TypeLaws.{accepts, edges-pass, length-edges-in}
-use Rattle.demands.specs.SingleTransistors.{groupIn, groupsComplementary, GroupsKnown, latestGroups, groupAdded, groupsWith, groupsAfter, groupTests, groupsFailing}
+use Rattle.demands.specs.SingleTransistors.{mostGroups, groupIn, groupsComplementary, GroupsKnown, latestGroups, groupAdded, groupsWith, groupsAfter, groupTests, groupsFailing}
 use Rattle.demands.specs.SingleTransistors.{groupsFieldTests, groupsEndTests, GroupsReading, accepted-with, refused-with, unlessRefused, groupsReadFrom, FieldOf}
 use Rattle.demands.proofs.GroupsGrade.{Aligned, edges-at, complementary-alike}
 
@@ -167,11 +167,11 @@ module _ (k : GroupsKnown) (along : Along (k .known .circuit .types) (k .groups)
   before = k .known
 
   -- an edge field that is not one too many by 01's rule is not so by today's
-  fits-still : not (between 3 6 (length (f .body))) ≡ false → leb 64 (length (latestGroups (k .groups))) ≡ false
+  fits-still : not (between 3 6 (length (f .body))) ≡ false → leb mostGroups (length (latestGroups (k .groups))) ≡ false
       → ltb mostEdges (length (latest (before .circuit .types) .edges) + (length (f .body) - 2)) ≡ false
   fits-still five old =
       let size = in-between 3 6 (length (f .body)) (accepts (between 3 6 (length (f .body))) five) in
-      let few = leb-false 64 (length (latestGroups (k .groups))) old in
+      let few = leb-false mostGroups (length (latestGroups (k .groups))) old in
       le-ltb mostEdges (length (latest (before .circuit .types) .edges) + (length (f .body) - 2)) (omega (arith, along .few, size .1))
 
   abbrev Alike : Type 0
@@ -185,7 +185,7 @@ module _ (k : GroupsKnown) (along : Along (k .known .circuit .types) (k .groups)
       rw e
       (told
       (edge-verdicts (unjudged (before .previous)) (misplaced (before .previous) edge-tag) (notComplementary (before .circuit .types)) (not (between 3 6 (length (f .body))))
-      (leb 64 (length (latestGroups (k .groups)))) (ltb mostEdges (length (t .edges) + (length (f .body) - 2))) (f .at) (before .typeAt)
+      (leb mostGroups (length (latestGroups (k .groups)))) (ltb mostEdges (length (t .edges) + (length (f .body) - 2))) (f .at) (before .typeAt)
       (groupsFailing k)
       (cond (not (edgesInRange (t .highest) (t .labels) (f .body))) (refusedAt 7 (f .at))
       (cond (badEnds (t .highest) (t .output) (getD (f .body) 0 0) (getD (f .body) 1 0)) (refusedAt 8 (f .at)) passes))

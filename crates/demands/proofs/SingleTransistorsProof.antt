@@ -26,7 +26,7 @@ use Rattle.grading.specs.Promise.{numberOf, placeOf}
 use Rattle.circuit.specs.Refusals.{refusalNumber, refusalPlace}
 use Rattle.demands.specs.Calls.{Kept}
 use Rattle.demands.specs.Graders.{Outcome, called, refusalOf, refusing, outcomeOf, rightWork, rightly, gradesBy}
-use Rattle.demands.specs.SingleTransistors.{latestGroups, groupsStart, GroupsReading, accepted-with, refused-with, groupsReadFrom, groupsReading, groupsWork}
+use Rattle.demands.specs.SingleTransistors.{bytesBefore, latestGroups, groupsStart, GroupsReading, accepted-with, refused-with, groupsReadFrom, groupsReading, groupsWork}
 use Rattle.demands.specs.SingleTransistors.{groupsOutcome, groupwise, Changed, longer, more-edges, AnsweredAsBefore, AcceptedAsBefore}
 use Rattle.demands.proofs.GroupsGrade.{Aligned, work-alike}
 use Rattle.demands.proofs.GroupsRead.{Along, ReadAlike, OneTooMany, read-alike}
@@ -69,15 +69,15 @@ today-is : (file : List ℕ) → length file ≤ mostBytes → readingOf file �
 unfolding readingWith
 today-is file fits = rw (le-ltb mostBytes (length file) fits)
 
-then-is : (file : List ℕ) → ltb 32768 (length file) ≡ false → groupsReading file ≡ then file
+then-is : (file : List ℕ) → ltb bytesBefore (length file) ≡ false → groupsReading file ≡ then file
 unfolding groupsReading
 then-is file short = rw short
 
 both-read : (file : List ℕ) → ReadAlike (today file) (then file) ⊎ OneTooMany (cutFrom file 0) (then file)
 both-read file = read-alike (length file) groupsStart nothing-known (cutFrom file 0)
 
-within : (file : List ℕ) → ltb 32768 (length file) ≡ false → length file ≤ mostBytes
-within file short = omega (arith, ltb-false 32768 (length file) short)
+within : (file : List ℕ) → ltb bytesBefore (length file) ≡ false → length file ≤ mostBytes
+within file short = omega (arith, ltb-false bytesBefore (length file) short)
 
 -- ---- as before
 
@@ -111,7 +111,7 @@ module _ (file : List ℕ) (before : Buffers) where
   AsBefore = Kept (called groupwise file before) ⊎ Changed file
 
   -- no limit of before is passed by the file's length
-  module _ (short : ltb 32768 (length file) ≡ false) where
+  module _ (short : ltb bytesBefore (length file) ≡ false) where
     read-kept : ReadAlike (today file) (then file) → Kept (called groupwise file before)
     unfolding rightly gradesBy gradingOf groupwise
     read-kept alike =
@@ -130,15 +130,15 @@ module _ (file : List ℕ) (before : Buffers) where
             inr (more-edges (many .0) (record { among = many .1; edge = many .2 }) (then-is file short ∙ many .3)
             (λ e. other (sym (today-is file (within file short)) ∙ e)))
 
-  long-file : ltb 32768 (length file) ≡ true → (b : Bool) → ltb mostBytes (length file) ≡ b → AsBefore
+  long-file : ltb bytesBefore (length file) ≡ true → (b : Bool) → ltb mostBytes (length file) ≡ b → AsBefore
   unfolding rightly gradesBy gradingOf afterReading outcomeOf readingWith groupwise groupsReading groupsOutcome
   long-file long true e = inl (kept file before (rw (e, long)))
-  long-file long false e = inr (longer (ltb-true 32768 (length file) long) (ltb-false mostBytes (length file) e))
+  long-file long false e = inr (longer (ltb-true bytesBefore (length file) long) (ltb-false mostBytes (length file) e))
 
 as-before : (file : List ℕ) (before : Buffers) → AsBefore file before
-as-before file before = go (ltb 32768 (length file)) refl
+as-before file before = go (ltb bytesBefore (length file)) refl
   where
-    go : (b : Bool) → ltb 32768 (length file) ≡ b → AsBefore file before
+    go : (b : Bool) → ltb bytesBefore (length file) ≡ b → AsBefore file before
     go true e = long-file file before e (ltb mostBytes (length file)) refl
     go false e = short-file file before e (both-read file)
 
@@ -158,11 +158,11 @@ accepted-alike (accepted d) c groups alike = (ap accepted (alike .0), alike .1)
 accepted-alike (refusal n p) c groups alike = absurd alike
 
 module _ (file : List ℕ) (c : Circuit) (groups : List (List Group)) (e : groupsReading file ≡ accepted-with c groups) where
-  long-refused : ltb 32768 (length file) ≡ true → ⊥
+  long-refused : ltb bytesBefore (length file) ≡ true → ⊥
   unfolding groupsReading
   long-refused long = never-both c groups 1 0 (sym e ∙ rw long)
 
-  short-accepted : ltb 32768 (length file) ≡ false → ReadAlike (today file) (then file) ⊎ OneTooMany (cutFrom file 0) (then file)
+  short-accepted : ltb bytesBefore (length file) ≡ false → ReadAlike (today file) (then file) ⊎ OneTooMany (cutFrom file 0) (then file)
       → (readingOf file ≡ accepted c) × Aligned (c .types) groups
   short-accepted short (inl alike) =
       let its = accepted-alike (today file) c groups (subst (ReadAlike (today file)) (sym (then-is file short) ∙ e) alike) in
@@ -170,9 +170,9 @@ module _ (file : List ℕ) (c : Circuit) (groups : List (List Group)) (e : group
   short-accepted short (inr many) = absurd (never-both c groups 6 (many .0 .at) (sym e ∙ then-is file short ∙ many .3))
 
 pub accepted-as-before : AcceptedAsBefore
-accepted-as-before file c groups e = go (ltb 32768 (length file)) refl
+accepted-as-before file c groups e = go (ltb bytesBefore (length file)) refl
   where
-    go : (b : Bool) → ltb 32768 (length file) ≡ b → (readingOf file ≡ accepted c) × Aligned (c .types) groups
+    go : (b : Bool) → ltb bytesBefore (length file) ≡ b → (readingOf file ≡ accepted c) × Aligned (c .types) groups
     go true long = absurd (long-refused file c groups e long)
     go false short = short-accepted file c groups e short (both-read file)
 
@@ -255,11 +255,11 @@ module _ (file : List ℕ) (before : Buffers) (keeps : Kept (called groupwise fi
     unfolding gradingOf
     place-now = sym (ap placeOf answer-was) ∙ keeps .place
 
-  long-changes : 32768 < length file → length file ≤ mostBytes → ⊥
+  long-changes : bytesBefore < length file → length file ≤ mostBytes → ⊥
   unfolding groupsReading refusing refusalOf numberOf refusalNumber
   long-changes long short =
       not-one (today file) (roomOf before) (past-one (length file) start (cutFrom file 0))
-      (number-now 1 0 (rw (lt-ltb 32768 (length file) long))
+      (number-now 1 0 (rw (lt-ltb bytesBefore (length file) long))
       ∙ ap (λ (r : Reading). numberIn (afterReading r (roomOf before))) (today-is file short))
 
   six-changes : (p : ℕ) → groupsReading file ≡ refused-with 6 p → (readingOf file ≡ refusal 6 p → ⊥) → ⊥

@@ -33,6 +33,15 @@ use Rattle.demands.specs.Calls.{Kept}
 use Rattle.demands.specs.Graders.{Outcome, Grader, called, MeetsPromise, refusing, Work, outcomeOf, workBy, testing}
 use Rattle.demands.specs.Files.{nandUnder}
 
+-- ---- the limits of before
+
+abbrev pub bytesBefore : ℕ
+bytesBefore = 32768
+
+-- edge fields of a type, however many labels they have
+abbrev pub mostGroups : ℕ
+mostGroups = 64
+
 -- ---- a type by its groups
 
 -- the group of an edge field, in a type with the output node o
@@ -74,11 +83,11 @@ groupsWith tag k body =
 unfoldable pub groupsAfter : GroupsKnown → Field → GroupsKnown
 groupsAfter k f = record { known = knownAfter (k .known) f; groups = groupsWith (tagOf (f .tag)) k (f .body) }
 
--- the tests of an edge field in a type with `count` edge fields so far, of which it has at most 64
+-- the tests of an edge field in a type with `count` edge fields so far
 unfoldable pub groupTests : ModuleType → ℕ → ℕ → List ℕ → List Test
 groupTests t count at body =
     test 5 (not (between 3 6 (length body))) at
-    ∷ test 6 (leb 64 count) at
+    ∷ test 6 (leb mostGroups count) at
     ∷ test 7 (not (edgesInRange (t .highest) (t .labels) body)) at
     ∷ test 8 (badEnds (t .highest) (t .output) (getD body 0 0) (getD body 1 0)) at
     ∷ []
@@ -122,7 +131,7 @@ groupsReadFrom size k (field f rest) =
 
 unfoldable pub groupsReading : List ℕ → GroupsReading
 groupsReading file =
-    let whole = groupsReadFrom (length file) groupsStart (cutFrom file 0) in cond (ltb 32768 (length file)) (refused-with 1 0) whole
+    let whole = groupsReadFrom (length file) groupsStart (cutFrom file 0) in cond (ltb bytesBefore (length file)) (refused-with 1 0) whole
 
 -- ---- grading
 
@@ -171,7 +180,7 @@ pub record EdgeFieldOf (file : List ℕ) (f : Field) : Type 0 where
 -- the files whose answer changes: those of 32,769 to 57,344 bytes, which were refused by 1; and those that were refused by 6 at an edge
 -- field, and are not refused so today
 pub data Changed (file : List ℕ) : Type 0 where
-  longer : 32768 < length file → length file ≤ 57344 → Changed file
+  longer : bytesBefore < length file → length file ≤ 57344 → Changed file
   more-edges : (f : Field) → EdgeFieldOf file f → groupsReading file ≡ refused-with 6 (f .at)
       → (readingOf file ≡ refusal 6 (f .at) → ⊥) → Changed file
 

@@ -11,7 +11,7 @@ use borrow.Author.Tests.{ltb-true, ltb-false, leb-false}
 use lib.Dec.{T, eqb, leb, ltb, leb→le, le→leb, eqb→eq, eqb·suc-zero}
 use lib.ListN.{length, getD, drop, length-append, length-map, List·getD-append}
 use lib.Seq.{getD-append-seam}
-use Rattle.switch.specs.Conduction.{channelOf, badEnds, between}
+use Rattle.switch.specs.Conduction.{badEnds, between}
 use Rattle.switch.specs.Modules.{ModuleType, allOf, typeInRange, inRange}
 use Rattle.switch.proofs.Paths.{both}
 use Rattle.switch.proofs.Deciding.{and-both}
@@ -145,7 +145,7 @@ edges-sound t at body e sound =
       few = omega (arith, length-append (t .edges) es, length-edges-in (t .output) body, p .few);
       ends =
           all-append (endsGood (t .highest) (t .output)) (t .edges) es (sound .ends)
-          (all-for (endsGood (t .highest) (t .output)) a b (channelOf (t .output) a b) (λ (l : ℕ). true) (λ l q. good) (drop 2 body) (all-true (drop 2 body)));
+          (all-for (endsGood (t .highest) (t .output)) a b _ (λ (l : ℕ). true) (λ l q. good) (drop 2 body) (all-true (drop 2 body)));
     }
 
 pub bridge-pass : (count at : ℕ) (body : List ℕ) → firstOf (bridgeTests count at body) ≡ passes

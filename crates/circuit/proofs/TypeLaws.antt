@@ -11,7 +11,7 @@ use lib.Dec.{T, leb, ltb}
 use lib.ListN.{length, getD, take, drop, length-append, length-take, length-drop, length-map}
 use lib.Seq.{drop-cons, ext-getD, getD-take}
 use Rattle.words.proofs.Tables.{length-table}
-use Rattle.switch.specs.Conduction.{Edge, edgesFor, Channel, channelOf, badEnds, between}
+use Rattle.switch.specs.Conduction.{Edge, edgesFor, Channel, badEnds, between}
 use Rattle.switch.specs.Modules.{ModuleType, mostEdges, allOf, typeInRange, edgeInRange, inRange}
 use Rattle.switch.specs.Records.{noEdge, edgeRecord, edgesOf, typeOf, TypeGiven}
 use Rattle.switch.proofs.Paths.{both}
@@ -151,7 +151,7 @@ field-ranges h o k body t =
     let a = getD body 0 0 in
     let b = getD body 1 0 in
     let parts = both (leb a h && leb b h) (allOf (λ (l : ℕ). ltb l k) (drop 2 body)) t in
-    all-for (edgeInRange h k) a b (channelOf o a b) (λ (l : ℕ). ltb l k) (λ l q. and-both (leb a h && leb b h) (ltb l k) (parts .0) q) (drop 2 body) (parts .1)
+    all-for (edgeInRange h k) a b _ (λ (l : ℕ). ltb l k) (λ l q. and-both (leb a h && leb b h) (ltb l k) (parts .0) q) (drop 2 body) (parts .1)
 
 module _ (t : ModuleType) (es : List Edge) where
   pub with-edges-ranges : T (inRange t) → T (allOf (edgeInRange (t .highest) (t .labels)) es) → T (inRange (withEdges t es))

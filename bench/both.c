@@ -9,13 +9,24 @@ static int is_long(const uint8_t *file, size_t n)
     return n > 32768 && n <= TOGYAMIRU_MOST_BYTES;
 }
 
-/* Refused by plain.c at an edge field as one too many. */
-static int has_many_edges(const uint8_t *file, size_t n)
+/* Refused by plain.c for this reason at a field with this tag. */
+static int is_refused_at(const uint8_t *file, size_t n, uint64_t number, uint8_t tag)
 {
     uint64_t answer[TOGYAMIRU_NUMBERS], no_word;
     uint16_t no_entry;
     plain_grade(file, n, &no_word, 0, &no_entry, 0, answer);
-    return answer[TOGYAMIRU_NUMBER] == TOGYAMIRU_TOO_MANY && file[answer[TOGYAMIRU_PLACE]] == 3;
+    return answer[TOGYAMIRU_NUMBER] == number && file[answer[TOGYAMIRU_PLACE]] == tag;
+}
+
+static int has_many_edges(const uint8_t *file, size_t n)
+{
+    return is_refused_at(file, n, TOGYAMIRU_TOO_MANY, 3);
+}
+
+/* Unknown to plain.c. A file that it refuses before it gets to such a field, or for a field that is cut short, is compared. */
+static int has_pass(const uint8_t *file, size_t n)
+{
+    return is_refused_at(file, n, TOGYAMIRU_UNKNOWN_TAG, 7);
 }
 
 /*
@@ -25,7 +36,7 @@ static int has_many_edges(const uint8_t *file, size_t n)
 static const struct {
     const char *reason;
     int (*holds)(const uint8_t *file, size_t n);
-} left_out[] = {{"32,769 to 57,344 bytes", is_long}, {"more than 64 edge fields in a type", has_many_edges}, {0, 0}};
+} left_out[] = {{"32,769 to 57,344 bytes", is_long}, {"more than 64 edge fields in a type", has_many_edges}, {"a field of tag 7", has_pass}, {0, 0}};
 
 /*
  * and which numbers of an answer are by the same rule: those before the counts of classes and of found ones. plain.c keeps instances apart, the library takes what joins the same

@@ -132,7 +132,7 @@ static inline const char *togyamiru_words(uint64_t number)
     case TOGYAMIRU_BROKEN:
         return "fewer than 3 bytes left for a head, or fewer than its length";
     case TOGYAMIRU_UNKNOWN_TAG:
-        return "tag not 1 to 6";
+        return "tag not 1 to 7";
     case TOGYAMIRU_MISPLACED:
         return "tag not allowed after what came before";
     case TOGYAMIRU_WRONG_LENGTH:
@@ -140,9 +140,9 @@ static inline const char *togyamiru_words(uint64_t number)
     case TOGYAMIRU_TOO_MANY:
         return "one type, edge, bridge, instance or vector too many";
     case TOGYAMIRU_OUT_OF_RANGE:
-        return "a number or vector byte outside its range; kind 0 bridge with equal ends";
+        return "a number or vector byte outside its range; kind 0 bridge or pass transistor with equal ends";
     case TOGYAMIRU_BAD_ENDS:
-        return "edge ends equal, or breaking the channel rule";
+        return "edge of tag 3 with equal ends, or breaking the channel rule";
     case TOGYAMIRU_NOT_COMPLEMENTARY:
         return "type not complementary";
     case TOGYAMIRU_BAD_REFERENCE:

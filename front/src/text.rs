@@ -2,7 +2,7 @@
 //! It does not judge the circuit: order, ranges and counts are left to the grader.
 
 use second::bodies::value_of;
-use second::circuit::Kind;
+use second::circuit::{Channel, Kind};
 use second::format::Tag;
 use second::write::{bytes_of, LooseField};
 
@@ -61,6 +61,7 @@ impl Counts {
             Tag::Bridge => bridge(&mut words)?,
             Tag::Instance => self.instance(&mut words)?,
             Tag::Vector => self.vector(&mut words)?,
+            Tag::Pass => pass(&mut words)?,
         };
         words.end()?;
         if body.len() > usize::from(u16::MAX) {
@@ -141,16 +142,18 @@ fn edge(words: &mut Words) -> Result<Vec<u8>, String> {
     }
 }
 
+fn pass(words: &mut Words) -> Result<Vec<u8>, String> {
+    let (first, second) = (words.byte("a node")?, words.byte("a second node")?);
+    let what = "the channel, `n` or `p`";
+    let channel = words.letter(&Channel::ALL, Channel::letter, what)?;
+    let label = words.byte("a label")?;
+    Ok(vec![first, second, channel.byte(), label])
+}
+
 fn bridge(words: &mut Words) -> Result<Vec<u8>, String> {
     let list = words.byte("the number of a list")?;
-    let word = words.take();
-    let kind = Kind::ALL
-        .into_iter()
-        .find(|kind| word == Some(kind.letter().to_string().as_bytes()));
-    let Some(kind) = kind else {
-        let what = "`n` for two nodes or `i` for a node and a label";
-        return Err(expected(word, what));
-    };
+    let what = "`n` for two nodes or `i` for a node and a label";
+    let kind = words.letter(&Kind::ALL, Kind::letter, what)?;
     let first = words.byte("a node")?;
     let second = words.byte(match kind {
         Kind::Nodes => "a second node",

@@ -47,6 +47,19 @@ impl<'a> Words<'a> {
             })
     }
 
+    /// One of several things by its letter.
+    pub fn letter<T: Copy>(
+        &mut self,
+        things: &[T],
+        letter: fn(T) -> char,
+        what: &str,
+    ) -> Result<T, String> {
+        let word = self.take();
+        let is_told = |thing: &&T| word == Some(letter(**thing).to_string().as_bytes());
+        let thing = things.iter().find(is_told);
+        thing.copied().ok_or_else(|| expected(word, what))
+    }
+
     pub fn byte(&mut self, what: &str) -> Result<u8, String> {
         let number = self.number(what, 0..=i32::from(u8::MAX))?;
         Ok(number as u8)

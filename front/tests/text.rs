@@ -35,6 +35,38 @@ fn a_text_is_its_file() {
     assert_eq!(make(NAND.as_bytes()), Ok(nand_file()));
 }
 
+const MUX: &str = "inputs 3
+type 1 4 4 3
+edge 1 2 0
+pass 0 2 n 0
+pass 1 3 n 1
+pass 0 3 p 1
+pass 2 4 n 2
+pass 3 4 p 2
+instance 1 1 -1 1 2 3
+vector 1 000
+vector 2 001
+vector 3 010
+vector 4 011
+vector 5 100
+vector 6 101
+vector 7 110
+vector 8 111
+vector 9 0X1
+vector 10 00X
+";
+
+/// A pass transistor is a field of tag 7: two nodes, the channel, the label.
+#[test]
+fn a_text_with_pass_transistors() {
+    let samples = sample_files();
+    let mux = samples.iter().find(|file| file.name == "mux");
+    let mux = mux.expect("the sample is there");
+    assert_eq!(make(MUX.as_bytes()), Ok(mux.bytes.clone()));
+    let line = make(b"pass 255 0 p 12").expect("a circuit is not judged");
+    assert_eq!(line, [7, 0, 4, 255, 0, 1, 12]);
+}
+
 /// Several labels on one line are one field, as in old files.
 #[test]
 fn a_line_with_several_labels() {
@@ -106,6 +138,10 @@ fn a_circuit_is_not_judged() {
         ("inputs 1\ntype 1 255 255 255", 7),
         ("inputs 1\nbridge 255 n 0 0", 7),
         ("inputs 1\ninstance 1 0 -128 -32768", 7),
+        ("inputs 1\npass 1 2 p 0", 4),
+        ("inputs 1\ntype 1 2 2 1\npass 2 2 n 0", 7),
+        ("inputs 1\ntype 1 2 2 1\npass 1 2 n 255", 7),
+        ("inputs 1\ntype 1 2 2 1\npass 0 1 n 0", 9),
         ("inputs 1\ntype 1 2 2 1\nedge 0 1 0", 8),
         ("inputs 1\ntype 1 2 2 1", 9),
         ("", 14),
@@ -130,7 +166,7 @@ fn check_slip(text: &str, line: usize, message: &str) {
 
 #[test]
 fn a_word_that_begins_no_line() {
-    let names = "expected `inputs`, `type`, `edge`, `bridge`, `instance` or `vector`";
+    let names = "expected `inputs`, `type`, `edge`, `bridge`, `instance`, `vector` or `pass`";
     let cases = [
         ("# NAND\n\nnode 3\n", 3, format!("found `node`, {names}")),
         ("Inputs 1", 1, format!("found `Inputs`, {names}")),
@@ -171,6 +207,10 @@ fn numbers_that_are_none_or_do_not_fit() {
         ("edge 1 0x2 0", "found `0x2`, expected a second node, a number from 0 to 255"),
         ("edge 1 2", "found the end of the line, expected a label, a number from 0 to 255"),
         ("edge 1 2 0 a", "found `a`, expected a label, a number from 0 to 255"),
+        ("pass x 2 n 0", "found `x`, expected a node, a number from 0 to 255"),
+        ("pass 1 256 n 0", "found `256`, expected a second node, a number from 0 to 255"),
+        ("pass 1 2 p", "found the end of the line, expected a label, a number from 0 to 255"),
+        ("pass 1 2 p -1", "found `-1`, expected a label, a number from 0 to 255"),
         ("bridge - n 0 1", "found `-`, expected the number of a list, a number from 0 to 255"),
         ("bridge 1 n 0 ", "found the end of the line, expected a second node, a number from 0 to 255"),
         ("bridge 1 i 0 999999999999", "found `999999999999`, expected a label, a number from 0 to 255"),
@@ -188,10 +228,19 @@ fn numbers_that_are_none_or_do_not_fit() {
 #[test]
 fn kinds_letters_and_words_too_many() {
     let kind = "expected `n` for two nodes or `i` for a node and a label";
+    let channel = "expected the channel, `n` or `p`";
     let letters = "expected letters `0`, `1` or `X`, one for each input";
     let cases = [
         ("bridge 1 0 2 3", format!("found `0`, {kind}")),
         ("bridge 1", format!("found the end of the line, {kind}")),
+        ("pass 1 2", format!("found the end of the line, {channel}")),
+        ("pass 1 2 0", format!("found `0`, {channel}")),
+        ("pass 1 2 N 0", format!("found `N`, {channel}")),
+        ("pass 1 2 np 0", format!("found `np`, {channel}")),
+        (
+            "pass 1 2 p 0 1",
+            "found `1`, expected the end of the line".to_string(),
+        ),
         ("vector 1 0x", format!("found `0x`, {letters}")),
         ("vector 1", format!("found the end of the line, {letters}")),
         ("vector 1 01 2", format!("found `2`, {letters}")),
@@ -272,10 +321,10 @@ fn damaged_texts_are_made_or_told() {
     let mut random = Random::for_file(14, 4);
     let (mut made, mut told) = (0, 0);
     for _ in 0..20_000 {
-        let mut text = NAND.as_bytes().to_vec();
+        let mut text = random.pick(&[NAND, MUX]).as_bytes().to_vec();
         for _ in 0..random.between(1, 3) {
             let place = random.below(text.len());
-            let byte = random.pick(b"\x00\xff\n\t #-019nXe");
+            let byte = random.pick(b"\x00\xff\n\t #-019npXe");
             match random.below(3) {
                 0 => text[place] = byte,
                 1 => text.insert(place, byte),

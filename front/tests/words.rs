@@ -2,7 +2,7 @@
 //! says was read; and every damaged or limit file has words or is accepted.
 
 use front::explain::explain;
-use second::builder::{FileBuilder, INVERTER};
+use second::builder::{FileBuilder, INVERTER, N, P};
 use second::damage::damaged_file;
 use second::limits::limit_files;
 use second::read::read;
@@ -52,9 +52,9 @@ fn the_frame_of_a_file() {
         "here: the tag is 9, the length says 4 bytes, but 0 bytes are left in the file.",
     );
     check(
-        one_input().field(7, b""),
+        one_input().field(8, b""),
         "refused 3 at 5: field 2, bytes 5 to 7",
-        "here: the tag is 7.",
+        "here: the tag is 8.",
     );
     check(
         FileBuilder::default().field(6, b"0"),
@@ -158,11 +158,96 @@ fn rules_of_lengths_and_edges() {
         ),
         (
             inverter().times(64, |file| file.field(3, &[1, 2, 0, 0, 0, 0])),
-            "rule: a type has at most 256 edges, counted by label.",
+            "rule: a type has at most 256 edges, counted by label, pass transistors among them.",
         ),
         (
             inverter().field(3, &[1, 2, 1]),
             "rule: an edge has two nodes and a label of its type; type 1 has nodes 0 to 2 and label 0.",
+        ),
+    ];
+    for (file, rule) in rules {
+        let explanation = explain(&file.bytes).expect(rule);
+        assert_eq!(explanation.lines()[1], rule);
+    }
+}
+
+#[test]
+fn pass_transistors() {
+    check(
+        inverter().bridge(1, 0, 0, 1).pass(1, 2, P, 0),
+        "refused 4 at 30: field 6, bytes 30 to 36",
+        "here: a pass transistor (tag 7) comes after a bridge (tag 4).",
+    );
+    check(
+        FileBuilder::default().pass(1, 2, P, 0),
+        "refused 4 at 0: field 1, bytes 0 to 6",
+        "here: it begins with a pass transistor (tag 7).",
+    );
+    check(
+        inverter().pass(1, 2, P, 0).field(1, &[0, 1]),
+        "refused 4 at 30: field 6, bytes 30 to 34",
+        "here: the number of inputs (tag 1) comes after a pass transistor (tag 7).",
+    );
+    check(
+        inverter().raw(&[7, 0, 4, 1]),
+        "refused 2 at 23: field 5, bytes 23 to 26",
+        "here: the tag is 7 (a pass transistor), the length says 4 bytes, but 1 byte is left in the file.",
+    );
+    let third = "edge 3 of type 1 (a pass transistor)";
+    check(
+        inverter().field(7, &[1, 2, 0]),
+        &format!("refused 5 at 23: {third}, bytes 23 to 28"),
+        "here: its length says 3 bytes.",
+    );
+    check(
+        inverter().pass(3, 4, 2, 1),
+        &format!("refused 7 at 23: {third}, bytes 23 to 29"),
+        "here: the first node is 3; the second node is 4; the channel is 2; the label is 1.",
+    );
+    check(
+        inverter().pass(2, 2, N, 0),
+        &format!("refused 7 at 23: {third}, bytes 23 to 29"),
+        "here: both ends are node 2.",
+    );
+    check(
+        inverter().times(255, |file| file.pass(1, 2, P, 0)),
+        "refused 6 at 1801: edge 257 of type 1 (a pass transistor), bytes 1801 to 1807",
+        "here: this is edge 257 of type 1 (a pass transistor).",
+    );
+    check(
+        inverter().pass(1, 2, P, 0).field(3, &[2, 2, 0]),
+        "refused 8 at 30: edge 4 of type 1, bytes 30 to 35",
+        "here: both ends are node 2.",
+    );
+    check(
+        inverter().pass(1, 2, N, 0),
+        "refused 9 at 5: type 1, bytes 5 to 10, with 3 edges up to byte 29",
+        "here: with label 0 at 1 the output, node 2, is joined to both supply (by 1-2) and ground (by 0-2).",
+    );
+}
+
+#[test]
+fn rules_of_pass_transistors() {
+    let rules = [
+        (
+            FileBuilder::default().field(8, b""),
+            "rule: a field begins with its tag: 1 the number of inputs, 2 a type, 3 an edge, 4 a bridge, 5 an instance, 6 a vector, 7 a pass transistor.",
+        ),
+        (
+            one_input().pass(1, 2, P, 0),
+            "rule: a pass transistor stands right after its type or after another edge of that type.",
+        ),
+        (
+            inverter().field(7, b""),
+            "rule: a pass transistor takes 4 bytes: two nodes, its channel, its label.",
+        ),
+        (
+            inverter().times(255, |file| file.pass(1, 2, P, 0)),
+            "rule: a type has at most 256 edges, counted by label, pass transistors among them.",
+        ),
+        (
+            inverter().pass(2, 2, N, 0),
+            "rule: a pass transistor has two different nodes and a label of its type, and a channel of 0 (n) or 1 (p); type 1 has nodes 0 to 2 and label 0.",
         ),
     ];
     for (file, rule) in rules {

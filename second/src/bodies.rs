@@ -1,6 +1,6 @@
 //! Bodies of an allowed length taken for what they say, whatever their numbers.
 
-use crate::circuit::{Bridge, Edge, Instance, Kind, ListedBridge, ModuleType, Value};
+use crate::circuit::{Bridge, Channel, Edge, Instance, Kind, ListedBridge, ModuleType, Value};
 use crate::conduction::channel;
 
 pub fn inputs_of(body: &[u8]) -> usize {
@@ -17,8 +17,8 @@ pub fn module_of(body: &[u8]) -> ModuleType {
     }
 }
 
-/// The edges of a field, one for each label, in a type with this output; none if
-/// its ends have no channel.
+/// The edges of a field of tag 3, one for each label, in a type with this output; none
+/// if its ends have no channel.
 pub fn edges_of(body: &[u8], output: u8) -> Option<Vec<Edge>> {
     let ends = [body[0], body[1]];
     let channel = channel(output, ends)?;
@@ -26,8 +26,19 @@ pub fn edges_of(body: &[u8], output: u8) -> Option<Vec<Edge>> {
         ends,
         channel,
         label,
+        is_pass: false,
     };
     Some(body[2..].iter().map(edge).collect())
+}
+
+/// None if there is no such channel.
+pub fn pass_of(body: &[u8]) -> Option<Edge> {
+    Some(Edge {
+        ends: [body[0], body[1]],
+        channel: Channel::of(body[2])?,
+        label: body[3],
+        is_pass: true,
+    })
 }
 
 /// None if there is no such kind.

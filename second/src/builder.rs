@@ -44,6 +44,10 @@ pub const SUM: &[EdgeRow] = &[
     (8, 0, &[2]),
 ];
 
+/// The channels of pass transistors.
+pub const N: u8 = 0;
+pub const P: u8 = 1;
+
 #[derive(Clone, Debug, Default, PartialEq, Eq)]
 pub struct FileBuilder {
     pub bytes: Vec<u8>,
@@ -68,6 +72,11 @@ impl FileBuilder {
             file = file.field(3, &[&[a, b], labels].concat());
         }
         file
+    }
+
+    /// One more edge of the latest type, with its own channel.
+    pub fn pass(self, a: u8, b: u8, channel: u8, label: u8) -> FileBuilder {
+        self.field(7, &[a, b, channel, label])
     }
 
     pub fn inverter(self) -> FileBuilder {

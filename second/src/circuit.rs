@@ -27,12 +27,39 @@ pub enum Channel {
     N,
 }
 
-/// One transistor.
+impl Channel {
+    pub const ALL: [Channel; 2] = [Channel::N, Channel::P];
+
+    /// As in the field of a pass transistor.
+    pub fn byte(self) -> u8 {
+        match self {
+            Channel::N => 0,
+            Channel::P => 1,
+        }
+    }
+
+    pub fn of(byte: u8) -> Option<Channel> {
+        let mut channels = Channel::ALL.into_iter();
+        channels.find(|channel| channel.byte() == byte)
+    }
+
+    /// As in the text form.
+    pub fn letter(self) -> char {
+        match self {
+            Channel::N => 'n',
+            Channel::P => 'p',
+        }
+    }
+}
+
+/// One transistor. A pass transistor said its channel itself; any other has the one
+/// that its ends give it.
 #[derive(Clone, Copy, Debug, PartialEq, Eq)]
 pub struct Edge {
     pub ends: [u8; 2],
     pub channel: Channel,
     pub label: u8,
+    pub is_pass: bool,
 }
 
 #[derive(Clone, Debug, PartialEq, Eq)]

@@ -6,8 +6,8 @@ use crate::circuit::{Bridge, Channel, Edge, Kind, ModuleType, Value};
 pub const GROUND: u8 = 0;
 pub const SUPPLY: u8 = 1;
 
-/// The channel of an edge between two different nodes, or none if the channel
-/// rule is broken. Nodes above the highest node are refused before this is asked.
+/// The channel that an edge of tag 3 has by its ends, or none if they are equal or
+/// break the channel rule. Nodes above the highest node are refused before this is asked.
 pub fn channel(output: u8, ends: [u8; 2]) -> Option<Channel> {
     let in_p = |node: u8| (SUPPLY..=output).contains(&node);
     let in_n = |node: u8| node >= output || node == GROUND;

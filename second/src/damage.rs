@@ -17,7 +17,7 @@ type Fields = Vec<LooseField>;
 type FieldDamage = fn(&mut Random, &mut Fields);
 type ByteDamage = fn(&mut Random, &mut Vec<u8>);
 
-const FIELD_DAMAGES: [FieldDamage; 24] = [
+const FIELD_DAMAGES: [FieldDamage; 28] = [
     drop_field,
     double_field,
     swap_any,
@@ -32,6 +32,10 @@ const FIELD_DAMAGES: [FieldDamage; 24] = [
     spoil_instance_once,
     spoil_instance_once,
     spoil_instance_twice,
+    spoil_pass_once,
+    spoil_pass_twice,
+    exchange_edge_tag,
+    move_edge,
     drop_edge,
     drop_all_edges,
     break_type_and_next,
@@ -193,6 +197,18 @@ fn spoil_instance_twice(random: &mut Random, fields: &mut Fields) {
     }
 }
 
+fn spoil_pass_once(random: &mut Random, fields: &mut Fields) {
+    if let Some(index) = any_of_tag(random, fields, Tag::Pass) {
+        spoil(random, fields, index);
+    }
+}
+
+fn spoil_pass_twice(random: &mut Random, fields: &mut Fields) {
+    if let Some(index) = any_of_tag(random, fields, Tag::Pass) {
+        spoil_same_twice(random, fields, index);
+    }
+}
+
 /// Two damages in one field, so that the order between numbers shows. The first
 /// may have put a bridge before the field.
 fn spoil_same_twice(random: &mut Random, fields: &mut Fields, index: usize) {
@@ -202,15 +218,58 @@ fn spoil_same_twice(random: &mut Random, fields: &mut Fields, index: usize) {
     spoil(random, fields, index);
 }
 
+fn is_edge(field: &LooseField) -> bool {
+    Tag::of(field.tag).is_some_and(Tag::is_edge)
+}
+
+/// An edge of either tag, each tag as likely as the other.
+fn any_edge(random: &mut Random, fields: &Fields) -> Option<usize> {
+    let [first, second] = match random.one_in(2) {
+        true => [Tag::Edge, Tag::Pass],
+        false => [Tag::Pass, Tag::Edge],
+    };
+    any_of_tag(random, fields, first).or_else(|| any_of_tag(random, fields, second))
+}
+
 fn drop_edge(random: &mut Random, fields: &mut Fields) {
-    if let Some(index) = any_of_tag(random, fields, Tag::Edge) {
+    if let Some(index) = any_edge(random, fields) {
         fields.remove(index);
+    }
+}
+
+/// Puts an edge anywhere, so also to another type or where none may stand.
+fn move_edge(random: &mut Random, fields: &mut Fields) {
+    if let Some(index) = any_edge(random, fields) {
+        let field = fields.remove(index);
+        fields.insert(random.below(fields.len() + 1), field);
+    }
+}
+
+/// Tag 7 for tag 3 or the other way, with the same body or with a channel byte put in or
+/// taken out.
+fn exchange_edge_tag(random: &mut Random, fields: &mut Fields) {
+    let Some(index) = any_edge(random, fields) else {
+        return;
+    };
+    let LooseField { tag, body, .. } = &mut fields[index];
+    let is_fitted = random.one_in(2) && body.len() > 2;
+    if *tag == Tag::Pass.byte() {
+        *tag = Tag::Edge.byte();
+        if is_fitted {
+            body.remove(2);
+        }
+    } else {
+        *tag = Tag::Pass.byte();
+        if is_fitted {
+            body.truncate(3);
+            body.insert(2, random.below(2) as u8);
+        }
     }
 }
 
 fn edges_after(fields: &Fields, index: usize) -> usize {
     let rest = fields[index + 1..].iter();
-    rest.take_while(|field| field.is(Tag::Edge)).count()
+    rest.take_while(|field| is_edge(field)).count()
 }
 
 fn drop_all_edges(random: &mut Random, fields: &mut Fields) {
@@ -233,7 +292,7 @@ fn break_type_and_next(random: &mut Random, fields: &mut Fields) {
     let next = index + 1 + edges_after(fields, index);
     if next < fields.len() {
         match random.below(5) {
-            0 => fields[next].tag = random.pick(&[0, 1, 7]),
+            0 => fields[next].tag = random.pick(&[0, 1, 7, 8]),
             1 => fields[next].stated_length = Some(u16::MAX),
             2 => spoil_length(random, &mut fields[next]),
             3 => fields.truncate(next),
@@ -268,7 +327,7 @@ fn exceed(random: &mut Random, fields: &mut Fields, tag: Tag, most: usize) {
 
 /// What may stand before a bridge; of a damaged field, also no tag at all.
 fn is_before_bridges(field: &LooseField) -> bool {
-    field.tag < Tag::Bridge.byte()
+    field.tag < Tag::Bridge.byte() || is_edge(field)
 }
 
 fn exceed_types(random: &mut Random, fields: &mut Fields) {
@@ -288,8 +347,8 @@ fn exceed_types(random: &mut Random, fields: &mut Fields) {
     }
 }
 
-/// Repeats the last edge of a type, in fields of one to four labels, up to the limit
-/// or just past it, and sometimes spoils the last field.
+/// Repeats the last edge of a type, as it is or in fields of one to four labels, up to
+/// the limit or just past it, and sometimes spoils the last field.
 fn exceed_edges(random: &mut Random, fields: &mut Fields) {
     let Some(index) = any_of_tag(random, fields, Tag::Type) else {
         return;
@@ -298,19 +357,33 @@ fn exceed_edges(random: &mut Random, fields: &mut Fields) {
     let Some(last) = fields[index + 1..end].last() else {
         return;
     };
-    // A field that is damaged already may be too short for two ends and a label.
-    let label = last.body.get(2).copied().unwrap_or(0);
-    let mut copy = last.clone();
-    let each = random.between(1, MOST_GROUPED);
-    copy.body.truncate(2);
-    copy.body.resize(2 + each, label);
-    let labels_in = |field: &LooseField| field.body.len().saturating_sub(2);
-    let edges: usize = fields[index + 1..end].iter().map(labels_in).sum();
+    let copy = regrouped(random, last);
+    let each = edges_in(&copy);
+    let edges: usize = fields[index + 1..end].iter().map(edges_in).sum();
     let most = MOST_EDGES + random.between(0, each);
     let more = most.saturating_sub(edges) / each;
     fields.splice(end..end, vec![copy; more]);
     if random.one_in(2) {
         spoil(random, fields, end + more - 1);
+    }
+}
+
+/// An edge again: a pass transistor as it is, and of any other one to four.
+fn regrouped(random: &mut Random, edge: &LooseField) -> LooseField {
+    let mut copy = edge.clone();
+    if edge.is(Tag::Edge) {
+        // A field that is damaged already may be too short for two ends and a label.
+        let label = edge.body.get(2).copied().unwrap_or(0);
+        copy.body.truncate(2);
+        copy.body.resize(2 + random.between(1, MOST_GROUPED), label);
+    }
+    copy
+}
+
+fn edges_in(field: &LooseField) -> usize {
+    match field.is(Tag::Pass) {
+        true => 1,
+        false => field.body.len().saturating_sub(2),
     }
 }
 
@@ -406,7 +479,7 @@ fn cut_in_tail(random: &mut Random, bytes: &mut Vec<u8>) {
 
 fn append_few(random: &mut Random, bytes: &mut Vec<u8>) {
     for _ in 0..random.between(1, 4) {
-        bytes.push(random.pick(&[0, 1, 6, 255]));
+        bytes.push(random.pick(&[0, 1, 6, 7, 255]));
     }
 }
 

@@ -5,7 +5,7 @@
 pub const LONGEST_FILE: usize = 57_344;
 pub const MOST_INPUTS: usize = 64;
 pub const MOST_TYPES: usize = 16;
-/// In one type, counted by label.
+/// In one type, of both tags together, counted by label.
 pub const MOST_EDGES: usize = 256;
 pub const MOST_BRIDGES: usize = 256;
 pub const MOST_INSTANCES: usize = 128;
@@ -30,16 +30,19 @@ pub enum Tag {
     Bridge,
     Instance,
     Vector,
+    /// A pass transistor: an edge that says its channel itself.
+    Pass,
 }
 
 impl Tag {
-    pub const ALL: [Tag; 6] = [
+    pub const ALL: [Tag; 7] = [
         Tag::Inputs,
         Tag::Type,
         Tag::Edge,
         Tag::Bridge,
         Tag::Instance,
         Tag::Vector,
+        Tag::Pass,
     ];
 
     pub fn byte(self) -> u8 {
@@ -50,6 +53,7 @@ impl Tag {
             Tag::Bridge => 4,
             Tag::Instance => 5,
             Tag::Vector => 6,
+            Tag::Pass => 7,
         }
     }
 
@@ -66,6 +70,7 @@ impl Tag {
             Tag::Bridge => "bridge",
             Tag::Instance => "instance",
             Tag::Vector => "vector",
+            Tag::Pass => "pass",
         }
     }
 
@@ -78,7 +83,7 @@ impl Tag {
     fn part(self) -> u8 {
         match self {
             Tag::Inputs => 0,
-            Tag::Type | Tag::Edge => 1,
+            Tag::Type | Tag::Edge | Tag::Pass => 1,
             Tag::Bridge => 2,
             Tag::Instance => 3,
             Tag::Vector => 4,
@@ -87,7 +92,7 @@ impl Tag {
 
     /// Whether its field adds to the latest type, which is not judged yet.
     pub fn is_edge(self) -> bool {
-        self == Tag::Edge
+        matches!(self, Tag::Edge | Tag::Pass)
     }
 
     /// Whether a field of it may stand behind one of the tag before.
@@ -111,6 +116,7 @@ impl Tag {
                 length % 2 == 0 && (4..=2 + 2 * usize::from(MOST_LABELS)).contains(&length)
             }
             Tag::Vector => length == inputs,
+            Tag::Pass => length == 4,
         }
     }
 }

@@ -15,6 +15,7 @@ pub mod limits;
 pub mod make;
 pub mod nets;
 pub mod networks;
+pub mod passes;
 pub mod random;
 pub mod read;
 pub mod refusal;

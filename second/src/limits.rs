@@ -1,7 +1,8 @@
 //! Files made by hand at every limit and one past it, around every range end, with
-//! types that fail under some settings only, with wires that many instances share,
-//! and with faults that meet in one field, so that two programs can be compared there.
-//! The numbers stand as in the paper and are not taken from the reader.
+//! pass transistors between all nodes, with types that fail under some settings only,
+//! with wires that many instances share, and with faults that meet in one field, so that
+//! two programs can be compared there. The numbers stand as in the paper and are not
+//! taken from the reader.
 
 use std::fmt::Display;
 
@@ -18,6 +19,7 @@ mod frame;
 mod inputs;
 mod lengths;
 mod orders;
+mod passes;
 mod references;
 mod settings;
 mod tags;
@@ -42,6 +44,7 @@ pub fn limit_files() -> Vec<NamedFile> {
         inputs::files(),
         types::files(),
         edges::files(),
+        passes::files(),
         settings::files(),
         bridges::files(),
         type_numbers::files(),

@@ -1,6 +1,7 @@
 //! Whole circuits from a seed, all of them accepted: types, user lists, chains of
 //! instances and vectors, small ones, ones at a word's border and full-size ones; with
-//! a field for each edge, or with grouped fields as old files have them.
+//! a field for each edge, or with grouped fields as old files have them; with pass
+//! transistors or without.
 
 use crate::circuit::{Bridge, Circuit, Instance, Kind, ListedBridge, ModuleType, Value};
 use crate::faults::{exhaustive_list, faults_of, fits, user_list, EXHAUSTIVE};
@@ -9,8 +10,9 @@ use crate::format::{
     MOST_VECTORS,
 };
 use crate::networks::Drawn;
+use crate::passes::{drawn_with_passes, renumbered, with_passes};
 use crate::random::Random;
-use crate::types::{crowded_type, full_type, gate_type, made_type, MOST_OLD_FIELDS};
+use crate::types::{crowded_type, full_type, gate, made_type, MOST_OLD_FIELDS};
 use crate::write::{bytes_of, fields_of, grouped, LooseField};
 
 const FULL_SIZE_EVERY: u64 = 32;
@@ -19,8 +21,8 @@ const CROWDED_TYPE_ONE_IN: usize = 16;
 /// of faults up to 2,048 is a sum of few of them.
 const FULL_LISTS: [usize; 9] = [128, 64, 32, 16, 8, 4, 2, 1, 1];
 
-/// A circuit, and the sizes of the groups in which the edges of all its types are
-/// written, in order.
+/// A circuit, and the sizes of the groups in which the edges of tag 3 of all its types
+/// are written, in order; those left over stand alone.
 #[derive(Clone, Debug, Default)]
 pub struct Made {
     pub circuit: Circuit,
@@ -41,8 +43,7 @@ impl Made {
 
     /// As layout extracts them now: a field for each edge.
     fn ungroup(&mut self) {
-        let edges = self.circuit.types.iter().map(|module| module.edges.len());
-        self.sizes = vec![1; edges.sum()];
+        self.sizes.clear();
     }
 
     pub fn fields(&self) -> Vec<LooseField> {
@@ -79,8 +80,14 @@ pub fn small_circuit(random: &mut Random) -> Made {
         _ => random.between(2, 8),
     };
     let mut made = Made::of_inputs(inputs);
+    let has_passes = random.one_in(2);
     for _ in 0..random.between(1, 4) {
-        made.add_type(small_or_crowded_type(random));
+        let drawn = if has_passes && !random.one_in(3) {
+            passing_type(random)
+        } else {
+            small_or_crowded_type(random)
+        };
+        made.add_type(drawn);
     }
     if random.one_in(2) {
         made.ungroup();
@@ -110,6 +117,22 @@ fn small_or_crowded_type(random: &mut Random) -> Drawn {
     }
 }
 
+/// Drawn with pass transistors, or any type in which they take the place of edges; its
+/// nodes may then have any numbers.
+fn passing_type(random: &mut Random) -> Drawn {
+    match random.below(4) {
+        0 => {
+            let drawn = small_or_crowded_type(random);
+            with_passes(random, drawn)
+        }
+        1 => {
+            let drawn = small_or_crowded_type(random);
+            renumbered(random, drawn)
+        }
+        _ => drawn_with_passes(random),
+    }
+}
+
 /// An old file with everything at its limit.
 pub fn full_circuit(random: &mut Random) -> Made {
     let inputs = random.pick(&[1, 3, 16, MOST_INPUTS]);
@@ -120,7 +143,15 @@ pub fn full_circuit(random: &mut Random) -> Made {
 /// is longer than an old one could be.
 fn crowded_circuit(random: &mut Random) -> Made {
     let inputs = random.pick(&[16, MOST_INPUTS, MOST_INPUTS]);
-    let mut made = filled(random, inputs, |random| crowded_type(random, MOST_EDGES));
+    let full: fn(&mut Random) -> Drawn = if random.one_in(2) {
+        |random| crowded_type(random, MOST_EDGES)
+    } else {
+        |random| {
+            let drawn = crowded_type(random, MOST_EDGES);
+            renumbered(random, drawn)
+        }
+    };
+    let mut made = filled(random, inputs, full);
     if random.one_in(2) {
         made.ungroup();
     }
@@ -153,9 +184,13 @@ fn filled(random: &mut Random, inputs: usize, full: fn(&mut Random) -> Drawn) ->
 fn deep_circuit(random: &mut Random) -> Made {
     let mut made = Made::of_inputs(random.between(1, 6));
     for _ in 0..random.between(1, 3) {
-        made.circuit.types.push(gate_type(random));
+        let drawn = gate(random);
+        made.add_type(if random.one_in(2) {
+            renumbered(random, drawn)
+        } else {
+            drawn
+        });
     }
-    made.ungroup();
     let circuit = &mut made.circuit;
     add_instances(random, circuit, MOST_INSTANCES, true);
     choose_lists(random, circuit);

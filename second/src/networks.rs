@@ -78,7 +78,7 @@ pub struct Sketch {
     groups: Vec<Group>,
 }
 
-/// A type, and the sizes of the groups that its edges make, in order.
+/// A type, and the sizes of the groups that its edges of tag 3 make, in order.
 #[derive(Clone, Debug)]
 pub struct Drawn {
     pub module: ModuleType,
@@ -272,6 +272,7 @@ impl Sketch {
                 ends,
                 channel,
                 label,
+                is_pass: false,
             };
             groups.push(labels.iter().map(edge).collect());
         }

@@ -2,8 +2,8 @@
 //! then a function for each tag. Tests stand in the order of their numbers, 9
 //! right after 4.
 
-use crate::bodies::{bridge_of, edges_of, inputs_of, instance_of, module_of, vector_of};
-use crate::circuit::{Circuit, Instance, Kind, ListedBridge};
+use crate::bodies::{bridge_of, edges_of, inputs_of, instance_of, module_of, pass_of, vector_of};
+use crate::circuit::{Circuit, Edge, Instance, Kind, ListedBridge, ModuleType};
 use crate::conduction::is_complementary;
 use crate::faults::{faults_of, fits, user_list, EXHAUSTIVE};
 use crate::fields::{cut, Field};
@@ -82,6 +82,7 @@ impl Reading {
             Tag::Bridge => self.take_bridge(field)?,
             Tag::Instance => self.take_instance(field)?,
             Tag::Vector => self.take_vector(field)?,
+            Tag::Pass => self.take_pass(field)?,
         }
         self.latest_tag = Some(tag);
         self.is_at_edge = false;
@@ -114,11 +115,13 @@ impl Reading {
         Ok(())
     }
 
+    /// The order has asked for a type already; this says the same of its record.
+    fn latest_type(&mut self, edge: &Field) -> Result<&mut ModuleType, Refusal> {
+        self.circuit.types.last_mut().ok_or(refused(4, edge))
+    }
+
     fn take_edge(&mut self, field: &Field) -> Result<(), Refusal> {
-        // The order has asked for a type already; this says the same of its record.
-        let Some(module) = self.circuit.types.last_mut() else {
-            return Err(refused(4, field));
-        };
+        let module = self.latest_type(field)?;
         let (ends, labels) = field.body.split_at(2);
         let edges = module.edges.len() + labels.len();
         refuse_if(edges > MOST_EDGES, 6, field.place)?;
@@ -127,6 +130,15 @@ impl Reading {
         refuse_if(!in_range, 7, field.place)?;
         let edges = edges_of(field.body, module.output).ok_or(refused(8, field))?;
         module.edges.extend(edges);
+        Ok(())
+    }
+
+    /// Between any two nodes, so there is no channel rule to break.
+    fn take_pass(&mut self, field: &Field) -> Result<(), Refusal> {
+        let module = self.latest_type(field)?;
+        refuse_if(module.edges.len() == MOST_EDGES, 6, field.place)?;
+        let pass = pass_of(field.body).filter(|pass| is_pass_of(module, pass));
+        module.edges.push(pass.ok_or(refused(7, field))?);
         Ok(())
     }
 
@@ -197,6 +209,12 @@ impl Reading {
 fn refused(number: u8, field: &Field) -> Refusal {
     let place = field.place;
     Refusal { number, place }
+}
+
+/// Whether a pass transistor joins two different nodes of this type at a label of it.
+fn is_pass_of(module: &ModuleType, pass: &Edge) -> bool {
+    let [a, b] = pass.ends;
+    a <= module.highest && b <= module.highest && a != b && pass.label < module.labels
 }
 
 fn is_in_range(listed: &ListedBridge) -> bool {

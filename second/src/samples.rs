@@ -2,7 +2,7 @@
 //! thing, and a full-size one. `circuits/README.md` of the project explains them. All
 //! have a field for each edge, but for one that shows what an old file is like.
 
-use crate::builder::{FileBuilder, NamedFile, CARRY, SUM};
+use crate::builder::{FileBuilder, NamedFile, CARRY, N, P, SUM};
 use crate::make::full_circuit;
 use crate::random::Random;
 use crate::starts::{inverter_file, nand_under, nothing, two_inputs};
@@ -28,6 +28,7 @@ pub fn sample_files() -> Vec<NamedFile> {
         ("nor", nor()),
         ("repeated", repeated()),
         ("fillings", fillings()),
+        ("mux", mux()),
         ("adder", adder()),
         ("full", full()),
     ];
@@ -144,6 +145,24 @@ fn repeated() -> FileBuilder {
 /// The third exercise: a vector with an X, then both its fillings.
 fn fillings() -> FileBuilder {
     nand_under(&["1X", "10", "11"])
+}
+
+/// Not a where s is 1 and b where s is 0, by an inverter and four pass transistors. Node 2
+/// carries not a, node 3 carries b. Both are joined to supply by one channel and to ground
+/// by the other, so they are on neither side of the output, and all edges but one say
+/// their channel.
+pub fn mux() -> FileBuilder {
+    FileBuilder::inputs(3)
+        .field(2, &[4, 4, 3])
+        .field(3, &[1, 2, 0])
+        .pass(0, 2, N, 0)
+        .pass(1, 3, N, 1)
+        .pass(0, 3, P, 1)
+        .pass(2, 4, N, 2)
+        .pass(3, 4, P, 2)
+        .instance(1, -1, &[1, 2, 3])
+        .vectors(&["000", "001", "010", "011", "100", "101", "110", "111"])
+        .vectors(&["0X1", "00X"])
 }
 
 /// The thesis's full adder: the carry's complement drives the sum's.

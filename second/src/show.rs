@@ -48,7 +48,13 @@ fn type_line(number: usize, module: &ModuleType) -> String {
 }
 
 fn edge_line(edge: &Edge) -> String {
-    line(Tag::Edge, &spaced(edge.ends.iter().chain([&edge.label])))
+    let (ends, label) = (spaced(edge.ends), edge.label);
+    if edge.is_pass {
+        let channel = edge.channel.letter();
+        line(Tag::Pass, &format!("{ends} {channel} {label}"))
+    } else {
+        line(Tag::Edge, &format!("{ends} {label}"))
+    }
 }
 
 fn bridge_line(listed: &ListedBridge) -> String {

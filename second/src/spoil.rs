@@ -1,5 +1,5 @@
 //! Damages to one field that know its tag: numbers one past their range, broken
-//! channel rules, wrong references, lists that are empty or do not fit.
+//! channel rules, other channels, wrong references, lists that are empty or do not fit.
 
 use crate::format::{Tag, HIGHEST_LIST, HIGHEST_NODE, MOST_INPUTS, MOST_LABELS, MOST_TYPES};
 use crate::random::Random;
@@ -16,6 +16,7 @@ pub fn spoil(random: &mut Random, fields: &mut Fields, index: usize) {
         Some(Tag::Inputs) => spoil_inputs(random, &mut fields[index].body),
         Some(Tag::Type) => spoil_type(random, &mut fields[index].body),
         Some(Tag::Edge) => spoil_edge(random, fields, index),
+        Some(Tag::Pass) => spoil_pass(random, fields, index),
         Some(Tag::Bridge) => spoil_bridge(random, &mut fields[index].body),
         Some(Tag::Instance) => spoil_instance(random, fields, index),
         Some(Tag::Vector) | None => spoil_vector(random, &mut fields[index].body),
@@ -104,6 +105,36 @@ fn spoil_edge(random: &mut Random, fields: &mut Fields, index: usize) {
             put(body, 1, 1);
         }
         _ => put(body, 2, random.below(usize::from(labels).max(1)) as u8),
+    }
+}
+
+/// Ranges, equal ends, the other channel, and another label or end that may be good.
+fn spoil_pass(random: &mut Random, fields: &mut Fields, index: usize) {
+    let [highest, _, labels] = numbers_before(fields, index);
+    let body = &mut fields[index].body;
+    let end = random.below(2);
+    match random.below(8) {
+        0 => put(
+            body,
+            end,
+            random.pick(&[highest.wrapping_add(1), HIGHEST_NODE + 1, 255]),
+        ),
+        1 => put(body, 2, random.pick(&[2, 3, 48, b'n', b'p', 128, 255])),
+        2 => put(
+            body,
+            3,
+            random.pick(&[labels, labels.wrapping_add(1), MOST_LABELS, 255]),
+        ),
+        3 | 4 => {
+            let other = body[0];
+            put(body, 1, other);
+        }
+        5 => {
+            let other = body.get(2).copied().unwrap_or(0) ^ 1;
+            put(body, 2, other);
+        }
+        6 => put(body, end, random.below(usize::from(highest) + 1) as u8),
+        _ => put(body, 3, random.below(usize::from(labels).max(1)) as u8),
     }
 }
 

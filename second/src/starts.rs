@@ -1,7 +1,7 @@
 //! Starts of files made by hand, each up to a field of another kind, and whole
 //! files: the paper's inverter, its NAND and one with every kind of field.
 
-use crate::builder::FileBuilder;
+use crate::builder::{FileBuilder, N, P};
 
 pub fn nothing() -> FileBuilder {
     FileBuilder::default()
@@ -85,8 +85,9 @@ pub fn nand_under(vectors: &[&str]) -> FileBuilder {
         .vectors(vectors)
 }
 
-/// Every tag, edge fields with one to four labels and a repeated one, both kinds of
-/// bridge, every kind of list choice and of reference, every vector byte.
+/// Every tag, edge fields with one to four labels and a repeated one, pass transistors
+/// of both channels, both kinds of bridge, every kind of list choice and of reference,
+/// every vector byte.
 pub fn every_kind_file() -> FileBuilder {
     FileBuilder::inputs(3)
         .inverter()
@@ -96,7 +97,8 @@ pub fn every_kind_file() -> FileBuilder {
         .field(3, &[2, 3, 2, 3, 2, 2])
         .field(3, &[3, 4, 0])
         .field(3, &[4, 0, 1])
-        .field(3, &[0, 5, 2])
+        .pass(0, 5, N, 2)
+        .pass(2, 1, P, 0)
         .field(3, &[5, 3, 3])
         .bridge(127, 0, 5, 0)
         .bridge(1, 1, 3, 1)

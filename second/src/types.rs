@@ -35,8 +35,12 @@ pub fn made_type(random: &mut Random) -> Drawn {
     sketch.numbered(random)
 }
 
+pub fn gate(random: &mut Random) -> Drawn {
+    simple_gate(random).numbered(random)
+}
+
 pub fn gate_type(random: &mut Random) -> ModuleType {
-    simple_gate(random).numbered(random).module
+    gate(random).module
 }
 
 /// A type with 64 groups of edges and, as far as the nodes reach, the highest node 31.

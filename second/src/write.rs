@@ -58,11 +58,15 @@ pub fn type_fields(module: &ModuleType) -> Vec<LooseField> {
 
 fn edge_field(edge: &Edge) -> LooseField {
     let [a, b] = edge.ends;
-    LooseField::new(Tag::Edge, vec![a, b, edge.label])
+    if edge.is_pass {
+        LooseField::new(Tag::Pass, vec![a, b, edge.channel.byte(), edge.label])
+    } else {
+        LooseField::new(Tag::Edge, vec![a, b, edge.label])
+    }
 }
 
-/// The same fields, but with the edges in groups of these sizes, as old files may
-/// have them. The edges of a group stand one after another and have the same ends.
+/// The same fields, but with the edges of tag 3 in groups of these sizes, as old files
+/// may have them. The edges of a group stand one after another and have the same ends.
 pub fn grouped(fields: Vec<LooseField>, sizes: &[usize]) -> Vec<LooseField> {
     let mut fields = fields.into_iter();
     let mut sizes = sizes.iter();

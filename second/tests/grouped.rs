@@ -9,6 +9,7 @@ use second::report::report_of;
 use second::samples::sample_files;
 use second::show::show_of;
 use second::starts::nand_under;
+use second::write::{bytes_of, fields_of};
 
 /// The file with each grouped field as fields of one label.
 fn ungrouped(bytes: &[u8]) -> Vec<u8> {
@@ -71,7 +72,8 @@ fn listed_up_to_a_refusal() {
     assert_eq!(show_of(&file.bytes), format!("{shown}refused 2 at 30\n"));
 }
 
-/// The circuit, its listing and its report are those of the file without groups.
+/// The circuit, its listing and its report are those of the file without groups, which
+/// is also what is written of the circuit: each edge under its tag.
 #[test]
 fn accepted_files_with_and_without_groups() {
     let limits = limit_files().into_iter().map(|file| file.bytes);
@@ -81,6 +83,8 @@ fn accepted_files_with_and_without_groups() {
     let mut grouped = 0;
     for bytes in accepted.chain(samples).chain(made) {
         let single = ungrouped(&bytes);
+        let circuit = read(&bytes).expect("these files are accepted");
+        assert!(bytes_of(&fields_of(&circuit)) == single);
         if single != bytes {
             assert_eq!(read(&single), read(&bytes));
             assert_eq!(show_of(&single), show_of(&bytes));

@@ -70,13 +70,13 @@ fn faults_2048() {
 /// given, and one past it number 1.
 #[test]
 fn bytes_57344() {
-    let file = limit_file("bytes-47333-fullest.cir");
-    assert_eq!(file.len(), 47_333);
+    let file = limit_file("bytes-51429-fullest.cir");
+    assert_eq!(file.len(), 51_429);
     assert_eq!(refusal(&file), None);
     let mut longer = file;
-    longer.extend([6, 39, 24]);
+    longer.extend([6, 23, 24]);
     longer.resize(57_344, b'0');
-    assert_eq!(refusal(&longer), Some((5, 47_333)));
+    assert_eq!(refusal(&longer), Some((5, 51_429)));
     longer.push(b'0');
     assert_eq!(refusal(&longer), Some((1, 0)));
 }

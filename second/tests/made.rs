@@ -3,7 +3,7 @@
 
 mod support;
 
-use second::circuit::{Circuit, Kind, ModuleType, Value};
+use second::circuit::{Channel, Circuit, Edge, Kind, ModuleType, Value};
 use second::damage::damaged_file;
 use second::fields::cut;
 use second::grade::{Graded, Row};
@@ -14,7 +14,7 @@ use second::write::{bytes_of, fields_of};
 use support::answer;
 
 const SEED: u64 = 20;
-const MADE: u64 = 320;
+const MADE: u64 = 640;
 const DAMAGED: u64 = 1_085;
 
 fn made_circuits() -> impl Iterator<Item = Circuit> {
@@ -76,6 +76,33 @@ fn some_made_files_have_grouped_fields_and_some_have_none() {
     }
     assert!((MADE / 3..=2 * MADE / 3).contains(&grouped), "{grouped}");
     assert!(sizes[1..].iter().all(|&count| count > 200), "{sizes:?}");
+}
+
+fn has_pass(module: &ModuleType) -> bool {
+    module.edges.iter().any(|edge| edge.is_pass)
+}
+
+/// From a third to a half of the files, and among their types some with both tags, some
+/// with tag 7 alone, some with the most edges, and some beside grouped fields.
+#[test]
+fn a_good_share_of_made_files_have_pass_transistors() {
+    let with_passes = made_circuits().filter(|circuit| circuit.types.iter().any(has_pass));
+    let count = with_passes.count() as u64;
+    assert!((MADE / 3..=MADE / 2).contains(&count), "{count}");
+    let types: Vec<ModuleType> = made_circuits()
+        .flat_map(|circuit| circuit.types)
+        .filter(has_pass)
+        .collect();
+    let count = |holds: fn(&&ModuleType) -> bool| types.iter().filter(holds).count();
+    let pure = count(|module| module.edges.iter().all(|edge| edge.is_pass));
+    assert!(pure > 50 && types.len() - pure > 50, "{pure}");
+    assert!(count(|module| module.edges.len() == 256) > 20);
+    assert!(count(|module| module.output != module.highest && module.output != 2) > 50);
+    let both = (0..MADE).filter(|&index| {
+        let has_group = edge_fields(index).iter().any(|labels| labels.len() > 1);
+        has_group && made_circuit(SEED, index).types.iter().any(has_pass)
+    });
+    assert!(both.count() > 50);
 }
 
 /// Longer than an old file could be, and types with more edges than one had fields.
@@ -144,19 +171,41 @@ fn damaged_files_reach_every_number() {
     }
 }
 
-/// One edge too many, in fields of one to four labels.
+/// One edge too many, in fields of one to four labels and of tag 7.
 #[test]
 fn damaged_files_pass_the_limit_of_edges_by_fields_of_each_size() {
     let mut sizes = [0; 5];
+    let mut passes = 0;
     for index in 0..DAMAGED {
         let bytes = damaged_file(SEED, index);
         if let Err(Refusal { number: 6, place }) = read(&bytes) {
-            if bytes[place] == 3 {
-                sizes[usize::from(bytes[place + 2]) - 2] += 1;
+            match bytes[place] {
+                3 => sizes[usize::from(bytes[place + 2]) - 2] += 1,
+                7 => passes += 1,
+                _ => {}
             }
         }
     }
     assert!(sizes[1..].iter().all(|&count| count > 0), "{sizes:?}");
+    assert!(passes > 0);
+}
+
+/// Numbers that a field of tag 7 can have, each at such a field.
+#[test]
+fn damaged_files_reach_each_number_of_tag_7() {
+    let mut reached = [0; 15];
+    for index in 0..DAMAGED {
+        let bytes = damaged_file(SEED, index);
+        if let Err(Refusal { number, place }) = read(&bytes) {
+            let is_pass = bytes.get(place) == Some(&7);
+            reached[usize::from(number)] += usize::from(is_pass);
+        }
+    }
+    for number in [2, 4, 5, 6, 7] {
+        assert!(reached[number] > 0, "{reached:?}");
+    }
+    let others = [3, 8, 9, 10, 11, 12, 13, 14];
+    assert!(others.iter().all(|&number| reached[number] == 0));
 }
 
 /// FNV-1a over the files, so that a change of the makers, or a machine on which
@@ -169,8 +218,8 @@ fn files_are_the_same_everywhere() {
             (sum ^ u64::from(byte)).wrapping_mul(0x100_0000_01b3)
         })
     };
-    assert_eq!(checksum(made_file), 0x004f_5e49_c3d8_7cd8);
-    assert_eq!(checksum(damaged_file), 0x2929_4a9a_76b7_1cf0);
+    assert_eq!(checksum(made_file), 0xb01d_f9d0_155f_45bb);
+    assert_eq!(checksum(damaged_file), 0x81b9_a5df_d193_7554);
 }
 
 /// In an exhaustive list the bridges to the rails show which nodes and labels are
@@ -260,13 +309,15 @@ fn is_series_parallel(mut edges: Vec<(u8, u8)>, ends: [u8; 2]) -> bool {
 #[test]
 fn some_made_types_are_not_series_parallel() {
     let mut both = [0; 2];
-    for module in made_circuits().flat_map(|circuit| circuit.types) {
-        let ends: Vec<(u8, u8)> = module.edges.iter().map(|edge| edge.ends.into()).collect();
-        let in_p = |edge: &(u8, u8)| edge.0.min(edge.1) >= 1 && edge.0.max(edge.1) <= module.output;
-        let (p, n) = ends.into_iter().partition(in_p);
-        let simple =
-            is_series_parallel(p, [1, module.output]) && is_series_parallel(n, [0, module.output]);
-        both[usize::from(simple)] += 1;
+    let types = made_circuits().flat_map(|circuit| circuit.types);
+    for module in types.filter(|module| !has_pass(module)) {
+        let is_p = |edge: &&Edge| edge.channel == Channel::P;
+        let (p, n): (Vec<&Edge>, Vec<&Edge>) = module.edges.iter().partition(is_p);
+        let is_simple = |edges: Vec<&Edge>, rail: u8| {
+            let ends = edges.iter().map(|edge| edge.ends.into()).collect();
+            is_series_parallel(ends, [rail, module.output])
+        };
+        both[usize::from(is_simple(p, 1) && is_simple(n, 0))] += 1;
     }
     assert!(both[0] > 20 && both[1] > 200, "{both:?}");
 }

@@ -63,7 +63,7 @@ fn number_2_for_cut_fields() {
 fn number_3_for_tags() {
     check_at_field(vec![
         ("tag 0", two_inputs(), 0, &[], 3),
-        ("tag 7", with_vector(), 7, &[], 3),
+        ("tag 8", with_vector(), 8, &[], 3),
         ("tag 255", with_type(), 255, &[1, 2], 3),
         ("tag 0 first", nothing(), 0, &[0, 2], 3),
     ]);
@@ -246,6 +246,42 @@ fn number_7_for_instances_and_vectors() {
 }
 
 #[test]
+fn numbers_4_to_7_for_pass_transistors() {
+    let type_4 = || two_inputs().field(2, &[4, 3, 2]);
+    let good = &[1, 2, 1, 0];
+    check_at_field(vec![
+        ("first field a pass", nothing(), 7, good, 4),
+        ("pass without type", two_inputs(), 7, good, 4),
+        ("pass after a bridge", with_bridges(), 7, good, 4),
+        ("pass after an instance", with_instance(), 7, good, 4),
+        ("pass after a vector", with_vector(), 7, good, 4),
+        ("4 before 5, pass", with_bridges(), 7, &[1, 2, 1], 4),
+        ("4 before 7, pass", with_bridges(), 7, &[9; 4], 4),
+        ("empty pass", with_type(), 7, &[], 5),
+        ("short pass", with_type(), 7, &[1, 2, 1], 5),
+        ("long pass", with_type(), 7, &[1, 2, 1, 0, 0], 5),
+        ("5 before 6, pass", with_edges(256), 7, &[1, 2, 1], 5),
+        ("5 before 7, pass", with_type(), 7, &[2, 2, 9], 5),
+        ("257th edge a pass", with_edges(256), 7, good, 6),
+        ("6 before 7, pass", with_edges(256), 7, &[2, 2, 9, 9], 6),
+        ("first end above, pass", type_4(), 7, &[5, 3, 0, 0], 7),
+        ("second end above, pass", type_4(), 7, &[3, 5, 0, 0], 7),
+        ("both ends above", type_4(), 7, &[5, 5, 0, 0], 7),
+        ("equal ends, pass", type_4(), 7, &[4, 4, 0, 0], 7),
+        ("equal rails, pass", type_4(), 7, &[0, 0, 1, 0], 7),
+        ("channel 2", type_4(), 7, &[3, 4, 2, 0], 7),
+        ("channel 255", type_4(), 7, &[3, 4, 255, 0], 7),
+        ("label k, pass", type_4(), 7, &[3, 4, 0, 2], 7),
+    ]);
+    let passes = two_inputs().field(2, &[2, 2, 1]);
+    let passes = passes.times(253, |file| file.field(7, good));
+    check_at_field(vec![
+        ("254 to 257", passes.clone(), 3, &[1, 2, 0, 0, 0, 0], 6),
+        ("254 to 256", passes, 3, &[1, 9, 0, 0, 0], 7),
+    ]);
+}
+
+#[test]
 fn number_8_for_edge_ends() {
     let type_6 = || two_inputs().field(2, &[6, 4, 2]);
     check_at_field(vec![
@@ -272,7 +308,7 @@ fn number_9_stands_after_4() {
     let next = broken_type().end();
     let cut = broken_type().raw(&[5, 0, 9, 1]);
     assert_eq!(refusal(&cut.bytes), Some((2, next)));
-    assert_eq!(after(7, &[]), Some((3, next)));
+    assert_eq!(after(8, &[]), Some((3, next)));
     assert_eq!(after(1, &[0, 2]), Some((4, next)));
     for tag in [2, 4, 5, 6] {
         assert_eq!(after(tag, &[]), Some((9, 5)), "9 before 5, tag {tag}");
@@ -291,6 +327,9 @@ fn number_9_stands_after_4() {
     assert_eq!(after(3, &[1, 2]), Some((5, next)), "an edge judges nothing");
     assert_eq!(after(3, &[1, 2, 1]), Some((7, next)));
     assert_eq!(after(3, &[1, 0, 0]), Some((8, next)));
+    assert_eq!(after(7, &[1, 2, 1]), Some((5, next)), "nor does a pass");
+    assert_eq!(after(7, &[1, 2, 1, 1]), Some((7, next)));
+    assert_eq!(after(7, &[1, 2, 1, 0]), Some((9, 5)), "but the end does");
 }
 
 #[test]

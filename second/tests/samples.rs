@@ -284,6 +284,83 @@ fn fillings() {
     assert_eq!(silent, [(2, 1), (3, 1)]);
 }
 
+/// By hand from what the nodes are joined to under 000 to 111, then 0X1 and 00X; `s` is
+/// supply, `g` ground and `-` neither:
+///
+/// node 2, not a: `ssss gggg ss`; node 3, b: `ggss ggss -g`; node 4: `gsss ggsg s-`.
+///
+/// Under 0X1 nothing is known of node 3, which the output is not joined to. Under 00X the
+/// output is joined to nothing that is known. Node 3 and label 1 are never apart, so one
+/// class is not found.
+const MUX_REPORT: &str = "\
+vectors 10 faults 25 classes 25 found 24
+1 n 0 1 1 1111111111 10 1
+1 n 0 2 2 1111000011 6 1
+1 n 0 3 3 0011001100 4 3
+1 n 0 4 4 0111001010 5 2
+1 n 1 2 5 0000111100 4 5
+1 n 1 3 6 1100110001 5 1
+1 n 1 4 7 1000110100 4 1
+1 n 2 3 8 1100001101 5 1
+1 n 2 4 9 1000001000 2 1
+1 n 3 4 10 0100000100 2 2
+1 i 0 0 11 0000111100 4 5
+1 i 0 1 12 0011001100 4 3
+1 i 0 2 13 0101010110 5 2
+1 i 1 0 14 1111000011 6 1
+1 i 1 1 15 1100110001 5 1
+1 i 1 2 16 1010101000 4 1
+1 i 2 0 17 1111111111 10 1
+1 i 2 1 18 1100001101 5 1
+1 i 2 2 19 1010010100 4 1
+1 i 3 0 20 0011110000 4 3
+1 i 3 1 21 0000000000 0 0
+1 i 3 2 22 0110011000 4 2
+1 i 4 0 23 0111110110 7 2
+1 i 4 1 24 0100000100 2 2
+1 i 4 2 25 0010011100 4 3
+";
+
+const MUX_SHOWN: &str = "\
+inputs 3
+type 1 4 4 3
+edge 1 2 0
+pass 0 2 n 0
+pass 1 3 n 1
+pass 0 3 p 1
+pass 2 4 n 2
+pass 3 4 p 2
+instance 1 1 -1 1 2 3
+vector 1 000
+vector 2 001
+vector 3 010
+vector 4 011
+vector 5 100
+vector 6 101
+vector 7 110
+vector 8 111
+vector 9 0X1
+vector 10 00X
+";
+
+#[test]
+fn mux() {
+    assert_eq!(report_of(&sample_file("mux")), MUX_REPORT);
+    assert_eq!(show_of(&sample_file("mux")), MUX_SHOWN);
+    for vector in &circuit("mux").vectors[..8] {
+        let [a, b, s] = vector[..] else {
+            panic!("the mux has three inputs");
+        };
+        let module = &circuit("mux").types[0];
+        let is_one = match s {
+            Value::One => a == Value::Zero,
+            _ => b == Value::One,
+        };
+        let output = output_value(module, &Graph::of_on_edges(module, vector));
+        assert_eq!(output == Value::One, is_one, "{vector:?}");
+    }
+}
+
 /// Both instances list the bridge 0-1, and each rail with the three inputs and with
 /// the carry's output.
 #[test]

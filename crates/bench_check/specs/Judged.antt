@@ -4,7 +4,7 @@ use Prim.Native.Nat.{ℕ, _+_, _%_}
 use mathlib.Core.Bool.{cond}
 use lib.Dec.{ltb}
 use lib.ListN.{replicate}
-use Rattle.switch.specs.Conduction.{Edge, p-channel, n-channel}
+use Rattle.switch.specs.Conduction.{p-channel, n-channel, by-position, Edge}
 use Rattle.switch.specs.Modules.{mostEdges}
 use Rattle.switch.specs.Records.{edgeRecord}
 use Rattle.switch.specs.declared.ModuleType.{ModuleType}
@@ -15,6 +15,7 @@ judgedEdge k node label = record {
   second = 0;
   channel = cond (ltb label node) p-channel n-channel;
   label = label % (1 + k % 12);
+  tag = by-position;
 }
 
 abbrev pub judged : ℕ → ℕ → ℕ → ℕ → ℕ → ℕ → ModuleType

@@ -15,7 +15,7 @@ fn judged_type(h: u8, o: u8, k: u8, node: u8, label: u8, count: u8) -> ModuleTyp
     ensures { λ r. ⌜ r ≡ judged h o k node label count ⌝ }
 {
     let labels = 1 + k % 12;
-    let edge = edge_with(node % 24, 0, label % labels, label < node);
+    let edge = edge_with(node % 24, 0, label % labels, label < node, false);
     ModuleType {
         highest: 24 + h % 8,
         output: 2 + o % 16,

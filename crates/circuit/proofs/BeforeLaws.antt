@@ -21,9 +21,9 @@ use Rattle.circuit.specs.Table.{Test, Verdict, passes, refusedAt, firstO
 use Rattle.circuit.specs.Records.{emptyCircuit}
 use Rattle.circuit.specs.Verdicts.{isRefused}
 use Rattle.circuit.specs.Before.{typesBefore}
-use Rattle.circuit.specs.Stages.{Stage, stageOf, stopped, ifPasses, section, bridgeStage, instanceStage, failingVerdict, judged, fieldPlace, typeStage, readTo, gatheredFrom, gatheredAtStart, gatheredOf}
+use Rattle.circuit.specs.Stages.{Stage, stageOf, stopped, ifPasses, section, sectionOf, bridgeStage, instanceStage, failingVerdict, judged, fieldPlace, typeStage, readTo, gatheredFrom, gatheredAtStart, gatheredOf}
 use Rattle.circuit.specs.Laws.{Each, TypeSound, TypeGood, InstanceGood, CircuitGood, BeforeIsGood}
-use Rattle.circuit.proofs.StageLaws.{with-edge, with-type, more-edges, more-types, by-edge, by-type, by-other}
+use Rattle.circuit.proofs.StageLaws.{edgeAs, with-edge, with-type, more-edges, more-types, by-edge, by-type, by-other}
 use Rattle.circuit.proofs.GatheredLaws.{failing-refuses, gathered-is-before}
 use Rattle.circuit.proofs.Tested.{inputs-pass, type-pass, edges-sound, bridge-pass, faults-snoc, instance-pass, vector-pass, holds, length-snoc, getD-any, some-length, no-length, each-none, each-snoc}
 use Rattle.circuit.proofs.Verdicts.{refused-passes}
@@ -38,14 +38,14 @@ verdict-keeps Holds (refusedAt number place) a cut s h later = h
 
 module _ (kind : Tag) {A : Type 0} (tests : A → ℕ → List ℕ → List Test) (add : A → List ℕ → A) (Holds : A → Type 0)
     (keeps : (a : A) (at : ℕ) (body : List ℕ) → Holds a → firstOf (tests a at body) ≡ passes → Holds (add a body)) where
-  section-keeps : (a : A) (cut : Cut) → Holds a → Holds (section kind tests add a cut .gathered)
+  section-keeps : (a : A) (cut : Cut) → Holds a → Holds (sectionOf kind tests add a cut .gathered)
   unfolding section
   section-keeps a clean h = h
   section-keeps a (broken at) h = h
   section-keeps a (field f rest) h = go (isKind kind (tagOf (f .tag))) (λ k. section-keeps (add a (f .body)) rest k)
     where
       more : Stage A
-      more = section kind tests add (add a (f .body)) rest
+      more = sectionOf kind tests add (add a (f .body)) rest
 
       go : (own : Bool) → (Holds (add a (f .body)) → Holds (more .gathered))
           → Holds (cond own (ifPasses (firstOf (tests a (f .at) (f .body))) a (field f rest) more) (stopped a (field f rest)) .gathered)
@@ -165,9 +165,9 @@ types-keep types from (field f rest) s =
         (ifPasses (judged types (fieldPlace from) (field f rest)) (typesBefore types) from (by-other types f from rest)) .gathered)
     go true true em edges types′ = other types′
     go true false em edges types′ =
-        verdict-keeps TypesGood (firstOf (edgeTests (latest types) (f .at) (f .body))) (typesBefore types) from (more-edges types f from rest) (before-good types s)
-        (λ e. edges (edge-keeps types (withEdges (latest types) (edgesIn (latest types .output) (f .body))) em s
-        (edges-sound (latest types) (f .at) (f .body) e (latest-sound types em s))))
+        verdict-keeps TypesGood (firstOf (edgeTests (edgeAs f) (latest types) (f .at) (f .body))) (typesBefore types) from (more-edges types f from rest) (before-good types s)
+        (λ e. edges (edge-keeps types (withEdges (latest types) (edgesIn (edgeAs f) (latest types .output) (f .body))) em s
+        (edges-sound (edgeAs f) (latest types) (f .at) (f .body) e (latest-sound types em s))))
     go false em em′ edges types′ = other types′
 
 -- the types that the code's stage has read

@@ -20,7 +20,7 @@ use Rattle.circuit.specs.Reading.{Reading, accepted, refusal, unless, re
 use Rattle.circuit.specs.Laws.{TypeGood, CircuitGood, Whole, RefusalGood, AcceptedIsGood, AcceptedIsWhole, RefusalIsGood}
 use Rattle.circuit.proofs.BeforeLaws.{before-is-good}
 use Rattle.circuit.proofs.GatheredLaws.{before-is-circuit}
-use Rattle.circuit.proofs.OrderLaws.{first-place}
+use Rattle.circuit.proofs.OrderLaws.{edge-no-inputs, first-place}
 use Rattle.circuit.proofs.Tested.{VerdictGood, TestsGood, first-good, inputs-refuse, types-refuse, edges-refuse, bridges-refuse, instances-refuse, vectors-refuse, inputs-pass, some-length}
 use Rattle.circuit.proofs.Verdicts.{first-passes}
 
@@ -55,7 +55,7 @@ body-good : (size at : ℕ) (body : List ℕ) → at ≤ size → (tag : Tag) (c
 unfolding bodyTests
 body-good size at body h inputs-tag c = inputs-refuse size at h body
 body-good size at body h type-tag c = types-refuse size at h body (length (c .types))
-body-good size at body h edge-tag c = edges-refuse size at h body (latest (c .types))
+body-good size at body h (edge-tag e) c = edges-refuse size at h body e (latest (c .types))
 body-good size at body h bridge-tag c = bridges-refuse size at h body (length (c .bridges))
 body-good size at body h instance-tag c = instances-refuse size at h body c
 body-good size at body h vector-tag c = vectors-refuse size at h body (c .inputs) (length (c .vectors))
@@ -100,7 +100,7 @@ module _ (size : ℕ) (known : Known) (good : KnownGood size known) where
   unfolding bodyTests taken isKind
   some-input f inputs-tag u m e = inputs-pass (f .at) (f .body) e .0
   some-input f type-tag u m e = later type-tag refl u m
-  some-input f edge-tag u m e = later edge-tag refl u m
+  some-input f (edge-tag t) u m e = later (edge-tag t) (edge-no-inputs t) u m
   some-input f bridge-tag u m e = later bridge-tag refl u m
   some-input f instance-tag u m e = later instance-tag refl u m
   some-input f vector-tag u m e = later vector-tag refl u m

@@ -3,7 +3,7 @@ use Prim.Native.Nat.{ℕ}
 use mathlib.Core.Path.{_≡_, refl}
 use mathlib.Core.List.{List, [], _∷_, _++_}
 use lib.ListN.{length}
-use Rattle.switch.specs.Conduction.{at0, at1, atX, p-channel, n-channel, nEnd, nEnds, badEnds, transistorOn, channelOf, pEnds, edgeOn, edgesFor, between, links}
+use Rattle.switch.specs.Conduction.{at0, at1, atX, p-channel, n-channel, by-position, nEnd, nEnds, badEnds, transistorOn, channelOf, pEnds, edgeOn, edgesFor, between, links}
 use Rattle.switch.specs.Modules.{allOf, inRange, typeInRange, edgeInRange, linksOf, settingOf, valueOfBit}
 use Rattle.switch.specs.Deciding.{joins, renamings, partIn, rename, allBelow, oneRail, isComplementary}
 use Rattle.words.specs.Bits.{bit}
@@ -11,7 +11,7 @@ use Rattle.words.specs.Tables.{table}
 use Rattle.circuit.specs.Fields.{twoBytes, cutIn, cutFrom}
 use Rattle.circuit.specs.Circuit.{primary, outputOf, exhaustive, no-faults, numbered, exhaustiveSize, chosenSize, faultCount, userList}
 use Rattle.circuit.specs.Numbers.{signed, choiceOf, choiceInRange, referenceOf, referenceGood}
-use Rattle.circuit.specs.Order.{tagOf, isKind, mayFollow}
+use Rattle.circuit.specs.Order.{tagOf, isKind, isEdge, mayFollow}
 use Rattle.circuit.specs.Known.{typeIn, edgesIn, referencesIn, instanceIn, letterOf, vectorIn, latest, withEdges, edgesAdded, taken, typeAtAfter, knownAfter, bridgeOf}
 use Rattle.circuit.specs.Table.{firstOf, unjudged, notComplementary, isEmpty, listUnsuited, listEmpty, isLetter, bridgeGood, listedGood, bridgeInRange, edgesInRange, inputsTests, typeTests, edgeTests, edgeTestsOf, bridgeTests, instanceTests, instanceTestsOf, vectorTests, bodyTests, fieldTests, endTests}
 use Rattle.circuit.specs.Reading.{accepted, refusal, unless, readFrom, readingWith, readingOf}
@@ -25,12 +25,12 @@ size = refl
 
 read-inverter : readingOf inverter ≡ accepted (record {
   inputs = 1;
-  types = record { highest = 2; output = 2; labels = 1; edges = record { first = 1; second = 2; channel = p-channel; label = 0 } ∷ record { first = 0; second = 2; channel = n-channel; label = 0 } ∷ [] } ∷ [];
+  types = record { highest = 2; output = 2; labels = 1; edges = record { first = 1; second = 2; channel = p-channel; label = 0; tag = by-position } ∷ record { first = 0; second = 2; channel = n-channel; label = 0; tag = by-position } ∷ [] } ∷ [];
   bridges = [];
   instances = record { type = 1; choice = exhaustive; references = primary 1 ∷ [] } ∷ [];
   vectors = (at0 ∷ []) ∷ (at1 ∷ []) ∷ (atX ∷ []) ∷ [];
 })
-unfolding inverter nEnd nEnds badEnds readingWith readFrom unless fieldTests endTests firstOf bodyTests inputsTests typeTests edgeTests edgeTestsOf bridgeTests instanceTests instanceTestsOf vectorTests isKind mayFollow unjudged notComplementary isEmpty listUnsuited listEmpty isLetter tagOf typeIn edgesIn referencesIn instanceIn letterOf vectorIn latest withEdges edgesAdded taken typeAtAfter knownAfter signed choiceOf choiceInRange referenceOf referenceGood twoBytes cutIn cutFrom numbered exhaustiveSize chosenSize faultCount userList bit table joins renamings partIn rename allBelow oneRail isComplementary allOf inRange typeInRange edgeInRange linksOf settingOf valueOfBit transistorOn channelOf pEnds edgeOn edgesFor edgesInRange between links
+unfolding inverter nEnd nEnds badEnds readingWith readFrom unless fieldTests endTests firstOf bodyTests inputsTests typeTests edgeTests edgeTestsOf bridgeTests instanceTests instanceTestsOf vectorTests isKind isEdge mayFollow unjudged notComplementary isEmpty listUnsuited listEmpty isLetter tagOf typeIn edgesIn referencesIn instanceIn letterOf vectorIn latest withEdges edgesAdded taken typeAtAfter knownAfter signed choiceOf choiceInRange referenceOf referenceGood twoBytes cutIn cutFrom numbered exhaustiveSize chosenSize faultCount userList bit table joins renamings partIn rename allBelow oneRail isComplementary allOf inRange typeInRange edgeInRange linksOf settingOf valueOfBit transistorOn channelOf pEnds edgeOn edgesFor edgesInRange between links
 read-inverter = refl
 
 read-empty : readingOf [] ≡ refusal 14 0
@@ -61,7 +61,7 @@ withSecond high low = begin ++ instanceWith 0 1 ++ instanceWith high low ++ vect
 -- in instance 2 a reference of -1 is good, -2 or 0 is 10; in instance 1 a reference of -1 is 10
 read-references : (readingOf (withSecond 255 255) ≡ accepted (record {
   inputs = 1;
-  types = record { highest = 2; output = 2; labels = 1; edges = record { first = 1; second = 2; channel = p-channel; label = 0 } ∷ record { first = 0; second = 2; channel = n-channel; label = 0 } ∷ [] } ∷ [];
+  types = record { highest = 2; output = 2; labels = 1; edges = record { first = 1; second = 2; channel = p-channel; label = 0; tag = by-position } ∷ record { first = 0; second = 2; channel = n-channel; label = 0; tag = by-position } ∷ [] } ∷ [];
   bridges = [];
   instances = record { type = 1; choice = no-faults; references = primary 1 ∷ [] } ∷ record { type = 1; choice = no-faults; references = outputOf 1 ∷ [] } ∷ [];
   vectors = (at0 ∷ []) ∷ [];
@@ -69,7 +69,7 @@ read-references : (readingOf (withSecond 255 255) ≡ accepted (record {
     × ((readingOf (withSecond 255 254) ≡ refusal 10 30)
     × ((readingOf (withSecond 0 0) ≡ refusal 10 30)
     × (readingOf (begin ++ instanceWith 255 255 ++ vector) ≡ refusal 10 23)))
-unfolding begin instanceWith vector withSecond nEnd nEnds badEnds readingWith readFrom unless fieldTests endTests firstOf bodyTests inputsTests typeTests edgeTests edgeTestsOf bridgeTests instanceTests instanceTestsOf vectorTests isKind mayFollow unjudged notComplementary isEmpty listUnsuited listEmpty isLetter tagOf typeIn edgesIn referencesIn instanceIn letterOf vectorIn latest withEdges edgesAdded taken typeAtAfter knownAfter signed choiceOf choiceInRange referenceOf referenceGood twoBytes cutIn cutFrom numbered exhaustiveSize chosenSize faultCount userList bit table joins renamings partIn rename allBelow oneRail isComplementary allOf inRange typeInRange edgeInRange linksOf settingOf valueOfBit transistorOn channelOf pEnds edgeOn edgesFor edgesInRange between links
+unfolding begin instanceWith vector withSecond nEnd nEnds badEnds readingWith readFrom unless fieldTests endTests firstOf bodyTests inputsTests typeTests edgeTests edgeTestsOf bridgeTests instanceTests instanceTestsOf vectorTests isKind isEdge mayFollow unjudged notComplementary isEmpty listUnsuited listEmpty isLetter tagOf typeIn edgesIn referencesIn instanceIn letterOf vectorIn latest withEdges edgesAdded taken typeAtAfter knownAfter signed choiceOf choiceInRange referenceOf referenceGood twoBytes cutIn cutFrom numbered exhaustiveSize chosenSize faultCount userList bit table joins renamings partIn rename allBelow oneRail isComplementary allOf inRange typeInRange edgeInRange linksOf settingOf valueOfBit transistorOn channelOf pEnds edgeOn edgesFor edgesInRange between links
 read-references = (refl, (refl, (refl, refl)))
 
 -- ---- bridges
@@ -77,5 +77,5 @@ read-references = (refl, (refl, (refl, refl)))
 -- a kind 0 bridge with equal ends is 7, and so is one of a third kind
 read-bridges : (readingOf (begin ++ (4 ∷ 0 ∷ 4 ∷ 1 ∷ 0 ∷ 2 ∷ 2 ∷ [])) ≡ refusal 7 23)
     × (readingOf (begin ++ (4 ∷ 0 ∷ 4 ∷ 1 ∷ 2 ∷ 2 ∷ 0 ∷ [])) ≡ refusal 7 23)
-unfolding begin nEnd nEnds badEnds readingWith readFrom unless fieldTests endTests firstOf bodyTests inputsTests typeTests edgeTests edgeTestsOf bridgeTests bridgeInRange listedGood bridgeGood bridgeOf instanceTests instanceTestsOf vectorTests isKind mayFollow unjudged notComplementary isEmpty listUnsuited listEmpty isLetter tagOf typeIn edgesIn referencesIn instanceIn letterOf vectorIn latest withEdges edgesAdded taken typeAtAfter knownAfter signed choiceOf choiceInRange referenceOf referenceGood twoBytes cutIn cutFrom numbered exhaustiveSize chosenSize faultCount userList bit table joins renamings partIn rename allBelow oneRail isComplementary allOf inRange typeInRange edgeInRange linksOf settingOf valueOfBit transistorOn channelOf pEnds edgeOn edgesFor edgesInRange between links
+unfolding begin nEnd nEnds badEnds readingWith readFrom unless fieldTests endTests firstOf bodyTests inputsTests typeTests edgeTests edgeTestsOf bridgeTests bridgeInRange listedGood bridgeGood bridgeOf instanceTests instanceTestsOf vectorTests isKind isEdge mayFollow unjudged notComplementary isEmpty listUnsuited listEmpty isLetter tagOf typeIn edgesIn referencesIn instanceIn letterOf vectorIn latest withEdges edgesAdded taken typeAtAfter knownAfter signed choiceOf choiceInRange referenceOf referenceGood twoBytes cutIn cutFrom numbered exhaustiveSize chosenSize faultCount userList bit table joins renamings partIn rename allBelow oneRail isComplementary allOf inRange typeInRange edgeInRange linksOf settingOf valueOfBit transistorOn channelOf pEnds edgeOn edgesFor edgesInRange between links
 read-bridges = (refl, refl)

@@ -20,10 +20,10 @@ use Rattle.circuit.specs.Reading.{Reading, accepted, refusal, unless}
 use Rattle.circuit.specs.Records.{emptyCircuit}
 use Rattle.circuit.specs.Verdicts.{isRefused}
 use Rattle.circuit.specs.Before.{typesBefore, withoutLatest, finished, beforeFrom, readBefore}
-use Rattle.circuit.specs.Stages.{Stage, stopped, ifPasses, section, bridgeStage, instanceStage, vectorStage, failingBefore, failingVerdict, judged, fieldPlace, typeStage, pastVerdict, afterStage, afterInputs, fromStart, staged, gatheredFrom, gatheredAtStart, gatheredOf}
+use Rattle.circuit.specs.Stages.{Stage, stopped, ifPasses, section, sectionOf, bridgeStage, instanceStage, vectorStage, failingBefore, failingVerdict, judged, fieldPlace, typeStage, pastVerdict, afterStage, afterInputs, fromStart, staged, gatheredFrom, gatheredAtStart, gatheredOf}
 use Rattle.circuit.specs.Laws.{GatheredIsBefore, BeforeIsCircuit}
-use Rattle.circuit.proofs.StageLaws.{knowing, quiet, judged-quiet, Ready, StageOf, after-own, at-stop, ready-end, bridges-stage, instances-stage, vectors-stage, Before, after-type, ready, with-edge, with-type, more-edges, more-types, by-edge, by-type, by-other, both-true, none-waits, snoc-some, set-some, failing-field, types-past, withTypes, staged-is-reading}
-use Rattle.circuit.proofs.OrderLaws.{kind-is, known-rank, first-place}
+use Rattle.circuit.proofs.StageLaws.{knowing, quiet, judged-quiet, Ready, StageOf, after-own, at-stop, ready-end, bridges-stage, instances-stage, vectors-stage, Before, after-type, ready, edgeAs, after-edge, with-edge, with-type, more-edges, more-types, by-edge, by-type, by-other, both-true, none-waits, snoc-some, set-some, failing-field, types-past, withTypes, staged-is-reading}
+use Rattle.circuit.proofs.OrderLaws.{kind-is, edge-is, edge-known, edge-no-type, known-rank, first-place}
 use Rattle.circuit.proofs.RangeLaws.{between-in}
 
 -- ---- a field, and what is known before it
@@ -74,10 +74,10 @@ at-refusal next (refusedAt number place) a cut s e = refl
 -- ---- a stage of one kind
 
 no-edge-tag : (kind : Tag) → 3 ≤ rank kind → isEdge kind ≡ false
-unfolding isKind
+unfolding isEdge
 no-edge-tag inputs-tag low = refl
 no-edge-tag type-tag low = refl
-no-edge-tag edge-tag low = absurd (omega arith)
+no-edge-tag (edge-tag t) low = absurd (omega arith)
 no-edge-tag bridge-tag low = refl
 no-edge-tag instance-tag low = refl
 no-edge-tag vector-tag low = refl
@@ -90,7 +90,7 @@ module _ (kind : Tag) {A : Type 0} (types : List ModuleType)
     (goes-on : (a : A) (previous : Previous) (typeAt : ℕ) (cut : Cut) → Ready (suc (rank kind)) previous types cut → beforeFrom (knowing previous typeAt (circuit a)) cut ≡ next a cut)
     (stays : (a : A) (f : Field) (rest : Cut) → tagOf (f .tag) ≡ kind → next a (field f rest) ≡ circuit a) where
   section-gathers : (a : A) (previous : Previous) (typeAt : ℕ) (cut : Cut) → Ready (rank kind) previous types cut
-      → beforeFrom (knowing previous typeAt (circuit a)) cut ≡ goesOn next (section kind tests add a cut)
+      → beforeFrom (knowing previous typeAt (circuit a)) cut ≡ goesOn next (sectionOf kind tests add a cut)
   unfolding section
   section-gathers a previous typeAt clean r = goes-on a previous typeAt clean (ready-end s previous clean refl r)
   section-gathers a previous typeAt (broken at) r = goes-on a previous typeAt (broken at) (ready-end s previous (broken at) refl r)
@@ -102,7 +102,7 @@ module _ (kind : Tag) {A : Type 0} (types : List ModuleType)
       known = knowing previous typeAt (circuit a)
 
       more : Stage A
-      more = section kind tests add (add a (f .body)) rest
+      more = sectionOf kind tests add (add a (f .body)) rest
 
       kept : tagOf (f .tag) ≡ kind → finished known (isEdge kind) ≡ next a (field f rest)
       kept own =
@@ -134,10 +134,10 @@ is-refused false false at later x y h = refl
 -- an edge that is misplaced follows no type that waits to be judged
 no-edge : (previous : Previous) (types : List ModuleType) (g : Tag) → (unjudged previous ≡ true → notComplementary types ≡ false)
     → (rank g < 6 → mayFollow previous g ≡ false) → unjudged previous ≡ true → (isEdge g || notComplementary types) ≡ false
-unfolding isKind mayFollow unjudged
+unfolding isEdge mayFollow unjudged
 no-edge previous types inputs-tag j h u = j u
 no-edge previous types type-tag j h u = j u
-no-edge previous types edge-tag j h u = let z = h (omega arith) in cc (z, u)
+no-edge previous types (edge-tag t) j h u = let z = h (omega arith) in cc (z, u)
 no-edge previous types bridge-tag j h u = j u
 no-edge previous types instance-tag j h u = j u
 no-edge previous types vector-tag j h u = j u
@@ -204,21 +204,23 @@ module _ (P : ℕ) (next : List ModuleType → Cut → Circuit)
     at-broken at = drops previous typeAt (withTypes P types) false u fl
 
   module _ (types : List ModuleType) (previous : Previous) (from : Cut) (f : Field) (rest : Cut) (more : Stage (List ModuleType)) where
-    at-edge : tagOf (f .tag) ≡ edge-tag → unjudged previous ≡ true → next (typesBefore types) from ≡ withTypes P (typesBefore types)
-        → beforeFrom (knowing (after-tag edge-tag) (fieldPlace from) (withTypes P (with-edge types f))) rest ≡ goesOn next more
+    at-edge : isEdge (tagOf (f .tag)) ≡ true → unjudged previous ≡ true → next (typesBefore types) from ≡ withTypes P (typesBefore types)
+        → beforeFrom (knowing (after-edge f) (fieldPlace from) (withTypes P (with-edge types f))) rest ≡ goesOn next more
         → beforeFrom (knowing previous (fieldPlace from) (withTypes P types)) (field f rest)
-        ≡ goesOn next (ifPasses (firstOf (edgeTests (latest types) (f .at) (f .body))) (typesBefore types) from more)
-    unfolding isKind mayFollow unjudged bodyTests taken
+        ≡ goesOn next (ifPasses (firstOf (edgeTests (edgeAs f) (latest types) (f .at) (f .body))) (typesBefore types) from more)
+    unfolding isEdge mayFollow unjudged bodyTests taken
     at-edge own u holds later =
-        before-own (knowing previous (fieldPlace from) (withTypes P types)) f rest edge-tag own refl u (rw u)
-        ∙ at-verdict next (firstOf (edgeTests (latest types) (f .at) (f .body))) (typesBefore types) from more _ _
-        (drops previous (fieldPlace from) (withTypes P types) true u refl ∙ sym holds) later
+        before-own (knowing previous (fieldPlace from) (withTypes P types)) f rest (edge-tag (edgeAs f)) (edge-is (tagOf (f .tag)) own)
+        (edge-known (edgeAs f)) u (rw u)
+        ∙ rw (edge-no-type (edgeAs f))
+        (at-verdict next (firstOf (edgeTests (edgeAs f) (latest types) (f .at) (f .body))) (typesBefore types) from more _ _
+        (drops previous (fieldPlace from) (withTypes P types) true u refl ∙ sym holds) later)
 
     at-type : tagOf (f .tag) ≡ type-tag → 1 ≤ reached previous → reached previous ≤ 2 → (unjudged previous ≡ true → notComplementary types ≡ false)
         → beforeFrom (knowing (after-tag type-tag) (f .at) (withTypes P (with-type types f))) rest ≡ goesOn next more
         → beforeFrom (knowing previous (fieldPlace from) (withTypes P types)) (field f rest)
         ≡ goesOn next (ifPasses (firstOf (typeTests (length types) (f .at) (f .body))) types (field f rest) more)
-    unfolding isKind mayFollow bodyTests taken
+    unfolding isKind isEdge mayFollow bodyTests taken
     at-type own low high j later =
         before-own (knowing previous (fieldPlace from) (withTypes P types)) f rest type-tag own refl (between-in 1 2 (reached previous) low high) (judged-quiet previous type-tag types j)
         ∙ at-verdict next (firstOf (typeTests (length types) (f .at) (f .body))) types (field f rest) more _ _
@@ -248,15 +250,15 @@ module _ (P : ℕ) (next : List ModuleType → Cut → Circuit)
       (λ j. goes-on types previous (fieldPlace from) (broken at) (ready types previous (broken at) b j (λ h. absurd (omega arith))))
   types-gather types previous from (field f rest) b holds =
       go (isEdge (tagOf (f .tag)) && not (isEmpty types)) refl
-      (λ c. types-gather (with-edge types f) (after-tag edge-tag) from rest c holds)
+      (λ c. types-gather (with-edge types f) (after-edge f) from rest c holds)
       (λ c q. types-gather (with-type types f) (after-tag type-tag) (field f rest) rest c (λ ts. stays ts f rest q))
     where
       known : Known
       known = knowing previous (fieldPlace from) (withTypes P types)
 
       go : (own : Bool) → (isEdge (tagOf (f .tag)) && not (isEmpty types)) ≡ own
-          → (Before (with-edge types f) (after-tag edge-tag)
-          → beforeFrom (knowing (after-tag edge-tag) (fieldPlace from) (withTypes P (with-edge types f))) rest ≡ goesOn next (more-edges types f from rest))
+          → (Before (with-edge types f) (after-edge f)
+          → beforeFrom (knowing (after-edge f) (fieldPlace from) (withTypes P (with-edge types f))) rest ≡ goesOn next (more-edges types f from rest))
           → (Before (with-type types f) (after-tag type-tag) → tagOf (f .tag) ≡ type-tag
           → beforeFrom (knowing (after-tag type-tag) (f .at) (withTypes P (with-type types f))) rest ≡ goesOn next (more-types types f from rest))
           → beforeFrom known (field f rest)
@@ -264,9 +266,9 @@ module _ (P : ℕ) (next : List ModuleType → Cut → Circuit)
       go true e later-edge later-type =
           let parts = both-true (isEdge (tagOf (f .tag))) (not (isEmpty types)) e in
           let some = not-true (isEmpty types) (parts .1) in
-          at-edge types previous from f rest (more-edges types f from rest) (kind-is edge-tag (tagOf (f .tag)) (parts .0)) (b .some some) (holds (typesBefore types))
-          (later-edge (after-type (with-edge types f) (after-tag edge-tag)
-          (set-some types (length types - 1) (withEdges (latest types) (edgesIn (latest types .output) (f .body))) some) refl))
+          at-edge types previous from f rest (more-edges types f from rest) (parts .0) (b .some some) (holds (typesBefore types))
+          (later-edge (after-type (with-edge types f) (after-edge f)
+          (set-some types (length types - 1) (withEdges (latest types) (edgesIn (edgeAs f) (latest types .output) (f .body))) some) refl))
       go false e later-edge later-type =
           judge types previous from (field f rest) (by-other types f from rest) _ b (holds (typesBefore types))
           (λ em fl. at-failing types previous from f rest (by-type types f from rest) (sym (and-true (isEdge (tagOf (f .tag)))) ∙ (rw em at e)) (b .some em) fl)

@@ -8,19 +8,19 @@ use native.Mathlib.Omega.{arith}
 use borrow.Author.Tests.{eqb-true, eq-eqb, ne-eqb, not-true}
 use lib.Dec.{eqb, eqb·suc-zero}
 use lib.ListN.{length, set}
-use Rattle.switch.specs.Conduction.{Value}
+use Rattle.switch.specs.Conduction.{Value, EdgeTag}
 use Rattle.switch.specs.Modules.{ModuleType}
 use Rattle.circuit.specs.Fields.{Field, Cut, clean, broken, field, cutFrom, twoBytes}
 use Rattle.circuit.specs.Circuit.{Circuit, Instance, Listed}
-use Rattle.circuit.specs.Order.{Tag, inputs-tag, type-tag, edge-tag, bridge-tag, instance-tag, vector-tag, no-tag, tagOf, isKind, isEdge, isUnknown, rank, Previous, start-of-file, after-tag, reached, mayFollow}
+use Rattle.circuit.specs.Order.{Tag, inputs-tag, type-tag, edge-tag, bridge-tag, instance-tag, vector-tag, no-tag, tagOf, isKind, isEdge, edgeTagOf, isUnknown, rank, Previous, start-of-file, after-tag, reached, mayFollow}
 use Rattle.circuit.specs.Known.{Known, start, typeIn, edgesIn, listedIn, instanceIn, vectorIn, latest, withEdges, edgesAdded, taken, typeAtAfter, knownAfter}
 use Rattle.circuit.specs.Table.{Test, Verdict, passes, refusedAt, firstOf, misplaced, unjudged, notComplementary, isEmpty, inputsTests, typeTests, edgeTests, bridgeTests, instanceTests, vectorTests, bodyTests, fieldTests, endTests}
 use Rattle.circuit.specs.Reading.{Reading, accepted, unless, readFrom, readingWith}
 use Rattle.circuit.specs.Records.{emptyCircuit}
-use Rattle.circuit.specs.Stages.{Stage, stopped, ifPasses, section, failingBefore, failingVerdict, judged, typeStage, readTo, endedVerdict, pastVerdict, endingVerdict, afterStage, afterInputs, fromStart, staged, fieldPlace}
+use Rattle.circuit.specs.Stages.{Stage, stopped, ifPasses, section, sectionOf, failingBefore, failingVerdict, judged, typeStage, readTo, endedVerdict, pastVerdict, endingVerdict, afterStage, afterInputs, fromStart, staged, fieldPlace}
 use Rattle.circuit.specs.Before.{typesBefore}
 use Rattle.circuit.specs.Laws.{StagedIsReading}
-use Rattle.circuit.proofs.OrderLaws.{kind-is, other-kind, known-rank, past, first-place, follows-alike, alone}
+use Rattle.circuit.proofs.OrderLaws.{kind-is, edge-is, edge-known, edge-no-type, other-kind, known-rank, past, first-place, follows-alike, alone}
 use Rattle.circuit.proofs.RangeLaws.{between-in}
 
 -- ---- a field that is tested by its body alone
@@ -114,7 +114,7 @@ module _ (wanted : Bool) (size : ℕ) (kind : Tag) {A : Type 0} (types : List Mo
     (goes-on : (a : A) (previous : Previous) (typeAt : ℕ) (cut : Cut) → Ready (suc (rank kind)) previous types cut
     → readFrom wanted size (knowing previous typeAt (circuit a)) cut ≡ next a cut) where
   section-reads : (a : A) (previous : Previous) (typeAt : ℕ) (cut : Cut) → Ready (rank kind) previous types cut
-      → readFrom wanted size (knowing previous typeAt (circuit a)) cut ≡ afterStage (section kind tests add a cut) next
+      → readFrom wanted size (knowing previous typeAt (circuit a)) cut ≡ afterStage (sectionOf kind tests add a cut) next
   unfolding section afterStage unless
   section-reads a previous typeAt clean r = goes-on a previous typeAt clean (ready-end s previous clean refl r)
   section-reads a previous typeAt (broken at) r = goes-on a previous typeAt (broken at) (ready-end s previous (broken at) refl r)
@@ -127,14 +127,14 @@ module _ (wanted : Bool) (size : ℕ) (kind : Tag) {A : Type 0} (types : List Mo
 
       go : (b : Bool) → isKind kind (tagOf (f .tag)) ≡ b
           → readFrom wanted size (knowing (after-tag kind) (cond (isKind type-tag kind) (f .at) typeAt) (circuit (add a (f .body)))) rest
-          ≡ afterStage (section kind tests add (add a (f .body)) rest) next
+          ≡ afterStage (sectionOf kind tests add (add a (f .body)) rest) next
           → readFrom wanted size known (field f rest)
-          ≡ afterStage (cond b (ifPasses (firstOf (tests a (f .at) (f .body))) a (field f rest) (section kind tests add (add a (f .body)) rest)) (stopped a (field f rest))) next
+          ≡ afterStage (cond b (ifPasses (firstOf (tests a (f .at) (f .body))) a (field f rest) (sectionOf kind tests add (add a (f .body)) rest)) (stopped a (field f rest))) next
       go true e more =
           read-own wanted size known f rest kind (kind-is kind (tagOf (f .tag)) e) (s .known-tag) (s .in-place previous (r .low) (r .high))
           (judged-quiet previous kind (circuit a .types) (rw (s .same-types a) (r .judged)))
           ∙ rw (s .tested a (f .at) (f .body), s .added a (f .body))
-          (unless-stage (firstOf (tests a (f .at) (f .body))) _ a (field f rest) (section kind tests add (add a (f .body)) rest) next more)
+          (unless-stage (firstOf (tests a (f .at) (f .body))) _ a (field f rest) (sectionOf kind tests add (add a (f .body)) rest) next more)
       go false e more = goes-on a previous typeAt (field f rest) (at-stop s previous f rest e r)
 
 -- ---- the three stages of one kind
@@ -237,10 +237,17 @@ pub ready : (types : List ModuleType) (previous : Previous) (cut : Cut) → Befo
     → (rank (nextTag cut) < 3 → mayFollow previous (nextTag cut) ≡ false) → Ready 3 previous types cut
 ready types previous cut b j behind = let h = b .high in record { low = b .low; high = omega arith; judged = j; behind = behind }
 
+-- the tag of an edge field, and what stands before the field behind it
+abbrev pub edgeAs : Field → EdgeTag
+edgeAs f = edgeTagOf (tagOf (f .tag))
+
+abbrev pub after-edge : Field → Previous
+after-edge f = after-tag (edge-tag (edgeAs f))
+
 -- what a field makes of the types, as the next edge of the latest or as the next type, and the stage from there
 module _ (types : List ModuleType) (f : Field) where
   abbrev pub with-edge : List ModuleType
-  with-edge = edgesAdded types (edgesIn (latest types .output) (f .body))
+  with-edge = edgesAdded types (edgesIn (edgeAs f) (latest types .output) (f .body))
 
   abbrev pub with-type : List ModuleType
   with-type = types ++ (typeIn (f .body) ∷ [])
@@ -253,7 +260,7 @@ module _ (types : List ModuleType) (f : Field) where
     more-types = typeStage with-type (field f rest) rest
 
     abbrev pub by-edge : Stage (List ModuleType)
-    by-edge = ifPasses (firstOf (edgeTests (latest types) (f .at) (f .body))) (typesBefore types) from more-edges
+    by-edge = ifPasses (firstOf (edgeTests (edgeAs f) (latest types) (f .at) (f .body))) (typesBefore types) from more-edges
 
     abbrev pub by-type : Stage (List ModuleType)
     by-type = ifPasses (firstOf (typeTests (length types) (f .at) (f .body))) types (field f rest) more-types
@@ -294,10 +301,10 @@ failing-field previous typeAt c f u fl other =
 -- at a field that is neither a type nor an edge of one, what belongs before bridges is misplaced
 pub types-past : (types : List ModuleType) (previous : Previous) (tag : Tag) → Before types previous → (isEdge tag && not (isEmpty types)) ≡ false
     → isKind type-tag tag ≡ false → rank tag < 3 → mayFollow previous tag ≡ false
-unfolding mayFollow isKind
+unfolding mayFollow isKind isEdge
 types-past types previous inputs-tag b other no-type h = let l = b .low in ne-eqb (reached previous) 0 (omega arith)
 types-past types previous type-tag b other no-type h = cc
-types-past types previous edge-tag b other no-type h = no-edge (isEmpty types) refl other
+types-past types previous (edge-tag t) b other no-type h = no-edge (isEmpty types) refl other
   where
     no-edge : (em : Bool) → isEmpty types ≡ em → not em ≡ false → eqb (reached previous) 2 ≡ false
     no-edge true e o = let n = b .none e in ne-eqb (reached previous) 2 (omega arith)
@@ -311,12 +318,14 @@ abbrev pub withTypes : ℕ → List ModuleType → Circuit
 withTypes P types = record { inputs = P; types = types; bridges = []; instances = []; vectors = [] }
 
 module _ (wanted : Bool) (size P : ℕ) (types : List ModuleType) (previous : Previous) (typeAt : ℕ) where
-  read-edge : (f : Field) (rest : Cut) → tagOf (f .tag) ≡ edge-tag → unjudged previous ≡ true
+  read-edge : (f : Field) (rest : Cut) → isEdge (tagOf (f .tag)) ≡ true → unjudged previous ≡ true
       → readFrom wanted size (knowing previous typeAt (withTypes P types)) (field f rest)
-      ≡ unless (firstOf (edgeTests (latest types) (f .at) (f .body))) (readFrom wanted size (knowing (after-tag edge-tag) typeAt (withTypes P (edgesAdded types (edgesIn (latest types .output) (f .body))))) rest)
-  unfolding isKind mayFollow unjudged bodyTests taken
+      ≡ unless (firstOf (edgeTests (edgeAs f) (latest types) (f .at) (f .body))) (readFrom wanted size (knowing (after-edge f) typeAt (withTypes P (with-edge types f))) rest)
+  unfolding isEdge mayFollow unjudged bodyTests taken
   read-edge f rest own u =
-      read-own wanted size (knowing previous typeAt (withTypes P types)) f rest edge-tag own refl u (rw u)
+      let kind = edge-tag (edgeAs f) in
+      read-own wanted size (knowing previous typeAt (withTypes P types)) f rest kind (edge-is (tagOf (f .tag)) own) (edge-known (edgeAs f)) u (rw u)
+      ∙ rw (edge-no-type (edgeAs f)) refl
 
   read-type : (f : Field) (rest : Cut) → tagOf (f .tag) ≡ type-tag → 1 ≤ reached previous → reached previous ≤ 2 → (unjudged previous ≡ true → notComplementary types ≡ false)
       → readFrom wanted size (knowing previous typeAt (withTypes P types)) (field f rest)
@@ -383,11 +392,11 @@ module _ (wanted : Bool) (size P : ℕ) where
         (λ j. goes-on types previous (fieldPlace from) (broken at) (ready types previous (broken at) b j (λ h. absurd (omega arith))))
     types-read types previous from (field f rest) b =
         go (isEdge (tagOf (f .tag)) && not (isEmpty types)) refl
-        (λ c. types-read (with-edge types f) (after-tag edge-tag) from rest c)
+        (λ c. types-read (with-edge types f) (after-edge f) from rest c)
         (λ c. types-read (with-type types f) (after-tag type-tag) (field f rest) rest c)
       where
         go : (own : Bool) → (isEdge (tagOf (f .tag)) && not (isEmpty types)) ≡ own
-            → (Before (with-edge types f) (after-tag edge-tag) → readFrom wanted size (knowing (after-tag edge-tag) (fieldPlace from) (withTypes P (with-edge types f))) rest
+            → (Before (with-edge types f) (after-edge f) → readFrom wanted size (knowing (after-edge f) (fieldPlace from) (withTypes P (with-edge types f))) rest
             ≡ afterStage (more-edges types f from rest) next)
             → (Before (with-type types f) (after-tag type-tag) → readFrom wanted size (knowing (after-tag type-tag) (f .at) (withTypes P (with-type types f))) rest
             ≡ afterStage (more-types types f from rest) next)
@@ -396,10 +405,10 @@ module _ (wanted : Bool) (size P : ℕ) where
         go true e more-edge more-type =
             let parts = both-true (isEdge (tagOf (f .tag))) (not (isEmpty types)) e in
             let some = not-true (isEmpty types) (parts .1) in
-            read-edge wanted size P types previous (fieldPlace from) f rest (kind-is edge-tag (tagOf (f .tag)) (parts .0)) (b .some some)
-            ∙ unless-stage (firstOf (edgeTests (latest types) (f .at) (f .body))) _ (typesBefore types) from (more-edges types f from rest) next
-            (more-edge (after-type (with-edge types f) (after-tag edge-tag)
-            (set-some types (length types - 1) (withEdges (latest types) (edgesIn (latest types .output) (f .body))) some) refl))
+            read-edge wanted size P types previous (fieldPlace from) f rest (parts .0) (b .some some)
+            ∙ unless-stage (firstOf (edgeTests (edgeAs f) (latest types) (f .at) (f .body))) _ (typesBefore types) from (more-edges types f from rest) next
+            (more-edge (after-type (with-edge types f) (after-edge f)
+            (set-some types (length types - 1) (withEdges (latest types) (edgesIn (edgeAs f) (latest types .output) (f .body))) some) refl))
         go false e more-edge more-type = judge types previous from (field f rest) (by-other types f from rest) b failing fine
           where
             failing : isEmpty types ≡ false → notComplementary types ≡ true → readFrom wanted size (knowing previous (fieldPlace from) (withTypes P types)) (field f rest)

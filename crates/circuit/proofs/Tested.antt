@@ -11,7 +11,7 @@ use borrow.Author.Tests.{ltb-true, ltb-false, leb-false}
 use lib.Dec.{T, eqb, leb, ltb, leb→le, le→leb, eqb→eq, eqb·suc-zero}
 use lib.ListN.{length, getD, drop, length-append, length-map, List·getD-append}
 use lib.Seq.{getD-append-seam}
-use Rattle.switch.specs.Conduction.{badEnds, between}
+use Rattle.switch.specs.Conduction.{EdgeTag, by-position, stated, between}
 use Rattle.switch.specs.Modules.{ModuleType, allOf, typeInRange, inRange}
 use Rattle.switch.proofs.Paths.{both}
 use Rattle.switch.proofs.Deciding.{and-both}
@@ -23,7 +23,7 @@ use Rattle.circuit.specs.Known.{typeIn, edgesIn, listedIn, instanceIn, l
 use Rattle.circuit.specs.Table.{Test, Verdict, passes, refusedAt, firstOf, isEmpty, listedGood, bridgeInRange, inputsTests, typeTests, edgeTests, edgeTestsOf, bridgeTests, instanceTests, instanceTestsOf, vectorTests}
 use Rattle.circuit.specs.Laws.{Each, endsGood, TypeSound, choiceGood, InstanceGood, RefusalGood}
 use Rattle.switch.proofs.Channels.{in-between}
-use Rattle.circuit.proofs.TypeLaws.{accepts, all-append, all-for, EdgesPass, edges-pass, field-ranges, length-edges-in, with-edges-ranges}
+use Rattle.circuit.proofs.TypeLaws.{accepts, all-append, EdgesPass, edges-pass, with-edges-ranges}
 use Rattle.circuit.proofs.Verdicts.{first-passes}
 
 -- ---- tests and lists
@@ -92,9 +92,10 @@ module _ (size at : ℕ) (inside : at ≤ size) (body : List ℕ) where
   unfolding typeTests
   types-refuse count = omega arith
 
-  pub edges-refuse : (t : ModuleType) → TestsGood size (edgeTests t at body)
+  pub edges-refuse : (tag : EdgeTag) (t : ModuleType) → TestsGood size (edgeTests tag t at body)
   unfolding edgeTests edgeTestsOf
-  edges-refuse t = omega arith
+  edges-refuse by-position t = omega arith
+  edges-refuse stated t = omega arith
 
   pub bridges-refuse : (count : ℕ) → TestsGood size (bridgeTests count at body)
   unfolding bridgeTests
@@ -126,26 +127,16 @@ type-pass count at body e =
     let ranges = typeInRange (getD body 0 0) (getD body 1 0) (getD body 2 0) in
     (leb-false mostTypes count (six .0), record { ranges = and-both ranges true (accepts ranges (seven .0)) tt; few = omega arith; ends = tt })
 
-all-true : (ls : List ℕ) → T (allOf (λ (l : ℕ). true) ls)
-unfolding allOf
-all-true [] = tt
-all-true (l ∷ ls) = all-true ls
-
-pub edges-sound : (t : ModuleType) (at : ℕ) (body : List ℕ) → firstOf (edgeTests t at body) ≡ passes → TypeSound t
-    → TypeSound (withEdges t (edgesIn (t .output) body))
-unfolding withEdges endsGood edgesIn
-edges-sound t at body e sound =
-    let p : EdgesPass t body = edges-pass t at body e in
-    let es = edgesIn (t .output) body in
-    let a = getD body 0 0 in
-    let b = getD body 1 0 in
-    let good = holds (not (badEnds (t .highest) (t .output) a b)) (ap not (p .ends)) in
+pub edges-sound : (tag : EdgeTag) (t : ModuleType) (at : ℕ) (body : List ℕ) → firstOf (edgeTests tag t at body) ≡ passes → TypeSound t
+    → TypeSound (withEdges t (edgesIn tag (t .output) body))
+unfolding withEdges
+edges-sound tag t at body e sound =
+    let p : EdgesPass tag t body = edges-pass tag t at body e in
+    let es = edgesIn tag (t .output) body in
     record {
-      ranges = with-edges-ranges t es (sound .ranges) (field-ranges (t .highest) (t .output) (t .labels) body (p .ranges));
-      few = omega (arith, length-append (t .edges) es, length-edges-in (t .output) body, p .few);
-      ends =
-          all-append (endsGood (t .highest) (t .output)) (t .edges) es (sound .ends)
-          (all-for (endsGood (t .highest) (t .output)) a b _ (λ (l : ℕ). true) (λ l q. good) (drop 2 body) (all-true (drop 2 body)));
+      ranges = with-edges-ranges t es (sound .ranges) (p .ranges);
+      few = omega (arith, length-append (t .edges) es, p .few);
+      ends = all-append (endsGood (t .highest) (t .output)) (t .edges) es (sound .ends) (p .ends);
     }
 
 pub bridge-pass : (count at : ℕ) (body : List ℕ) → firstOf (bridgeTests count at body) ≡ passes

@@ -6,21 +6,22 @@ use mathlib.Core.Bool.{Bool, true, false, not, _&&_}
 use mathlib.Core.List.{List, [], _∷_, _++_, map, map-append}
 use native.Mathlib.Numerals.{add-one}
 use native.Mathlib.Omega.{arith}
-use borrow.Author.Tests.{ltb-false, not-false}
-use lib.Dec.{T, leb, ltb}
+use borrow.Author.Tests.{ltb-false, leb-false, not-false}
+use lib.Dec.{T, eqb, leb, ltb, eqb→eq}
 use lib.ListN.{length, getD, take, drop, length-append, length-take, length-drop, length-map}
 use lib.Seq.{drop-cons, ext-getD, getD-take}
 use Rattle.words.proofs.Tables.{length-table}
-use Rattle.switch.specs.Conduction.{Edge, edgesFor, Channel, badEnds, between}
+use Rattle.switch.specs.Conduction.{Channel, p-channel, n-channel, channelBit, EdgeTag, by-position, stated, Edge, edgesFor, badEnds, channelOf, between}
 use Rattle.switch.specs.Modules.{ModuleType, mostEdges, allOf, typeInRange, edgeInRange, inRange}
 use Rattle.switch.specs.Records.{noEdge, edgeRecord, edgesOf, typeOf, TypeGiven}
 use Rattle.switch.proofs.Paths.{both}
 use Rattle.switch.proofs.Deciding.{and-both}
 use Rattle.switch.proofs.Channels.{in-between}
 use Rattle.switch.proofs.Ranges.{type-ranges, edge-ranges, its-record}
-use Rattle.circuit.specs.Known.{edgesIn, withEdges}
-use Rattle.circuit.specs.Table.{passes, firstOf, edgesInRange, edgeTests, edgeTestsOf}
+use Rattle.circuit.specs.Known.{edgesTold, edgesIn, withEdges}
+use Rattle.circuit.specs.Table.{passes, firstOf, edgesInRange, passInRange, edgeTests, edgeTestsOf}
 use Rattle.circuit.specs.Records.{padded, typeRecord}
+use Rattle.circuit.specs.Laws.{endsGoodBy, endsGood}
 use Rattle.circuit.proofs.Padding.{getD-padded}
 use Rattle.circuit.proofs.Verdicts.{first-passes}
 
@@ -100,58 +101,137 @@ module _ (t : ModuleType) (ranges : T (inRange t)) (within : length (t .edges) �
 
 -- ---- the edges of a field more
 
--- what the tests of an edge field leave when none refuses
-pub record EdgesPass (t : ModuleType) (body : List ℕ) : Type 0 where
-  pub long : 3 ≤ length body
-  pub short : length body ≤ 6
-  pub few : length (t .edges) + (length body - 2) ≤ mostEdges
-  pub ranges : T (edgesInRange (t .highest) (t .labels) body)
-  pub ends : badEnds (t .highest) (t .output) (getD body 0 0) (getD body 1 0) ≡ false
+-- the bytes of a field with tag 7 are in range
+abbrev pub bodyInRange : ℕ → ℕ → List ℕ → Bool
+bodyInRange h k body = passInRange h k (getD body 0 0) (getD body 1 0) (getD body 2 0) (getD body 3 0)
 
-pub edges-pass : (t : ModuleType) (at : ℕ) (body : List ℕ) → firstOf (edgeTests t at body) ≡ passes → EdgesPass t body
-unfolding edgeTests edgeTestsOf
-edges-pass t at body e =
-    let a = first-passes _ _ e in
-    let b = first-passes _ _ (a .1) in
-    let c = first-passes _ _ (b .1) in
-    let d = first-passes _ _ (c .1) in
-    let size = in-between 3 6 (length body) (accepts (between 3 6 (length body)) (a .0)) in
-    record {
-      long = size .0;
-      short = size .1;
-      few = ltb-false mostEdges (length (t .edges) + (length body - 2)) (b .0);
-      ranges = accepts (edgesInRange (t .highest) (t .labels) body) (c .0);
-      ends = d .0;
-    }
+-- what the tests of an edge field leave of its bytes, by its tag, when none refuses
+unfoldable pub BytesPass : EdgeTag → ModuleType → List ℕ → Type 0
+BytesPass by-position t body = (3 ≤ length body) × (length body ≤ 6) × T (edgesInRange (t .highest) (t .labels) body)
+BytesPass stated t body = (length body ≡ 4) × T (bodyInRange (t .highest) (t .labels) body)
+
+-- and of its edges
+pub record EdgesPass (tag : EdgeTag) (t : ModuleType) (body : List ℕ) : Type 0 where
+  pub bytes : BytesPass tag t body
+  pub few : length (t .edges) + length (edgesIn tag (t .output) body) ≤ mostEdges
+  pub ranges : T (allOf (edgeInRange (t .highest) (t .labels)) (edgesIn tag (t .output) body))
+  pub ends : T (allOf (endsGood (t .highest) (t .output)) (edgesIn tag (t .output) body))
 
 pub length-for : (a b : ℕ) (c : Channel) (ls : List ℕ) → length (edgesFor a b c ls) ≡ length ls
 unfolding edgesFor
 length-for a b c [] = refl
 length-for a b c (l ∷ ls) = ap suc (length-for a b c ls)
 
-pub length-edges-in : (o : ℕ) (body : List ℕ) → length (edgesIn o body) ≡ length body - 2
-unfolding edgesIn
-length-edges-in o body = length-for _ _ _ _ ∙ length-drop 2 body
+-- how many edges a field has
+pub length-edges-in : (tag : EdgeTag) (o : ℕ) (body : List ℕ) → length (edgesIn tag o body) ≡ edgesTold tag (length body)
+unfolding edgesIn edgesTold
+length-edges-in by-position o body = length-for _ _ _ _ ∙ length-drop 2 body
+length-edges-in stated o body = refl
 
 -- what holds of an edge with each of the labels holds of all of them
-pub all-for : (test : Edge → Bool) (a b : ℕ) (c : Channel) (label : ℕ → Bool)
-    → ((l : ℕ) → T (label l) → T (test (record { first = a; second = b; channel = c; label = l })))
+all-for : (test : Edge → Bool) (a b : ℕ) (c : Channel) (label : ℕ → Bool)
+    → ((l : ℕ) → T (label l) → T (test (record { first = a; second = b; channel = c; label = l; tag = by-position })))
     → (ls : List ℕ) → T (allOf label ls) → T (allOf test (edgesFor a b c ls))
 unfolding allOf edgesFor
 all-for test a b c label each [] t = tt
 all-for test a b c label each (l ∷ ls) t =
     let parts = both (label l) (allOf label ls) t in
-    and-both (test (record { first = a; second = b; channel = c; label = l })) (allOf test (edgesFor a b c ls)) (each l (parts .0))
+    and-both (test (record { first = a; second = b; channel = c; label = l; tag = by-position })) (allOf test (edgesFor a b c ls)) (each l (parts .0))
     (all-for test a b c label each ls (parts .1))
 
--- the edges of a field in range are in range
-pub field-ranges : (h o k : ℕ) (body : List ℕ) → T (edgesInRange h k body) → T (allOf (edgeInRange h k) (edgesIn o body))
-unfolding edgesInRange edgeInRange edgesIn
-field-ranges h o k body t =
-    let a = getD body 0 0 in
-    let b = getD body 1 0 in
-    let parts = both (leb a h && leb b h) (allOf (λ (l : ℕ). ltb l k) (drop 2 body)) t in
-    all-for (edgeInRange h k) a b _ (λ (l : ℕ). ltb l k) (λ l q. and-both (leb a h && leb b h) (ltb l k) (parts .0) q) (drop 2 body) (parts .1)
+all-true : (ls : List ℕ) → T (allOf (λ (l : ℕ). true) ls)
+unfolding allOf
+all-true [] = tt
+all-true (l ∷ ls) = all-true ls
+
+channel-is : (c : Channel) → T (eqb (channelBit c) (channelBit c))
+unfolding channelBit
+channel-is p-channel = tt
+channel-is n-channel = tt
+
+-- the two nodes, the channel and the label of a pass transistor in range
+pub record PassParts (h k a b channel label : ℕ) : Type 0 where
+  pub first-in : T (leb a h)
+  pub second-in : T (leb b h)
+  pub apart : T (not (eqb a b))
+  pub channel-in : T (leb channel 1)
+  pub label-in : T (ltb label k)
+
+pub pass-parts : (h k a b channel label : ℕ) → T (passInRange h k a b channel label) → PassParts h k a b channel label
+unfolding passInRange
+pass-parts h k a b channel label t =
+    let first = leb a h in
+    let second = leb b h in
+    let other = not (eqb a b) in
+    let known = leb channel 1 in
+    let labels = both (first && second && other && known) (ltb label k) t in
+    let channels = both (first && second && other) known (labels .0) in
+    let ends = both (first && second) other (channels .0) in
+    let nodes = both first second (ends .0) in
+    record { first-in = nodes .0; second-in = nodes .1; apart = ends .1; channel-in = channels .1; label-in = labels .1 }
+
+pub body-parts : (h k : ℕ) (body : List ℕ) → T (bodyInRange h k body) → PassParts h k (getD body 0 0) (getD body 1 0) (getD body 2 0) (getD body 3 0)
+body-parts h k body = pass-parts h k (getD body 0 0) (getD body 1 0) (getD body 2 0) (getD body 3 0)
+
+module _ (h o k : ℕ) (body : List ℕ) where
+  -- the edges of a field of tag 3 that is in range are in range, and have the ends that it asks for
+  labels-range : T (edgesInRange h k body) → T (allOf (edgeInRange h k) (edgesIn by-position o body))
+  unfolding edgesInRange edgeInRange edgesIn
+  labels-range t =
+      let a = getD body 0 0 in
+      let b = getD body 1 0 in
+      let parts = both (leb a h && leb b h) (allOf (λ (l : ℕ). ltb l k) (drop 2 body)) t in
+      all-for (edgeInRange h k) a b _ (λ (l : ℕ). ltb l k) (λ l q. and-both (leb a h && leb b h) (ltb l k) (parts .0) q) (drop 2 body) (parts .1)
+
+  labels-ends : badEnds h o (getD body 0 0) (getD body 1 0) ≡ false → T (allOf (endsGood h o) (edgesIn by-position o body))
+  unfolding edgesIn endsGoodBy
+  labels-ends good =
+      let a = getD body 0 0 in
+      let b = getD body 1 0 in
+      all-for (endsGood h o) a b _ (λ (l : ℕ). true)
+      (λ l q. and-both (not (badEnds h o a b)) (eqb (channelBit (channelOf o a b)) (channelBit (channelOf o a b))) (rw good tt) (channel-is (channelOf o a b)))
+      (drop 2 body) (all-true (drop 2 body))
+
+  -- and so is the edge of one of tag 7
+  pass-range : T (bodyInRange h k body) → T (allOf (edgeInRange h k) (edgesIn stated o body))
+  unfolding allOf edgeInRange edgesIn
+  pass-range t =
+      let a = leb (getD body 0 0) h in
+      let b = leb (getD body 1 0) h in
+      let l = ltb (getD body 3 0) k in
+      let its = body-parts h k body t in
+      and-both (a && b && l) true (and-both (a && b) l (and-both a b (its .first-in) (its .second-in)) (its .label-in)) tt
+
+  pass-ends : T (bodyInRange h k body) → T (allOf (endsGood h o) (edgesIn stated o body))
+  unfolding allOf endsGoodBy edgesIn
+  pass-ends t = and-both (not (eqb (getD body 0 0) (getD body 1 0))) true (body-parts h k body t .apart) tt
+
+pub edges-pass : (tag : EdgeTag) (t : ModuleType) (at : ℕ) (body : List ℕ) → firstOf (edgeTests tag t at body) ≡ passes → EdgesPass tag t body
+unfolding edgeTests edgeTestsOf BytesPass edgesTold
+edges-pass by-position t at body e =
+    let a = first-passes _ _ e in
+    let b = first-passes _ _ (a .1) in
+    let c = first-passes _ _ (b .1) in
+    let d = first-passes _ _ (c .1) in
+    let size = in-between 3 6 (length body) (accepts (between 3 6 (length body)) (a .0)) in
+    let ranges = accepts (edgesInRange (t .highest) (t .labels) body) (c .0) in
+    record {
+      bytes = (size .0, size .1, ranges);
+      few = omega (arith, ltb-false mostEdges (length (t .edges) + (length body - 2)) (b .0), length-edges-in by-position (t .output) body);
+      ranges = labels-range (t .highest) (t .output) (t .labels) body ranges;
+      ends = labels-ends (t .highest) (t .output) (t .labels) body (d .0);
+    }
+edges-pass stated t at body e =
+    let a = first-passes _ _ e in
+    let b = first-passes _ _ (a .1) in
+    let c = first-passes _ _ (b .1) in
+    let ranges = accepts (bodyInRange (t .highest) (t .labels) body) (c .0) in
+    record {
+      bytes = (eqb→eq (length body) 4 (accepts (eqb (length body) 4) (a .0)), ranges);
+      few = omega (arith, leb-false mostEdges (length (t .edges)) (b .0), length-edges-in stated (t .output) body);
+      ranges = pass-range (t .highest) (t .output) (t .labels) body ranges;
+      ends = pass-ends (t .highest) (t .output) (t .labels) body ranges;
+    }
 
 module _ (t : ModuleType) (es : List Edge) where
   pub with-edges-ranges : T (inRange t) → T (allOf (edgeInRange (t .highest) (t .labels)) es) → T (inRange (withEdges t es))

@@ -5,7 +5,7 @@ use mathlib.Core.List.{List, [], _∷_, _++_, map}
 use lib.Dec.{eqb}
 use lib.ListN.{length, getD, drop, set}
 use Rattle.words.specs.Tables.{table}
-use Rattle.switch.specs.Conduction.{Value, at0, at1, atX, Edge, edgesFor, channelOf}
+use Rattle.switch.specs.Conduction.{Value, at0, at1, atX, EdgeTag, by-position, stated, Edge, edgesFor, channelBy, channelOf}
 use Rattle.switch.specs.Modules.{ModuleType}
 use Rattle.switch.specs.Bridges.{Bridge, nodes, input}
 use Rattle.circuit.specs.Fields.{Field, twoBytes}
@@ -32,11 +32,19 @@ start = record {
 unfoldable pub typeIn : List ℕ → ModuleType
 typeIn body = record { highest = getD body 0 0; output = getD body 1 0; labels = getD body 2 0; edges = [] }
 
--- in a type with the output node o: one edge for each label, in order (02, "No more grouped transistors"), all between the same two nodes,
--- with the channel of their position
-unfoldable pub edgesIn : ℕ → List ℕ → List Edge
-edgesIn o body =
+-- how many edges a field with a body of this length tells: one for each byte behind its two nodes, or one
+unfoldable pub edgesTold : EdgeTag → ℕ → ℕ
+edgesTold by-position size = size - 2
+edgesTold stated size = 1
+
+-- of an edge field, in a type with the output node o. Tag 3: one edge for each label, in order (02, "No more grouped transistors"), all
+-- between the same two nodes, with the channel of their position. Tag 7: one edge, two nodes, its channel and its label (02, "Pass
+-- transistors")
+unfoldable pub edgesIn : EdgeTag → ℕ → List ℕ → List Edge
+edgesIn by-position o body =
     let a = getD body 0 0 in let b = getD body 1 0 in edgesFor a b (channelOf o a b) (drop 2 body)
+edgesIn stated o body =
+    record { first = getD body 0 0; second = getD body 1 0; channel = channelBy (getD body 2 0); label = getD body 3 0; tag = stated } ∷ []
 
 -- kind 0 joins two nodes, kind 1 a node and a label
 unfoldable pub bridgeOf : ℕ → ℕ → ℕ → Bridge
@@ -83,10 +91,10 @@ taken type-tag c body =
       instances = c .instances;
       vectors = c .vectors;
     }
-taken edge-tag c body =
+taken (edge-tag e) c body =
     record {
       inputs = c .inputs;
-      types = edgesAdded (c .types) (edgesIn (latest (c .types) .output) body);
+      types = edgesAdded (c .types) (edgesIn e (latest (c .types) .output) body);
       bridges = c .bridges;
       instances = c .instances;
       vectors = c .vectors;

@@ -2,11 +2,11 @@
 -- Their proofs are in proofs/: StageLaws, GatheredLaws, CircuitLaws, BeforeLaws, FaultLaws, AnswerLaws.
 use Prim.Native.Nat.{ℕ, _≤_, _<_}
 use mathlib.Core.Path.{_≡_}
-use mathlib.Core.Bool.{Bool, true, false, not}
+use mathlib.Core.Bool.{Bool, true, false, not, _&&_}
 use mathlib.Core.List.{List, map}
-use lib.Dec.{T}
+use lib.Dec.{T, eqb}
 use lib.ListN.{length, getD}
-use Rattle.switch.specs.Conduction.{Value, Edge, between, badEnds}
+use Rattle.switch.specs.Conduction.{Value, EdgeTag, by-position, stated, Edge, between, badEnds, channelBit, channelOf}
 use Rattle.switch.specs.Modules.{ModuleType, mostEdges, allOf, inRange}
 use Rattle.switch.specs.Deciding.{isComplementary}
 use Rattle.circuit.specs.Limits.{mostTypes, mostBridges, mostInstances, mostVectors, mostFaults}
@@ -26,11 +26,17 @@ use Rattle.circuit.specs.declared.Reading.{Reading as ReadingRecord}
 abbrev pub Each : {A : Type 0} → (ℕ → A → Type 0) → List A → Type 0
 Each {A} Holds as′ = (i : ℕ) (none : A) → i < length as′ → Holds i (getD as′ i none)
 
--- the ends of an edge keep the channel rule, in a type with h and o
-unfoldable pub endsGood : ℕ → ℕ → Edge → Bool
-endsGood h o e = not (badEnds h o (e .first) (e .second))
+-- the ends of an edge in a type with h and o, by the tag that it came with: with tag 3 they keep the channel rule, which gives the channel;
+-- with tag 7 they are two different nodes
+unfoldable pub endsGoodBy : EdgeTag → ℕ → ℕ → Edge → Bool
+endsGoodBy by-position h o e =
+    not (badEnds h o (e .first) (e .second)) && eqb (channelBit (e .channel)) (channelBit (channelOf o (e .first) (e .second)))
+endsGoodBy stated h o e = not (eqb (e .first) (e .second))
 
--- a type: its numbers and its edges' are in range, its edges are few and keep the channel rule
+abbrev pub endsGood : ℕ → ℕ → Edge → Bool
+endsGood h o e = endsGoodBy (e .tag) h o e
+
+-- a type: its numbers and its edges' are in range, its edges are few and have the ends that their tags ask for
 pub record TypeSound (t : ModuleType) : Type 0 where
   pub ranges : T (inRange t)
   pub few : length (t .edges) ≤ mostEdges

@@ -10,7 +10,7 @@ use Rattle.switch.specs.Modules.{ModuleType}
 use Rattle.circuit.specs.Limits.{mostBytes}
 use Rattle.circuit.specs.Fields.{Cut, clean, broken, field, cutFrom, twoBytes}
 use Rattle.circuit.specs.Circuit.{Circuit, Instance, Listed}
-use Rattle.circuit.specs.Order.{Tag, inputs-tag, type-tag, edge-tag, bridge-tag, instance-tag, vector-tag, tagOf, isKind, isEdge}
+use Rattle.circuit.specs.Order.{Tag, inputs-tag, type-tag, bridge-tag, instance-tag, vector-tag, tagOf, isKind, isEdge, edgeTagOf}
 use Rattle.circuit.specs.Order.{isUnknown, after-tag}
 use Rattle.circuit.specs.Known.{typeIn, edgesIn, listedIn, instanceIn, vectorIn, latest, withEdges, edgesAdded}
 use Rattle.circuit.specs.Table.{Test, Verdict, passes, refusedAt, firstOf, misplaced, notComplementary, isEmpty, inputsTests}
@@ -40,21 +40,28 @@ unfoldable pub ifPasses : {A : Type 0} → Verdict → A → Cut → Stage A →
 ifPasses passes a cut stage = stage
 ifPasses (refusedAt number place) a cut stage = stageOf (refusedAt number place) a cut
 
--- the fields of one kind, each tested against what was gathered from those before it
-unfoldable pub section : {A : Type 0} → Tag → (A → ℕ → List ℕ → List Test) → (A → List ℕ → A) → A → Cut → Stage A
-section kind tests add sofar clean = stopped sofar clean
-section kind tests add sofar (broken at) = stopped sofar (broken at)
-section kind tests add sofar (field f rest) =
-    let more = section kind tests add (add sofar (f .body)) rest in
-    let tested = ifPasses (firstOf (tests sofar (f .at) (f .body))) sofar (field f rest) more in
-    cond (isKind kind (tagOf (f .tag))) tested (stopped sofar (field f rest))
+-- the stage's own fields, each tested by its tag against what was gathered from those before it
+unfoldable pub section : {A : Type 0} → (Tag → Bool) → (Tag → A → ℕ → List ℕ → List Test) → (Tag → A → List ℕ → A) → A → Cut → Stage A
+section own tests add sofar clean = stopped sofar clean
+section own tests add sofar (broken at) = stopped sofar (broken at)
+section own tests add sofar (field f rest) =
+    let tag = tagOf (f .tag) in
+    let more = section own tests add (add tag sofar (f .body)) rest in
+    let tested = ifPasses (firstOf (tests tag sofar (f .at) (f .body))) sofar (field f rest) more in
+    cond (own tag) tested (stopped sofar (field f rest))
+
+-- a stage of one kind
+abbrev pub sectionOf : {A : Type 0} → Tag → (A → ℕ → List ℕ → List Test) → (A → List ℕ → A) → A → Cut → Stage A
+sectionOf kind tests add = section (isKind kind) (λ (tag : Tag). tests) (λ (tag : Tag). add)
 
 abbrev pub edgeStage : ModuleType → Cut → Stage ModuleType
-edgeStage = section edge-tag edgeTests (λ (t : ModuleType) (body : List ℕ). withEdges t (edgesIn (t .output) body))
+edgeStage =
+    section isEdge (λ (tag : Tag). edgeTests (edgeTagOf tag))
+    (λ (tag : Tag) (t : ModuleType) (body : List ℕ). withEdges t (edgesIn (edgeTagOf tag) (t .output) body))
 
 abbrev pub bridgeStage : List Listed → Cut → Stage (List Listed)
 bridgeStage =
-    section bridge-tag (λ (bs : List Listed). bridgeTests (length bs)) (λ (bs : List Listed) (body : List ℕ). bs ++ (listedIn body ∷ []))
+    sectionOf bridge-tag (λ (bs : List Listed). bridgeTests (length bs)) (λ (bs : List Listed) (body : List ℕ). bs ++ (listedIn body ∷ []))
 
 -- the circuit when these instances are read, before any vector
 abbrev pub readTo : ℕ → List ModuleType → List Listed → List Instance → Circuit
@@ -62,12 +69,12 @@ readTo P types bridges instances = record { inputs = P; types = types; bridges =
 
 abbrev pub instanceStage : ℕ → List ModuleType → List Listed → List Instance → Cut → Stage (List Instance)
 instanceStage P types bridges =
-    section instance-tag (λ (is : List Instance). instanceTests (readTo P types bridges is))
+    sectionOf instance-tag (λ (is : List Instance). instanceTests (readTo P types bridges is))
     (λ (is : List Instance) (body : List ℕ). is ++ (instanceIn body ∷ []))
 
 abbrev pub vectorStage : ℕ → List (List Value) → Cut → Stage (List (List Value))
 vectorStage P =
-    section vector-tag (λ (vs : List (List Value)). vectorTests P (length vs))
+    sectionOf vector-tag (λ (vs : List (List Value)). vectorTests P (length vs))
     (λ (vs : List (List Value)) (body : List ℕ). vs ++ (vectorIn body ∷ []))
 
 -- ---- types, each judged when its edges are read
@@ -99,9 +106,10 @@ typeStage types from clean = ifPasses (judged types (fieldPlace from) clean) (ty
 typeStage types from (broken at) =
     ifPasses (judged types (fieldPlace from) (broken at)) (typesBefore types) from (stopped types (broken at))
 typeStage types from (field f rest) =
-    let moreEdges = typeStage (edgesAdded types (edgesIn (latest types .output) (f .body))) from rest in
+    let e = edgeTagOf (tagOf (f .tag)) in
+    let moreEdges = typeStage (edgesAdded types (edgesIn e (latest types .output) (f .body))) from rest in
     let moreTypes = typeStage (types ++ (typeIn (f .body) ∷ [])) (field f rest) rest in
-    let edge = ifPasses (firstOf (edgeTests (latest types) (f .at) (f .body))) (typesBefore types) from moreEdges in
+    let edge = ifPasses (firstOf (edgeTests e (latest types) (f .at) (f .body))) (typesBefore types) from moreEdges in
     let type = ifPasses (firstOf (typeTests (length types) (f .at) (f .body))) types (field f rest) moreTypes in
     let next = cond (isKind type-tag (tagOf (f .tag))) type (stopped types (field f rest)) in
     let other = ifPasses (judged types (fieldPlace from) (field f rest)) (typesBefore types) from next in

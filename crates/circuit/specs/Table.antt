@@ -5,7 +5,7 @@ use mathlib.Core.Bool.{Bool, true, false, cond, not, _&&_, _||_}
 use mathlib.Core.List.{List, [], _∷_}
 use lib.Dec.{eqb, leb, ltb}
 use lib.ListN.{length, getD, drop}
-use Rattle.switch.specs.Conduction.{between, badEnds}
+use Rattle.switch.specs.Conduction.{EdgeTag, by-position, stated, between, badEnds}
 use Rattle.switch.specs.Modules.{ModuleType, mostEdges, allOf, typeInRange}
 use Rattle.switch.specs.Bridges.{Bridge, nodes, input}
 use Rattle.switch.specs.Deciding.{isComplementary}
@@ -42,7 +42,7 @@ firstOf (t ∷ ts) = let later = firstOf ts in cond (t .refuses) (refusedAt (t .
 abbrev pub misplaced : Previous → Tag → Bool
 misplaced previous tag = not (mayFollow previous tag)
 
--- ---- number 9: a type is judged when a tag other than 3 has passed 4, or at the end of the file before 14
+-- ---- number 9: a type is judged when a tag that is neither 3 nor 7 has passed 4, or at the end of the file before 14
 
 -- the field before was a type's or one of its edges, so that the latest type has not been judged
 unfoldable pub unjudged : Previous → Bool
@@ -108,18 +108,27 @@ typeTests count at body =
 unfoldable pub edgesInRange : ℕ → ℕ → List ℕ → Bool
 edgesInRange h k body = leb (getD body 0 0) h && leb (getD body 1 0) h && allOf (λ (l : ℕ). ltb l k) (drop 2 body)
 
--- in a type with h, o, k and `count` edges so far; a field has an edge for each of its labels, and is refused whole where they are too many
--- (02, "No more grouped transistors")
-unfoldable pub edgeTestsOf : ℕ → ℕ → ℕ → ℕ → ℕ → List ℕ → List Test
-edgeTestsOf h o k count at body =
+-- two different nodes 0 to h, a channel (0 n, 1 p), a label 0 to k - 1
+unfoldable pub passInRange : ℕ → ℕ → ℕ → ℕ → ℕ → ℕ → Bool
+passInRange h k a b channel label = leb a h && leb b h && not (eqb a b) && leb channel 1 && ltb label k
+
+-- in a type with h, o, k and `count` edges so far. A field with tag 3 has an edge for each of its labels, and is refused whole where they
+-- are too many (02, "No more grouped transistors"). One with tag 7 is never refused by 8: equal ends are 7 (02, "Pass transistors")
+unfoldable pub edgeTestsOf : EdgeTag → ℕ → ℕ → ℕ → ℕ → ℕ → List ℕ → List Test
+edgeTestsOf by-position h o k count at body =
     test 5 (not (between 3 6 (length body))) at
     ∷ test 6 (ltb mostEdges (count + (length body - 2))) at
     ∷ test 7 (not (edgesInRange h k body)) at
     ∷ test 8 (badEnds h o (getD body 0 0) (getD body 1 0)) at
     ∷ []
+edgeTestsOf stated h o k count at body =
+    test 5 (not (eqb (length body) 4)) at
+    ∷ test 6 (leb mostEdges count) at
+    ∷ test 7 (not (passInRange h k (getD body 0 0) (getD body 1 0) (getD body 2 0) (getD body 3 0))) at
+    ∷ []
 
-unfoldable pub edgeTests : ModuleType → ℕ → List ℕ → List Test
-edgeTests t at body = edgeTestsOf (t .highest) (t .output) (t .labels) (length (t .edges)) at body
+unfoldable pub edgeTests : EdgeTag → ModuleType → ℕ → List ℕ → List Test
+edgeTests e t at body = edgeTestsOf e (t .highest) (t .output) (t .labels) (length (t .edges)) at body
 
 -- after `count` bridges
 unfoldable pub bridgeTests : ℕ → ℕ → List ℕ → List Test
@@ -162,7 +171,7 @@ vectorTests P count at body =
 unfoldable pub bodyTests : Tag → Circuit → ℕ → List ℕ → List Test
 bodyTests inputs-tag c at body = inputsTests at body
 bodyTests type-tag c at body = typeTests (length (c .types)) at body
-bodyTests edge-tag c at body = edgeTests (latest (c .types)) at body
+bodyTests (edge-tag e) c at body = edgeTests e (latest (c .types)) at body
 bodyTests bridge-tag c at body = bridgeTests (length (c .bridges)) at body
 bodyTests instance-tag c at body = instanceTests c at body
 bodyTests vector-tag c at body = vectorTests (c .inputs) (length (c .vectors)) at body

@@ -1,7 +1,9 @@
 // The kinds of field.
+ghost use mathlib.Core.Bool.{cond};
 ghost use mathlib.Core.Path.{_≡_};
-ghost use Rattle.circuit.specs.Order.{tagNumber, tagOf, isKind};
-ghost use Rattle.circuit.specs.Kinds.{kindTag};
+ghost use Rattle.switch.specs.Conduction.{by-position, stated};
+ghost use Rattle.circuit.specs.Order.{tagOf, edgeTagOf};
+ghost use Rattle.circuit.specs.Kinds.{ofKind};
 
 pub enum Kind {
     Inputs,
@@ -13,39 +15,24 @@ pub enum Kind {
     Unknown,
 }
 
-// The kind of field that a tag byte stands for.
-pub fn kind_of(tag: u8) -> Kind
-    ensures { λ r. ⌜ kindTag r ≡ tagOf tag ⌝ }
-{
-    match tag {
-        1 => Kind::Inputs,
-        2 => Kind::Module,
-        3 => Kind::Edge,
-        4 => Kind::Bridge,
-        5 => Kind::Instance,
-        6 => Kind::Vector,
-        _ => Kind::Unknown,
-    }
-}
-
-// The tag byte of a kind, 0 for what is none.
-fn number_in(kind: Kind) -> u8
-    ensures { λ r. ⌜ r ≡ tagNumber (kindTag kind) ⌝ }
+// Whether a field with this tag is of a kind. An edge has one of two tags.
+pub fn is_kind(tag: u8, kind: Kind) -> bool
+    ensures { λ r. ⌜ r ≡ ofKind kind (tagOf tag) ⌝ }
 {
     match kind {
-        Kind::Inputs => 1,
-        Kind::Module => 2,
-        Kind::Edge => 3,
-        Kind::Bridge => 4,
-        Kind::Instance => 5,
-        Kind::Vector => 6,
-        Kind::Unknown => 0,
+        Kind::Inputs => tag == 1,
+        Kind::Module => tag == 2,
+        Kind::Edge => tag == 3 || tag == 7,
+        Kind::Bridge => tag == 4,
+        Kind::Instance => tag == 5,
+        Kind::Vector => tag == 6,
+        Kind::Unknown => tag == 0 || 7 < tag,
     }
 }
 
-// Whether a field with this tag is of a kind.
-pub fn is_kind(tag: u8, kind: Kind) -> bool
-    ensures { λ r. ⌜ r ≡ isKind (kindTag kind) (tagOf tag) ⌝ }
+// Whether an edge field with this tag states its channel.
+pub fn states_channel(tag: u8) -> bool
+    ensures { λ r. ⌜ cond r stated by-position ≡ edgeTagOf (tagOf tag) ⌝ }
 {
-    number_in(kind_of(tag)) == number_in(kind)
+    tag == 7
 }

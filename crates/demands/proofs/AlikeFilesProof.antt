@@ -67,7 +67,7 @@ no-vector-added : (tag : Tag) (c : Circuit) (body : List ℕ) → T (not (isKind
 unfolding isKind taken
 no-vector-added inputs-tag c body other = refl
 no-vector-added type-tag c body other = refl
-no-vector-added edge-tag c body other = refl
+no-vector-added (edge-tag t) c body other = refl
 no-vector-added bridge-tag c body other = refl
 no-vector-added instance-tag c body other = refl
 no-vector-added vector-tag c body other = absurd other

@@ -34,8 +34,13 @@ use Rattle.demands.proofs.CircuitCallsProof.{circuit-is-graded-as-file,
 use Rattle.demands.proofs.CircuitCallsProof.{circuits-meet-two, circuit-column-is-of-its-vector, circuits-meet-three}
 use Rattle.demands.proofs.UniqueProof.{unique}
 use Rattle.demands.proofs.MetProof.{met-by-every-file}
-use Rattle.demands.proofs.KnownProof.{all-known, edges-known}
+use Rattle.demands.proofs.KnownProof.{all-known, edges-known, passes-known}
+use Rattle.demands.proofs.PassTransistorsProof.{types-are-fields, ends-keep-the-rules, rails-apart-in-files, numbers-of-edges}
+use Rattle.demands.proofs.TagsGraded.{tags-change-no-answer}
+use Rattle.demands.proofs.PassesBefore.{only-passes-change}
+use Rattle.demands.proofs.WrongPasses.{pass-fields-read, wrong-passes-are-wrong}
 use Rattle.switch.proofs.Blocks.{blocks-tell}
+use Rattle.switch.proofs.Tags.{tags-conduct-nothing}
 use Rattle.switch.proofs.Groups.{groups-link-alike}
 use Rattle.demands.proofs.ModuleCheckProof.{nine-as-before, wrong-checks-are-wrong}
 use Rattle.demands.proofs.SingleTransistorsProof.{answered-as-before, accepted-as-before}
@@ -100,6 +105,16 @@ all-proved = record {
   grouped-fields-read = grouped-fields-read;
   edges-known = edges-known;
   wrong-edges-are-wrong = wrong-edges-are-wrong;
+  types-are-fields = types-are-fields;
+  ends-keep-the-rules = ends-keep-the-rules;
+  rails-apart-in-files = rails-apart-in-files;
+  tags-conduct-nothing = tags-conduct-nothing;
+  tags-change-no-answer = tags-change-no-answer;
+  only-passes-change = only-passes-change;
+  numbers-of-edges = numbers-of-edges;
+  pass-fields-read = pass-fields-read;
+  passes-known = passes-known;
+  wrong-passes-are-wrong = wrong-passes-are-wrong;
   grade-is-kept = grade-is-kept;
   entry-is-kept = entry-is-kept;
   grade-circuit-is-kept = grade-circuit-is-kept;

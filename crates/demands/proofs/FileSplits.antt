@@ -25,7 +25,7 @@ use Rattle.read_fields.proofs.Cuts.{behind, standing, cut-broken, cut-field}
 use Rattle.demands.specs.Files.{fieldBytes as bytesOfField}
 use Rattle.demands.specs.AlikeFiles.{TagAndBody, fieldsOf, notVector}
 use Rattle.demands.specs.SplitFiles.{AcceptedIsSplit, SplitOnce}
-use Rattle.demands.proofs.KindsOnce.{vector-byte}
+use Rattle.circuit.proofs.OrderLaws.{tag-byte}
 use Rattle.demands.proofs.WholeFields.{fieldAt, cutOf, cut-whole, after-verdict, read-from-start}
 use Rattle.demands.proofs.AlikeFilesProof.{vectorField, whole-file}
 
@@ -163,7 +163,7 @@ after-a-vector : (tag : Tag) → isUnknown tag ≡ false → misplaced (after-ta
 unfolding isKind mayFollow between
 after-a-vector inputs-tag u m = cc
 after-a-vector type-tag u m = cc
-after-a-vector edge-tag u m = cc
+after-a-vector (edge-tag t) u m = cc
 after-a-vector bridge-tag u m = cc
 after-a-vector instance-tag u m = cc
 after-a-vector vector-tag u m = refl
@@ -180,7 +180,7 @@ all-vectors size known at (f ∷ fs) c previous e =
     let read = after-verdict (firstOf (fieldTests known (fieldAt at f))) _ c e in
     let later = all-vectors size (knownAfter known (fieldAt at f)) (at + 3 + length (f .body)) fs c (ap after-tag is) read in (
       f .body ∷ later .0,
-      ap₂ (λ (tag : ℕ) (gs : List TagAndBody). record { tag = tag; body = f .body } ∷ gs) (vector-byte (f .tag) is) (later .1),
+      ap₂ (λ (tag : ℕ) (gs : List TagAndBody). record { tag = tag; body = f .body } ∷ gs) (tag-byte vector-tag (f .tag) (omega arith) is) (later .1),
     )
 
 -- fields with the vectors last
@@ -204,7 +204,7 @@ vectors-last size known at (f ∷ fs) c e =
           [],
           f .body ∷ vectors .0,
           tt,
-          ap₂ (λ (tag : ℕ) (gs : List TagAndBody). record { tag = tag; body = f .body } ∷ gs) (vector-byte (f .tag) is) (vectors .1),
+          ap₂ (λ (tag : ℕ) (gs : List TagAndBody). record { tag = tag; body = f .body } ∷ gs) (tag-byte vector-tag (f .tag) (omega arith) is) (vectors .1),
         )
     go false p later = (
       f ∷ later .0,

@@ -8,7 +8,8 @@
 --   one outcome   CellsAgree, ClassesAgree, Determines
 --   number 9      ModuleCheckProof
 --   transistors   GroupsGrade, GroupsRead, SingleTransistorsProof; by computing WrongEdges
---   contracts     ContractsProof, CircuitCallsProof, KindsOnce, StepsOnce, CanBeMet, UniqueProof, MetProof
+--   channels      PassTransistorsProof, TagsGraded, PassesBefore; by computing WrongPasses
+--   contracts     ContractsProof, CircuitCallsProof, StepsOnce, CanBeMet, UniqueProof, MetProof
 --   all of them   AllProofs
 --   by computing  KnownProof, WrongProof, BreaksProof; MeetsProof, what the demands do not break
 pub mod Gave
@@ -50,13 +51,16 @@ pub mod BreaksProof
 pub mod MeetsProof
 pub mod ModuleCheckProof
 pub mod GroupsGrade
+pub mod TagsGraded
+pub mod PassTransistorsProof
+pub mod PassesBefore
 pub mod GroupsRead
 pub mod SingleTransistorsProof
 pub mod WrongEdges
+pub mod WrongPasses
 pub mod CellsAgree
 pub mod ClassesAgree
 pub mod Determines
-pub mod KindsOnce
 pub mod StepsOnce
 pub mod CanBeMet
 pub mod UniqueProof

@@ -11,6 +11,7 @@ use Rattle.switch.proofs.Blocks.{blocks-tell}
 use Rattle.circuit.specs.Fields.{Field, Cut, clean, broken, field, cutFrom}
 use Rattle.words.specs.Tables.{table}
 use Rattle.circuit.specs.Circuit.{Circuit, primary, no-faults}
+use Rattle.switch.specs.Conduction.{by-position, stated}
 use Rattle.circuit.specs.Order.{Tag, inputs-tag, type-tag, edge-tag, bridge-tag, instance-tag, vector-tag, no-tag, tagOf, isEdge}
 use Rattle.circuit.specs.Known.{Known, start, knownAfter, latest}
 use Rattle.circuit.specs.Table.{unjudged, notComplementary, bodyTests, fieldTests, endTests}
@@ -19,7 +20,7 @@ use Rattle.circuit.specs.Reading.{readFrom, readingWith}
 use Rattle.grading.specs.Buffers.{Buffers}
 use Rattle.grading.specs.Grading.{gradingOf}
 use Rattle.demands.specs.Calls.{Kept}
-use Rattle.demands.specs.Graders.{Outcome, gradesBy, rightly, readTesting, testing}
+use Rattle.demands.specs.Graders.{Outcome, gradesBy, rightly, readTaking, takingAndTesting}
 use Rattle.demands.specs.Files.{inputsField, typeField, edgeField, instanceField, vectorField, oneUnder}
 use Rattle.demands.specs.ModuleCheck.{rejudged, fieldTestsBy, endTestsBy, checksBy, NineAsBefore}
 use Rattle.demands.specs.ModuleCheck.{stopsAtAGoodBlock, leavesTheLastOut, keepsTheLastBlock, WrongChecksAreWrong}
@@ -35,7 +36,8 @@ other-tests : (check : ModuleType → Bool) (asked : Bool) (known : Known) (tag 
 unfolding rejudged bodyTests inputsTests typeTests edgeTests edgeTestsOf bridgeTests instanceTests instanceTestsOf vectorTests
 other-tests check asked known inputs-tag c at body = refl
 other-tests check asked known type-tag c at body = refl
-other-tests check asked known edge-tag c at body = refl
+other-tests check asked known (edge-tag by-position) c at body = refl
+other-tests check asked known (edge-tag stated) c at body = refl
 other-tests check asked known bridge-tag c at body = refl
 other-tests check asked known instance-tag c at body = refl
 other-tests check asked known vector-tag c at body = refl
@@ -52,14 +54,14 @@ at-the-end known size = rw (blocks-tell .same-verdict (latest (known .circuit .t
 
 -- ---- files
 
-read-alike : (size : ℕ) (known : Known) (cut : Cut) → readTesting (fieldTestsBy byBlocks) (endTestsBy byBlocks) size known cut ≡ readFrom true size known cut
-unfolding readTesting readFrom
+read-alike : (size : ℕ) (known : Known) (cut : Cut) → readTaking knownAfter (fieldTestsBy byBlocks) (endTestsBy byBlocks) size known cut ≡ readFrom true size known cut
+unfolding readTaking readFrom
 read-alike size known clean = rw (at-the-end known size)
 read-alike size known (broken at) = refl
 read-alike size known (field f rest) = rw (at-a-field known f, read-alike size (knownAfter known f) rest)
 
 same-outcome : (file : List ℕ) (before : Buffers) → rightly file before ≡ checksBy byBlocks file before
-unfolding testing rightly gradesBy gradingOf readingWith
+unfolding takingAndTesting rightly gradesBy gradingOf readingWith
 same-outcome file before = rw (read-alike (length file) start (cutFrom file 0))
 
 pub nine-as-before : NineAsBefore

@@ -6,7 +6,7 @@ use mathlib.Core.List.{List, [], _∷_}
 use native.Mathlib.Omega.{arith}
 use lib.Dec.{T}
 use lib.ListN.{length}
-use Rattle.switch.specs.Conduction.{Value, at0, at1, atX, Edge, Channel, p-channel, n-channel}
+use Rattle.switch.specs.Conduction.{by-position, Value, at0, at1, atX, Edge, Channel, p-channel, n-channel}
 use Rattle.switch.specs.Modules.{ModuleType}
 use Rattle.circuit.specs.Circuit.{Circuit, Instance, primary, outputOf, exhaustive, no-faults}
 use Rattle.circuit.specs.Reading.{accepted, readingOf}
@@ -24,7 +24,7 @@ use Rattle.demands.proofs.RightProof.{rightly-is-right}
 -- ---- the circuit
 
 abbrev edge : ℕ → ℕ → Channel → ℕ → Edge
-edge a b channel label = record { first = a; second = b; channel = channel; label = label }
+edge a b channel label = record { first = a; second = b; channel = channel; label = label; tag = by-position }
 
 abbrev twoTypes : List ModuleType
 twoTypes =

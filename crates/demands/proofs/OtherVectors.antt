@@ -13,7 +13,7 @@ use Rattle.switch.specs.Modules.{allOf}
 use Rattle.circuit.specs.Limits.{mostBytes, mostVectors}
 use Rattle.circuit.specs.Fields.{cutFrom}
 use Rattle.circuit.specs.Circuit.{Circuit}
-use Rattle.circuit.specs.Order.{vector-tag, tagOf, isKind, Previous, reached, atStart, mayFollow}
+use Rattle.circuit.specs.Order.{vector-tag, tagOf, isKind, isEdge, Previous, reached, atStart, mayFollow}
 use Rattle.circuit.specs.Known.{Known, start, vectorIn, taken, knownAfter}
 use Rattle.circuit.specs.Table.{passes, firstOf, unjudged, notComplementary, isEmpty, isLetter, vectorTests, bodyTests, fieldTests, endTests}
 use Rattle.circuit.specs.Reading.{accepted, unless, readFrom, readingWith}
@@ -72,7 +72,7 @@ some-is (a ∷ as′) h = refl
 module _ (P : ℕ) (known : Known) (ready : Ready P known) (at : ℕ) (body : List ℕ) where
   vector-passes : length body ≡ P → T (allOf isLetter body) → length (known .circuit .vectors) < mostVectors
       → firstOf (fieldTests known (fieldAt at (vectorField body))) ≡ passes
-  unfolding firstOf fieldTests tagOf isKind bodyTests vectorTests
+  unfolding firstOf fieldTests tagOf isKind isEdge bodyTests vectorTests
   vector-passes long letters few =
       rw (
         ready .in-place,
@@ -108,7 +108,7 @@ vectors-read size P (body ∷ bodies) known at ready each few some =
 ready-there : (size : ℕ) (known : Known) (at : ℕ) (bodies : List (List ℕ)) (c : Circuit)
     → readFrom true size known (cutOf at (map vectorField bodies)) ≡ accepted c → 1 ≤ length bodies → 1 ≤ length (c .instances)
     → Ready (c .inputs) known
-unfolding readFrom cutOf fieldTests tagOf isKind
+unfolding readFrom cutOf fieldTests tagOf isKind isEdge
 ready-there size known at [] c e some instances = absurd (omega arith)
 ready-there size known at (body ∷ bodies) c e some instances =
     let three = first-passes _ _ (passed-verdict (firstOf (fieldTests known (fieldAt at (vectorField body)))) _ c e) in

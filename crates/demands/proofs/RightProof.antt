@@ -9,6 +9,7 @@ use lib.ListN.{length}
 use Rattle.circuit.specs.Fields.{Field, Cut, clean, broken, field, cutFrom}
 use Rattle.circuit.specs.Circuit.{Circuit}
 use Rattle.circuit.specs.Known.{Known, start, knownAfter}
+use Rattle.switch.specs.Conduction.{by-position, stated}
 use Rattle.circuit.specs.Order.{Tag, inputs-tag, type-tag, edge-tag, bridge-tag, instance-tag, vector-tag, no-tag, tagOf}
 use Rattle.circuit.specs.Table.{Test, Verdict, passes, refusedAt, firstOf, bodyTests, fieldTests, endTests}
 use Rattle.circuit.specs.Table.{inputsTests, typeTests, edgeTests, edgeTestsOf, bridgeTests, instanceTests, instanceTestsOf, vectorTests}
@@ -59,7 +60,8 @@ unfolding AllTold refusing refusalOf numberOf placeOf countsOf refusalNumber ref
     bodyTests inputsTests typeTests edgeTests edgeTestsOf bridgeTests instanceTests instanceTestsOf vectorTests
 told-body inputs-tag c at body = ((refl, refl, refl), ((refl, refl, refl), tt))
 told-body type-tag c at body = ((refl, refl, refl), ((refl, refl, refl), ((refl, refl, refl), tt)))
-told-body edge-tag c at body = ((refl, refl, refl), ((refl, refl, refl), ((refl, refl, refl), ((refl, refl, refl), tt))))
+told-body (edge-tag by-position) c at body = ((refl, refl, refl), ((refl, refl, refl), ((refl, refl, refl), ((refl, refl, refl), tt))))
+told-body (edge-tag stated) c at body = ((refl, refl, refl), ((refl, refl, refl), ((refl, refl, refl), tt)))
 told-body bridge-tag c at body = ((refl, refl, refl), ((refl, refl, refl), ((refl, refl, refl), tt)))
 told-body instance-tag c at body = (
   (refl, refl, refl),

@@ -10,6 +10,7 @@ use borrow.Author.Needs.{needs}
 use borrow.Author.Tests.{ltb-true, ltb-false, lt-ltb, le-ltb, eqb-true, eqb-false}
 use lib.Dec.{eqb, ltb}
 use lib.ListN.{length}
+use Rattle.switch.specs.Conduction.{EdgeTag, by-position, stated}
 use Rattle.switch.specs.Grouped.{Group}
 use Rattle.circuit.specs.Limits.{mostBytes}
 use Rattle.circuit.specs.Fields.{Field, Cut, clean, broken, field, cutFrom}
@@ -27,9 +28,10 @@ use Rattle.circuit.specs.Refusals.{refusalNumber, refusalPlace}
 use Rattle.demands.specs.Calls.{Kept}
 use Rattle.demands.specs.Graders.{Outcome, called, refusalOf, refusing, outcomeOf, rightWork, rightly, gradesBy}
 use Rattle.demands.specs.SingleTransistors.{bytesBefore, latestGroups, groupsStart, GroupsReading, accepted-with, refused-with, groupsReadFrom, groupsReading, groupsWork}
-use Rattle.demands.specs.SingleTransistors.{groupsOutcome, groupwise, Changed, longer, more-edges, AnsweredAsBefore, AcceptedAsBefore}
+use Rattle.demands.specs.SingleTransistors.{groupsOutcome, groupwise, EdgeFieldOf, Changed, longer, more-edges, pass-field, AnsweredAsBefore, AcceptedAsBefore}
 use Rattle.demands.proofs.GroupsGrade.{Aligned, work-alike}
-use Rattle.demands.proofs.GroupsRead.{Along, ReadAlike, OneTooMany, read-alike}
+use Rattle.demands.proofs.GroupsRead.{numberThen, Along, ReadAlike, RefusedThen, read-alike}
+use Rattle.demands.proofs.PassTransistorsProof.{numbers-of-edges}
 use Rattle.demands.proofs.RightProof.{rightly-is-right}
 
 -- ---- what is read alike is answered alike
@@ -73,7 +75,7 @@ then-is : (file : List ℕ) → ltb bytesBefore (length file) ≡ false → grou
 unfolding groupsReading
 then-is file short = rw short
 
-both-read : (file : List ℕ) → ReadAlike (today file) (then file) ⊎ OneTooMany (cutFrom file 0) (then file)
+both-read : (file : List ℕ) → ReadAlike (today file) (then file) ⊎ RefusedThen (cutFrom file 0) (then file)
 both-read file = read-alike (length file) groupsStart nothing-known (cutFrom file 0)
 
 within : (file : List ℕ) → ltb bytesBefore (length file) ≡ false → length file ≤ mostBytes
@@ -120,15 +122,20 @@ module _ (file : List ℕ) (before : Buffers) where
         ∙ answered-alike (today file) (then file) alike before
         ∙ ap (λ (g : GroupsReading). groupsOutcome g before) (sym (then-is file short)))
 
-    short-file : ReadAlike (today file) (then file) ⊎ OneTooMany (cutFrom file 0) (then file) → AsBefore
-    short-file (inl alike) = inl (read-kept alike)
-    short-file (inr many) = told (is-six (today file) (many .0 .at))
+    one-too-many : (f : Field) → EdgeFieldOf file by-position f → then file ≡ refused-with 6 (f .at) → AsBefore
+    one-too-many f its was = told (is-six (today file) (f .at))
       where
-        told : ReadAlike (today file) (refused-with 6 (many .0 .at)) ⊎ (today file ≡ refusal 6 (many .0 .at) → ⊥) → AsBefore
-        told (inl alike) = inl (read-kept (subst (ReadAlike (today file)) (sym (many .3)) alike))
-        told (inr other) =
-            inr (more-edges (many .0) (record { among = many .1; edge = many .2 }) (then-is file short ∙ many .3)
-            (λ e. other (sym (today-is file (within file short)) ∙ e)))
+        told : ReadAlike (today file) (refused-with 6 (f .at)) ⊎ (today file ≡ refusal 6 (f .at) → ⊥) → AsBefore
+        told (inl alike) = inl (read-kept (subst (ReadAlike (today file)) (sym was) alike))
+        told (inr other) = inr (more-edges f its (then-is file short ∙ was) (λ e. other (sym (today-is file (within file short)) ∙ e)))
+
+    by-tag : (f : Field) (tag : EdgeTag) → EdgeFieldOf file tag f → then file ≡ refused-with (numberThen tag) (f .at) → AsBefore
+    by-tag f by-position its was = one-too-many f its was
+    by-tag f stated its was = inr (pass-field f its (then-is file short ∙ was))
+
+    short-file : ReadAlike (today file) (then file) ⊎ RefusedThen (cutFrom file 0) (then file) → AsBefore
+    short-file (inl alike) = inl (read-kept alike)
+    short-file (inr (f, tag, among, edge, was)) = by-tag f tag (record { among = among; edge = edge }) was
 
   long-file : ltb bytesBefore (length file) ≡ true → (b : Bool) → ltb mostBytes (length file) ≡ b → AsBefore
   unfolding rightly gradesBy gradingOf afterReading outcomeOf readingWith groupwise groupsReading groupsOutcome
@@ -162,12 +169,12 @@ module _ (file : List ℕ) (c : Circuit) (groups : List (List Group)) (e : group
   unfolding groupsReading
   long-refused long = never-both c groups 1 0 (sym e ∙ rw long)
 
-  short-accepted : ltb bytesBefore (length file) ≡ false → ReadAlike (today file) (then file) ⊎ OneTooMany (cutFrom file 0) (then file)
+  short-accepted : ltb bytesBefore (length file) ≡ false → ReadAlike (today file) (then file) ⊎ RefusedThen (cutFrom file 0) (then file)
       → (readingOf file ≡ accepted c) × Aligned (c .types) groups
   short-accepted short (inl alike) =
       let its = accepted-alike (today file) c groups (subst (ReadAlike (today file)) (sym (then-is file short) ∙ e) alike) in
       (today-is file (within file short) ∙ its .0, its .1)
-  short-accepted short (inr many) = absurd (never-both c groups 6 (many .0 .at) (sym e ∙ then-is file short ∙ many .3))
+  short-accepted short (inr (f, tag, among, edge, was)) = absurd (never-both c groups (numberThen tag) (f .at) (sym e ∙ then-is file short ∙ was))
 
 pub accepted-as-before : AcceptedAsBefore
 accepted-as-before file c groups e = go (ltb bytesBefore (length file)) refl
@@ -187,7 +194,8 @@ two-body : (tag : Tag) (c : Circuit) (at : ℕ) (body : List ℕ) → AllTwo (bo
 unfolding AllTwo bodyTests inputsTests typeTests edgeTests edgeTestsOf bridgeTests instanceTests instanceTestsOf vectorTests
 two-body inputs-tag c at body = search needs
 two-body type-tag c at body = search needs
-two-body edge-tag c at body = search needs
+two-body (edge-tag by-position) c at body = search needs
+two-body (edge-tag stated) c at body = search needs
 two-body bridge-tag c at body = search needs
 two-body instance-tag c at body = search needs
 two-body vector-tag c at body = search needs
@@ -235,10 +243,11 @@ unfolding Past afterReading numberIn
 not-one (accepted c) room past e = graded-number c room 1 (omega arith) (omega arith) e
 not-one (refusal n p) room past e = absurd (omega arith)
 
-six-there : (r : Reading) (room : Room) (p : ℕ) → 6 ≡ numberIn (afterReading r room) → p ≡ placeIn (afterReading r room) → r ≡ refusal 6 p
+refused-there : (m : ℕ) → 1 ≤ m → m ≤ 14 → (r : Reading) (room : Room) (p : ℕ)
+    → m ≡ numberIn (afterReading r room) → p ≡ placeIn (afterReading r room) → r ≡ refusal m p
 unfolding afterReading numberIn placeIn
-six-there (accepted c) room p e at = absurd (graded-number c room 6 (omega arith) (omega arith) e)
-six-there (refusal n q) room p e at = rw (e, at)
+refused-there m low high (accepted c) room p e at = absurd (graded-number c room m low high e)
+refused-there m low high (refusal n q) room p e at = rw (e, at)
 
 module _ (file : List ℕ) (before : Buffers) (keeps : Kept (called groupwise file before)) where
   -- the refusal of before, told by today's grading
@@ -264,11 +273,19 @@ module _ (file : List ℕ) (before : Buffers) (keeps : Kept (called groupwise fi
 
   six-changes : (p : ℕ) → groupsReading file ≡ refused-with 6 p → (readingOf file ≡ refusal 6 p → ⊥) → ⊥
   unfolding refusing refusalOf numberOf placeOf refusalNumber refusalPlace
-  six-changes p was other = other (six-there (readingOf file) (roomOf before) p (number-now 6 p was) (place-now 6 p was))
+  six-changes p was other = other (refused-there 6 (omega arith) (omega arith) (readingOf file) (roomOf before) p (number-now 6 p was) (place-now 6 p was))
+
+  -- no field with tag 7 is refused by 3 today
+  three-changes : (f : Field) → EdgeFieldOf file stated f → groupsReading file ≡ refused-with 3 (f .at) → ⊥
+  unfolding refusing refusalOf numberOf placeOf refusalNumber refusalPlace
+  three-changes f its was =
+      numbers-of-edges .three file f its
+      (refused-there 3 (omega arith) (omega arith) (readingOf file) (roomOf before) (f .at) (number-now 3 (f .at) was) (place-now 3 (f .at) was))
 
 changed : (file : List ℕ) (before : Buffers) → Changed file → Kept (called groupwise file before) → ⊥
 changed file before (longer long short) keeps = long-changes file before keeps long short
-changed file before (more-edges f edge was other) keeps = six-changes file before keeps (f .at) was other
+changed file before (more-edges f its was other) keeps = six-changes file before keeps (f .at) was other
+changed file before (pass-field f its was) keeps = three-changes file before keeps f its was
 
 pub answered-as-before : AnsweredAsBefore
 answered-as-before = record { as-before = as-before; changed = changed }

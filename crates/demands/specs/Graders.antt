@@ -1,7 +1,7 @@
 -- Graders as functions, to try against the promise of `grade`: what they answer and leave in the buffers, a right one, and where a wrong
 -- one may differ.
 use Prim.Native.Nat.{ℕ}
-use mathlib.Core.Bool.{Bool, cond}
+use mathlib.Core.Bool.{Bool, true, cond}
 use mathlib.Core.List.{List, [], map}
 use lib.Dec.{eqb, ltb}
 use lib.ListN.{length, getD}
@@ -14,7 +14,7 @@ use Rattle.circuit.specs.Limits.{mostBytes}
 use Rattle.circuit.specs.Fields.{Field, Cut, clean, broken, field, cutFrom}
 use Rattle.circuit.specs.Circuit.{Circuit, joinLists}
 use Rattle.circuit.specs.Known.{Known, start, knownAfter}
-use Rattle.circuit.specs.Table.{Test, firstOf}
+use Rattle.circuit.specs.Table.{Test, firstOf, fieldTests, endTests}
 use Rattle.circuit.specs.Reading.{Reading, accepted, refusal, unless}
 use Rattle.circuit.specs.declared.refusal.Refusal.{Refusal}
 use Rattle.circuit.specs.declared.refusal.Refusal.the-variants.{TooLong, Broken, UnknownTag, Misplaced, WrongLength, TooMany, OutOfRange}
@@ -111,15 +111,30 @@ rightly file before = gradesBy rightWork file before
 abbrev pub RightlyIsRight : Type 0
 RightlyIsRight = MeetsPromise rightly
 
--- ---- a grader by the tests that it makes of a field and of the end of a file; it is right in all else
+-- ---- a grader by what it takes from a field, and by the tests that it makes of a field and of the end of a file; it is right in all else
 
-unfoldable pub readTesting : (Known → Field → List Test) → (Known → ℕ → List Test) → ℕ → Known → Cut → Reading
-readTesting fields end size known clean = unless (firstOf (end known size)) (accepted (known .circuit))
-readTesting fields end size known (broken at) = refusal 2 at
-readTesting fields end size known (field f rest) =
-    let later = readTesting fields end size (knownAfter known f) rest in unless (firstOf (fields known f)) later
+abbrev pub Taking : Type 0
+Taking = Known → Field → Known
 
-unfoldable pub testing : (Known → Field → List Test) → (Known → ℕ → List Test) → Grader
-testing fields end file before =
-    let whole = readTesting fields end (length file) start (cutFrom file 0) in
+abbrev pub FieldTesting : Type 0
+FieldTesting = Known → Field → List Test
+
+abbrev pub EndTesting : Type 0
+EndTesting = Known → ℕ → List Test
+
+unfoldable pub readTaking : Taking → FieldTesting → EndTesting → ℕ → Known → Cut → Reading
+readTaking after fields end size known clean = unless (firstOf (end known size)) (accepted (known .circuit))
+readTaking after fields end size known (broken at) = refusal 2 at
+readTaking after fields end size known (field f rest) =
+    let later = readTaking after fields end size (after known f) rest in unless (firstOf (fields known f)) later
+
+unfoldable pub takingAndTesting : Taking → FieldTesting → EndTesting → Grader
+takingAndTesting after fields end file before =
+    let whole = readTaking after fields end (length file) start (cutFrom file 0) in
     outcomeOf rightWork (afterReading (cond (ltb mostBytes (length file)) (refusal 1 0) whole) (roomOf before)) before
+
+abbrev pub testing : FieldTesting → EndTesting → Grader
+testing = takingAndTesting knownAfter
+
+abbrev pub taking : Taking → Grader
+taking after = takingAndTesting after fieldTests (endTests true)

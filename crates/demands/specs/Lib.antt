@@ -7,6 +7,7 @@
 --   Determined              the demands leave one outcome only, which is the promise's
 --   ModuleCheck             number 9 by another check of types: by blocks of settings, and by wrong ones
 --   SingleTransistors       the grader of before, by groups of transistors; every file is answered as it was, but for those named
+--   PassTransistors         edges that state their channel: what is recorded, and that it is read; files without them answered as before
 --   Contracts               contracts as terms; those of `grade` and of the entry for C
 --   CircuitCalls            grading a circuit in place of its file
 --   Unique                  contracts of public functions that leave one outcome only
@@ -30,6 +31,7 @@ pub mod Wrong
 pub mod Breaks
 pub mod ModuleCheck
 pub mod SingleTransistors
+pub mod PassTransistors
 pub mod Contracts
 pub mod CircuitCalls
 pub mod Unique

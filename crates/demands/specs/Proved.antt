@@ -2,6 +2,7 @@
 -- this type, so a statement whose proof is gone, or proves something else, is refused; .ci/parts/8-trust holds docs/TRUST.md to the fields.
 use Rattle.switch.specs.Blocks.{BlocksTell}
 use Rattle.switch.specs.Grouped.{GroupsLinkAlike}
+use Rattle.switch.specs.Tags.{TagsConductNothing}
 use Rattle.circuit.specs.Laws.{GatheredIsBefore, BeforeIsCircuit}
 use Rattle.print_lines.specs.Pieces.{OnePiece, PiecesJoin, PieceMoves}
 use Rattle.print_report.specs.Promise.{ReportIsLines, LinesFit, RowsAreHeld}
@@ -22,12 +23,14 @@ use Rattle.demands.specs.SplitFiles.{AcceptedIsSplit, SplitOnce, OtherVe
 use Rattle.demands.specs.Determined.{DemandsLeaveOneOutcome, DemandsAreThePromise}
 use Rattle.demands.specs.ModuleCheck.{NineAsBefore, WrongChecksAreWrong}
 use Rattle.demands.specs.SingleTransistors.{AnsweredAsBefore, AcceptedAsBefore, GroupedFieldsRead, WrongEdgesAreWrong}
+use Rattle.demands.specs.PassTransistors.{TypesAreFields, EndsKeepTheRules, RailsApartInFiles, TagsChangeNoAnswer, OnlyPassesChange}
+use Rattle.demands.specs.PassTransistors.{NumbersOfEdges, PassFieldsRead, WrongPassesAreWrong}
 use Rattle.demands.specs.Contracts.{GradeIsKept, EntryIsKept}
 use Rattle.demands.specs.CircuitCalls.{CircuitIsGradedAsFile, CircuitAnswersAsFile, GradeCircuitIsKept}
 use Rattle.demands.specs.CircuitCalls.{CircuitsMeetTwo, CircuitColumnIsOfItsVector, CircuitsMeetThree}
 use Rattle.demands.specs.Unique.{Unique}
 use Rattle.demands.specs.Met.{MetByEveryFile}
-use Rattle.demands.specs.KnownResults.{AllKnown, EdgesKnown}
+use Rattle.demands.specs.KnownResults.{AllKnown, EdgesKnown, PassesKnown}
 use Rattle.demands.specs.Graders.{RightlyIsRight}
 use Rattle.demands.specs.Wrong.{RefusesEveryIsWrong, SkipsNineIsWrong, SkipsFourteenIsWrong, MarksAllIsWrong, MarksNeverIsWrong}
 use Rattle.demands.specs.Wrong.{LeavesMatrixIsWrong, FirstWordOnlyIsWrong, InventsFoundIsWrong, SweepsOnceIsWrong, OnePlaneIsWrong}
@@ -98,6 +101,17 @@ pub record AllProved : Type 2 where
   pub grouped-fields-read : GroupedFieldsRead
   pub edges-known : EdgesKnown
   pub wrong-edges-are-wrong : WrongEdgesAreWrong
+  -- pass transistors
+  pub types-are-fields : TypesAreFields
+  pub ends-keep-the-rules : EndsKeepTheRules
+  pub rails-apart-in-files : RailsApartInFiles
+  pub tags-conduct-nothing : TagsConductNothing
+  pub tags-change-no-answer : TagsChangeNoAnswer
+  pub only-passes-change : OnlyPassesChange
+  pub numbers-of-edges : NumbersOfEdges
+  pub pass-fields-read : PassFieldsRead
+  pub passes-known : PassesKnown
+  pub wrong-passes-are-wrong : WrongPassesAreWrong
   -- the code
   pub grade-is-kept : GradeIsKept
   pub entry-is-kept : EntryIsKept

@@ -4,14 +4,14 @@
 -- SingleTransistorsProof and WrongEdges.
 use Prim.Native.Nat.{ℕ, _+_, _-_, _^_, _<_, _≤_}
 use mathlib.Core.Path.{_≡_}
-use mathlib.Core.Bool.{Bool, true, false, cond, not, _&&_, Bool·beq}
+use mathlib.Core.Bool.{Bool, true, false, cond, not, _&&_, _||_, Bool·beq}
 use mathlib.Core.Logic.{_⊎_}
 use mathlib.Core.List.{List, [], _∷_, _++_, map}
 use lib.Dec.{eqb, leb, ltb}
 use lib.ListN.{length, getD, drop, set}
 use Rattle.words.specs.Bits.{ofBool}
 use Rattle.words.specs.Rows.{rowOf}
-use Rattle.switch.specs.Conduction.{Value, at0, n-channel, between, badEnds, channelOf, byValues, Link, ground, supply}
+use Rattle.switch.specs.Conduction.{Value, at0, n-channel, EdgeTag, by-position, stated, between, badEnds, channelOf, byValues, Link, ground, supply}
 use Rattle.switch.specs.Modules.{ModuleType, settingOf}
 use Rattle.switch.specs.Bridges.{closing}
 use Rattle.switch.specs.Deciding.{joins, allBelow, levelIn}
@@ -95,13 +95,13 @@ groupTests t count at body =
 unfoldable pub groupsFailing : GroupsKnown → Bool
 groupsFailing k = not (groupsComplementary (latest (k .known .circuit .types)) (latestGroups (k .groups)))
 
--- the tests of a field, and those of the end of the file; 9 asks the groups
+-- the tests of a field, and those of the end of the file; 9 asks the groups. Tag 7 was none of the tags
 unfoldable pub groupsFieldTests : GroupsKnown → Field → List Test
 groupsFieldTests k f =
     let tag = tagOf (f .tag) in
     let c = k .known .circuit in
     let count = length (latestGroups (k .groups)) in
-    test 3 (isUnknown tag) (f .at)
+    test 3 (isUnknown tag || isKind (edge-tag stated) tag) (f .at)
     ∷ test 4 (misplaced (k .known .previous) tag) (f .at)
     ∷ test 9 (cond (unjudged (k .known .previous) && not (isEdge tag)) (groupsFailing k) false) (k .known .typeAt)
     ∷ cond (isEdge tag) (groupTests (latest (c .types)) count (f .at) (f .body)) (bodyTests tag c (f .at) (f .body))
@@ -172,17 +172,18 @@ FieldOf clean f = ⊥
 FieldOf (broken at) f = ⊥
 FieldOf (field g rest) f = (f ≡ g) ⊎ FieldOf rest f
 
--- an edge field of the file
-pub record EdgeFieldOf (file : List ℕ) (f : Field) : Type 0 where
+-- an edge field of the file, of this tag
+pub record EdgeFieldOf (file : List ℕ) (tag : EdgeTag) (f : Field) : Type 0 where
   pub among : FieldOf (cutFrom file 0) f
-  pub edge : tagOf (f .tag) ≡ edge-tag
+  pub edge : tagOf (f .tag) ≡ edge-tag tag
 
--- the files whose answer changes: those of 32,769 to 57,344 bytes, which were refused by 1; and those that were refused by 6 at an edge
--- field, and are not refused so today
+-- the files whose answer changes: those of 32,769 to 57,344 bytes, which were refused by 1; those that were refused by 6 at an edge field,
+-- and are not refused so today; and those that were refused by 3 at a field with tag 7 (02, "Pass transistors")
 pub data Changed (file : List ℕ) : Type 0 where
   longer : bytesBefore < length file → length file ≤ 57344 → Changed file
-  more-edges : (f : Field) → EdgeFieldOf file f → groupsReading file ≡ refused-with 6 (f .at)
+  more-edges : (f : Field) → EdgeFieldOf file by-position f → groupsReading file ≡ refused-with 6 (f .at)
       → (readingOf file ≡ refusal 6 (f .at) → ⊥) → Changed file
+  pass-field : (f : Field) → EdgeFieldOf file stated f → groupsReading file ≡ refused-with 3 (f .at) → Changed file
 
 -- the outcome of before keeps today's promise, or the file is one of these; never both
 pub record AnsweredAsBefore : Type 0 where
@@ -205,13 +206,13 @@ pub record GroupedFieldsRead : Type 0 where
     instances = record { type = 1; choice = exhaustive; references = primary 1 ∷ primary 2 ∷ [] } ∷ [];
     vectors = (at0 ∷ at0 ∷ []) ∷ [];
   })
-  pub repeated : edgesIn 2 (0 ∷ 2 ∷ 3 ∷ 0 ∷ 3 ∷ []) ≡ edge 0 2 n-channel 3 ∷ edge 0 2 n-channel 0 ∷ edge 0 2 n-channel 3 ∷ []
+  pub repeated : edgesIn by-position 2 (0 ∷ 2 ∷ 3 ∷ 0 ∷ 3 ∷ []) ≡ edge 0 2 n-channel 3 ∷ edge 0 2 n-channel 0 ∷ edge 0 2 n-channel 3 ∷ []
 
--- ---- wrong ways to take edges: graders that differ in one test of an edge field
+-- ---- wrong ways to take edges: graders that differ in one test of a field with tag 3
 
 unfoldable pub retested : ℕ → (Known → List ℕ → Bool) → Known → Field → Test → Test
 retested number refuses known f t =
-    cond (isEdge (tagOf (f .tag)) && eqb (t .number) number) (test number (refuses known (f .body)) (t .place)) t
+    cond (isKind (edge-tag by-position) (tagOf (f .tag)) && eqb (t .number) number) (test number (refuses known (f .body)) (t .place)) t
 
 abbrev pub edgesBy : ℕ → (Known → List ℕ → Bool) → Grader
 edgesBy number refuses = testing (λ known f. map (retested number refuses known f) (fieldTests known f)) (endTests true)

@@ -26,13 +26,15 @@ use Rattle.switch.proofs.edges.first_of as switch-first-of
 use Rattle.switch.proofs.edges.second_of as switch-second-of
 use Rattle.switch.proofs.edges.label_of as switch-label-of
 use Rattle.switch.proofs.edges.gate_of as switch-gate-of
+use Rattle.switch.proofs.edges.is_p as switch-is-p
+use Rattle.switch.proofs.edges.is_stated as switch-is-stated
 use Rattle.join_nodes.proofs.complementary.complementary as join-nodes-complementary
 use Rattle.join_nodes.proofs.complementary.check_type as join-nodes-check-type
 use Rattle.join_nodes.proofs.rails.joining as join-nodes-joining
 use Rattle.join_nodes.proofs.rails.join_type as join-nodes-join-type
 use Rattle.join_nodes.proofs.rails.output_planes as join-nodes-output-planes
-use Rattle.circuit.proofs.order.kind_of as circuit-kind-of
 use Rattle.circuit.proofs.order.is_kind as circuit-is-kind
+use Rattle.circuit.proofs.order.states_channel as circuit-states-channel
 use Rattle.circuit.proofs.ranges.is_between as circuit-is-between
 use Rattle.circuit.proofs.refusal.refuses as circuit-refuses
 use Rattle.circuit.proofs.refusal.or_if as circuit-or-if
@@ -131,14 +133,16 @@ pub record Unique : Type 2 where
   pub switch-second-of : Sole switch-second-of.ended switch-second-of.Reads.Asked switch-second-of.Reads.Learnt
   pub switch-label-of : Sole switch-label-of.ended switch-label-of.Reads.Asked switch-label-of.Reads.Learnt
   pub switch-gate-of : Sole switch-gate-of.ended switch-gate-of.Reads.Asked switch-gate-of.Reads.Learnt
+  pub switch-is-p : Sole switch-is-p.ended switch-is-p.Reads.Asked switch-is-p.Reads.Learnt
+  pub switch-is-stated : Sole switch-is-stated.ended switch-is-stated.Reads.Asked switch-is-stated.Reads.Learnt
   pub join-nodes-complementary : SoleByClauses join-nodes-complementary.ended (λ M. join-nodes-complementary.clauses {M = M})
   pub join-nodes-check-type : SoleWhereMet join-nodes-check-type.ended join-nodes-check-type.Reads.Asked join-nodes-check-type.Reads.Learnt
   pub join-nodes-joining : SoleByClauses join-nodes-joining.ended (λ M. join-nodes-joining.clauses {M = M})
   pub join-nodes-join-type : SoleWhereMet join-nodes-join-type.ended join-nodes-join-type.Reads.Asked join-nodes-join-type.Reads.Learnt
   pub join-nodes-output-planes :
       Sole join-nodes-output-planes.ended join-nodes-output-planes.Reads.Asked join-nodes-output-planes.Reads.Learnt
-  pub circuit-kind-of : Sole circuit-kind-of.ended circuit-kind-of.Reads.Asked circuit-kind-of.Reads.Learnt
   pub circuit-is-kind : Sole circuit-is-kind.ended circuit-is-kind.Reads.Asked circuit-is-kind.Reads.Learnt
+  pub circuit-states-channel : Sole circuit-states-channel.ended circuit-states-channel.Reads.Asked circuit-states-channel.Reads.Learnt
   pub circuit-is-between : Sole circuit-is-between.ended circuit-is-between.Reads.Asked circuit-is-between.Reads.Learnt
   pub circuit-refuses : Sole circuit-refuses.ended circuit-refuses.Reads.Asked circuit-refuses.Reads.Learnt
   pub circuit-or-if : Sole circuit-or-if.ended circuit-or-if.Reads.Asked circuit-or-if.Reads.Learnt

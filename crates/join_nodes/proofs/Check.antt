@@ -15,11 +15,10 @@ use Rattle.words.proofs.Laws.{bit-le-one, ofBool-le-one, bit-word, word-lt, set
 use Rattle.words.proofs.Tables.{length-table, getD-table}
 use Rattle.words.proofs.EachLaws.{one-each}
 use Rattle.words.proofs.FirstOnes.{firstOnes-lt, bit-firstOnes}
-use Rattle.switch.specs.Conduction.{Value, byValues, edgeOn, Link, ground, supply}
+use Rattle.switch.specs.Conduction.{Value, channelBy, byValues, edgeOn, Link, ground, supply}
 use Rattle.switch.specs.Modules.{ModuleType, linksOf, settingOf}
 use Rattle.switch.specs.Deciding.{joins, oneRail}
 use Rattle.switch.specs.Blocks.{blockHolds}
-use Rattle.switch.specs.Records.{channelBy}
 use Rattle.switch.proofs.Deciding.{same-test}
 use Rattle.switch.proofs.Blocks.{block-each}
 use Rattle.join_nodes.specs.Model.{edgeInColumns, typeInColumns, ColumnsGiven, WidePlanes, gateWord, joinedWords, OutputTold, settingOnes, settingZeros}

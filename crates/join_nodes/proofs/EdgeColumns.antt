@@ -1,15 +1,17 @@
--- Edges in columns: how columns are filled, edge by edge; the columns of a slice hold its edges, and where a file can give the slice they fit. Assumes nothing.
+-- Edges in columns: how columns are filled, edge by edge; the columns of a slice hold its edges without their tags, and where a file can give the slice
+-- they fit. Assumes nothing.
 use Prim.Native.Nat.{ℕ, _+_, _≤_, _<_}
 use native.Mathlib.Nat.{le-refl}
 use native.Mathlib.Numerals.{add-one}
 use native.Mathlib.Omega.{arith}
-use mathlib.Core.Path.{_≡_, _∙_}
-use mathlib.Core.List.{List}
+use mathlib.Core.Path.{_≡_, ap, _∙_}
+use mathlib.Core.List.{List, map}
 use lib.ListN.{length, getD, set, replicate, length-map, List·getD-map}
 use lib.Seq.{take-all}
 use Rattle.words.specs.Tables.{upTo}
 use Rattle.words.proofs.Tables.{length-table, is-table, fill-none, fill-more, getD-fill}
 use Rattle.switch.specs.Records.{noEdge, firstNodeIn, secondNodeIn, gateIn, edgeOf, edgesOf, typeOf, typeWith, TypeGiven, EdgesGiven}
+use Rattle.switch.specs.Tags.{untagged, untaggedType}
 use Rattle.switch.specs.declared.Edge.{Edge as EdgeRecord}
 use Rattle.switch.specs.declared.ModuleType.{ModuleType as TypeRecord}
 use Rattle.switch.proofs.Ranges.{TypeRanges, EdgeRanges, given-type, given-edge}
@@ -41,16 +43,20 @@ module _ (rs : List EdgeRecord) (few : length rs ≤ 256) where
   unfolding column
   column-at part i h = getD-fill 256 (parts part rs) (length rs) i h few
 
-  pub edges-told : (h o k : ℕ) (c : Columns) → c ≡ columnsOf rs → typeWith h o k rs .edges ≡ edgesInColumns (c .firsts) (c .seconds) (c .gates) (c .count)
-  unfolding typeWith edgesOf edgeOf edgesInColumns edgeInColumns
+  pub edges-told : (h o k : ℕ) (c : Columns) → c ≡ columnsOf rs
+      → map untagged (typeWith h o k rs .edges) ≡ edgesInColumns (c .firsts) (c .seconds) (c .gates) (c .count)
+  unfolding typeWith edgesOf edgeOf untagged edgesInColumns edgeInColumns
   edges-told h o k c is =
       let own : Columns = columnsOf rs in
       rw is
-      (is-table (edgeOf noEdge) (length rs) (edgeInColumns (own .firsts) (own .seconds) (own .gates)) (edgesOf rs) (length-map rs edgeOf) (λ i l.
-      List·getD-map edgeOf rs i noEdge ∙ rw (column-at firstNodeIn i l, column-at secondNodeIn i l, column-at gateIn i l)))
+      (is-table (untagged (edgeOf noEdge)) (length rs) (edgeInColumns (own .firsts) (own .seconds) (own .gates)) (map untagged (edgesOf rs))
+      (length-map (edgesOf rs) untagged ∙ length-map rs edgeOf) (λ i l.
+      List·getD-map untagged (edgesOf rs) i (edgeOf noEdge) ∙ ap untagged (List·getD-map edgeOf rs i noEdge)
+      ∙ rw (column-at firstNodeIn i l, column-at secondNodeIn i l, column-at gateIn i l)))
 
-  pub type-told : (h o k : ℕ) (c : Columns) → c ≡ columnsOf rs → typeInColumns h o k (c .firsts) (c .seconds) (c .gates) (c .count) ≡ typeWith h o k rs
-  unfolding typeInColumns typeWith
+  pub type-told : (h o k : ℕ) (c : Columns) → c ≡ columnsOf rs
+      → typeInColumns h o k (c .firsts) (c .seconds) (c .gates) (c .count) ≡ untaggedType (typeWith h o k rs)
+  unfolding typeInColumns untaggedType typeWith
   type-told h o k c is = rw (← edges-told h o k c is)
 
 -- ---- a slice that a file can give

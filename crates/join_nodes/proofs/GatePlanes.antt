@@ -14,8 +14,8 @@ use Rattle.words.specs.Tables.{upTo}
 use Rattle.words.proofs.Laws.{bit-le-one}
 use Rattle.words.proofs.Tables.{length-table, up-below, up-past}
 use Rattle.words.proofs.EachLaws.{each-in, each-at}
-use Rattle.switch.specs.Conduction.{Channel, p-channel, n-channel}
-use Rattle.switch.specs.Records.{channelBy, byPlanes}
+use Rattle.switch.specs.Conduction.{Channel, p-channel, n-channel, channelBy}
+use Rattle.switch.specs.Records.{byPlanes}
 use Rattle.switch.proofs.Outputs.{set-again}
 use Rattle.join_nodes.specs.Model.{planeOf, WidePlanes}
 use Rattle.join_nodes.proofs.RoundLaws.{zero-at}

@@ -1,20 +1,22 @@
 -- The words that the rounds leave, over the columns of a type's edges and the planes of gates, are those of the type: the links of the edges that are on are
--- the type's links. Assumes nothing.
+-- the type's links, since tags conduct nothing. Assumes nothing.
 use Prim.Native.Nat.{ℕ, _/_, _%_, _<_}
 use native.Mathlib.Omega.{arith}
-use mathlib.Core.Path.{_≡_, sym, ap, _∙_}
-use mathlib.Core.List.{List}
+use mathlib.Core.Path.{_≡_, sym, ap, fun-ext, _∙_}
+use mathlib.Core.List.{List, map}
 use lib.ListN.{getD}
 use Rattle.words.specs.Bits.{bit, ofBool}
 use Rattle.words.specs.Each.{wordOfEach}
 use Rattle.words.proofs.Laws.{set-bit, bit-set}
 use Rattle.words.proofs.Tables.{length-table, getD-table}
 use Rattle.words.proofs.EachLaws.{each-at, is-four}
-use Rattle.switch.specs.Conduction.{Edge, Link, Switching, edgeOn, links}
+use Rattle.switch.specs.Conduction.{channelBy, Edge, Link, Switching, edgeOn, links}
 use Rattle.switch.specs.Modules.{ModuleType}
-use Rattle.switch.specs.Records.{noEdge, edgeOf, channelBy, byPlanes}
+use Rattle.switch.specs.Records.{noEdge, edgeOf, byPlanes}
+use Rattle.switch.specs.Tags.{untagged}
 use Rattle.switch.specs.Promises.{railWords, fourRailWords}
 use Rattle.switch.proofs.Paths.{OnAt, links-among}
+use Rattle.switch.proofs.Tags.{tags-conduct-nothing}
 use Rattle.join_nodes.specs.Model.{edgeInColumns, edgesInColumns, RailsTold, ColumnsFit, WidePlanes, gateWord, OnLink, LinksAre, joinedWords, WideJoined}
 use Rattle.join_nodes.proofs.GatePlanes.{bit-planeOf}
 
@@ -77,17 +79,18 @@ module _ (firsts seconds gates : List ℕ) (n : ℕ) where
         ap (λ (x : ℕ). bit x v) (wide .each w g h (fit .gate i l)) ∙ bit-planeOf ones-w zeros-w v (channelBy (g / 16)) (g % 16)
 
     rail-words : (rail : ℕ) (joined : List ℕ) → WideJoined firsts seconds gates planes n width rail joined
-        → (t : ModuleType) → t .edges ≡ edges → wordOfEach width w 32 joined ≡ railWords t ones-w zeros-w rail
+        → (t : ModuleType) → map untagged (t .edges) ≡ edges → wordOfEach width w 32 joined ≡ railWords t ones-w zeros-w rail
     unfolding joinedWords railWords
     rail-words rail joined are t e =
         are .each w h (λ (v : ℕ). links (byPlanes ones-w zeros-w v) edges)
         (links-are (gateWord width w gates planes) (byPlanes ones-w zeros-w) gate-tells)
-        ∙ ap (λ (es : List Edge). joinedWords (λ (v : ℕ). links (byPlanes ones-w zeros-w v) es) rail) (sym e)
+        ∙ ap (λ (ws : ℕ → List Link). joinedWords ws rail)
+        (fun-ext (λ v. ap (links (byPlanes ones-w zeros-w v)) (sym e) ∙ tags-conduct-nothing .same-links (byPlanes ones-w zeros-w v) (t .edges)))
 
   -- four words each
   module _ {ones zeros planes : List ℕ} {nodes : ℕ} (fit : ColumnsFit firsts seconds gates n nodes) (wide : WidePlanes ones zeros 4 planes) where
     four-words : (rail : ℕ) (joined : List ℕ) → WideJoined firsts seconds gates planes n 4 rail joined
-        → (t : ModuleType) → t .edges ≡ edges → joined ≡ fourRailWords t ones zeros rail
+        → (t : ModuleType) → map untagged (t .edges) ≡ edges → joined ≡ fourRailWords t ones zeros rail
     unfolding fourRailWords
     four-words rail joined are t e =
         is-four 32 (λ (w : ℕ). railWords t (wordOfEach 4 w 12 ones) (wordOfEach 4 w 12 zeros) rail) joined (are .long) (λ m w h k.

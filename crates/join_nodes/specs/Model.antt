@@ -1,7 +1,7 @@
 -- What the code computes on the way, as lists: edges in columns, planes of gates, rounds of joining, planes of 64 settings. Only the code's
 -- own proofs use it. A word has a bit for each of 64 vectors, or of 64 settings.
 use Prim.Native.Nat.{ℕ, zero, suc, _+_, _-_, _*_, _/_, _%_, _^_, _<_, _≤_}
-use mathlib.Core.List.{List, _++_}
+use mathlib.Core.List.{List, map, _++_}
 use mathlib.Core.Logic.{_↔_}
 use lib.Bits.{bitAnd, bitOr}
 use mathlib.Core.Path.{_≡_}
@@ -9,10 +9,11 @@ use lib.ListN.{length, getD, set, take, drop}
 use Rattle.words.specs.Bits.{bit, ofBool, word}
 use Rattle.words.specs.Each.{wordOfEach}
 use Rattle.words.specs.Tables.{table, upTo}
-use Rattle.switch.specs.Conduction.{Channel, p-channel, n-channel, Edge, Link, Among}
+use Rattle.switch.specs.Conduction.{Channel, p-channel, n-channel, channelBy, by-position, Edge, Link, Among}
 use Rattle.switch.specs.Modules.{ModuleType, mostEdges, mostNodes, mostLabels}
 use Rattle.switch.specs.Deciding.{joins}
-use Rattle.switch.specs.Records.{noEdge, channelBy, firstNodeIn, secondNodeIn, gateIn}
+use Rattle.switch.specs.Records.{noEdge, firstNodeIn, secondNodeIn, gateIn}
+use Rattle.switch.specs.Tags.{untagged}
 use Rattle.switch.specs.declared.Edge.{Edge as EdgeRecord}
 use Rattle.switch.specs.Promises.{railsOf}
 use Rattle.switch.specs.declared.Rails.{Rails}
@@ -37,11 +38,12 @@ columnsOf edges =
     let n = length edges in
     record { count = n; firsts = column firstNodeIn edges n; seconds = column secondNodeIn edges n; gates = column gateIn edges n }
 
--- the edge that columns have in a place, and those in their first n places
+-- the edge that columns have in a place, and those in their first n places. Columns have no tags, since a tag conducts nothing: these are
+-- edges without their tags
 unfoldable pub edgeInColumns : List ℕ → List ℕ → List ℕ → ℕ → Edge
 edgeInColumns firsts seconds gates i =
     let g = getD gates i 0 in
-    record { first = getD firsts i 0; second = getD seconds i 0; channel = channelBy (g / 16); label = g % 16 }
+    record { first = getD firsts i 0; second = getD seconds i 0; channel = channelBy (g / 16); label = g % 16; tag = by-position }
 
 unfoldable pub edgesInColumns : List ℕ → List ℕ → List ℕ → ℕ → List Edge
 edgesInColumns firsts seconds gates n = table n (edgeInColumns firsts seconds gates)
@@ -50,9 +52,9 @@ edgesInColumns firsts seconds gates n = table n (edgeInColumns firsts seconds ga
 unfoldable pub typeInColumns : ℕ → ℕ → ℕ → List ℕ → List ℕ → List ℕ → ℕ → ModuleType
 typeInColumns h o k firsts seconds gates n = record { highest = h; output = o; labels = k; edges = edgesInColumns firsts seconds gates n }
 
--- the rails' words of any type that has these edges
+-- the rails' words of any type whose edges, without their tags, are these
 abbrev pub RailsTold : List Edge → List ℕ → List ℕ → Rails → Type 0
-RailsTold edges ones zeros r = (t : ModuleType) → t .edges ≡ edges → r ≡ railsOf t ones zeros
+RailsTold edges ones zeros r = (t : ModuleType) → map untagged (t .edges) ≡ edges → r ≡ railsOf t ones zeros
 
 -- the first n of the edges have gates, and nodes below `nodes`, at most 32
 pub record ColumnsFit (firsts seconds gates : List ℕ) (n nodes : ℕ) : Type 0 where

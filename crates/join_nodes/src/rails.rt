@@ -13,7 +13,7 @@ ghost use Rattle.switch.specs.Records.{TypeGiven, EdgesGiven, typeOf, typeWith}
 ghost use Rattle.switch.specs.Promises.{railsOf, planesOf};
 ghost use Rattle.join_nodes.specs.Model.{ColumnsFit, edgesInColumns, RailsTold};
 
-// Under which of 256 vectors each node is joined to supply, and to ground: the work, on the columns of edges that have no node past the highest, for any type that has these edges.
+// Under which of 256 vectors each node is joined to supply, and to ground: the work, on the columns of edges that have no node past the highest, for any type that has these edges, whatever their tags.
 fn joining_of(c: Columns, highest: u8, ones: &[u64; 48], zeros: &[u64; 48]) -> Rails
     requires { ⌜ ColumnsFit (c .firsts) (c .seconds) (c .gates) (c .count) (highest + 1) ⌝ }
     ensures { λ r. ⌜ RailsTold (edgesInColumns (c .firsts) (c .seconds) (c .gates) (c .count)) (now (ones .entry)) (now (zeros .entry)) r ⌝ }

@@ -11,7 +11,7 @@ use lib.Seq.{getD-take, drop-cons}
 use Rattle.words.specs.Written.{written}
 use Rattle.words.proofs.EachLaws.{each-before}
 use Rattle.words.proofs.WrittenLaws.{written-nothing}
-use Rattle.switch.specs.Conduction.{Value, Edge}
+use Rattle.switch.specs.Conduction.{Value, EdgeTag, by-position, stated, Edge}
 use Rattle.switch.specs.Modules.{ModuleType}
 use Rattle.switch.specs.Records.{typeOf}
 use Rattle.switch.specs.declared.ModuleType.{ModuleType as TypeRecord}
@@ -22,7 +22,7 @@ use Rattle.circuit.specs.declared.Reading.{Reading as ReadingRecord}
 use Rattle.print_lines.specs.Pieces.{lineIn}
 use Rattle.print_lines.proofs.LineSizes.{refusal-sized}
 use Rattle.print_lines.proofs.LineList.{EachLine, each-at, each-append, each-map, line-behind}
-use Rattle.print_circuit.specs.Lines.{inputsLine, typeLine, edgeLine, bridgeLine, instanceLine, vectorLine}
+use Rattle.print_circuit.specs.Lines.{inputsLine, typeLine, edgeLineBy, edgeLine, bridgeLine, instanceLine, vectorLine}
 use Rattle.print_circuit.specs.Listing.{numberedLines, groupedLines, typeLines, inputsLines, circuitLines, refusalLines, listingOf}
 use Rattle.print_circuit.specs.Told.{circuitTold, readingTold, listingTold}
 use Rattle.print_circuit.specs.Puts.{Puts, PutsLine}
@@ -54,9 +54,14 @@ module _ {A : Type 0} where
   filled-grouped lines some first [] = tt
   filled-grouped lines some first (a ∷ l) = filled-append (lines first a) (groupedLines lines (suc first) l) (some first a) (filled-grouped lines some (suc first) l)
 
+edge-filled : (tag : EdgeTag) (e : Edge) → 1 ≤ length (edgeLineBy tag e)
+unfolding edgeLineBy
+edge-filled by-position e = simp length-append (omega arith)
+edge-filled stated e = simp length-append (omega arith)
+
 pub edges-filled : (l : List Edge) → Filled (map edgeLine l)
 unfolding edgeLine
-edges-filled l = filled-map edgeLine (λ e. simp length-append (omega arith)) l
+edges-filled l = filled-map edgeLine (λ e. edge-filled (e .tag) e) l
 
 pub bridges-filled : (l : List Listed) → Filled (map bridgeLine l)
 unfolding bridgeLine

@@ -1,6 +1,6 @@
 -- The texts of a line's fields by what the code tests of the record, and how long each is at most. Assumes nothing.
 use mathlib.Core.Path.{_≡_, refl, sym, ap, _∙_}
-use mathlib.Core.Bool.{true, false}
+use mathlib.Core.Bool.{Bool, true, false, cond}
 use mathlib.Core.List.{List, _++_, map, map-map, append-assoc}
 use Prim.Native.Nat.{ℕ, zero, suc, _≤_, min}
 use native.Mathlib.Omega.{arith}
@@ -13,14 +13,33 @@ use Rattle.print_lines.specs.Ascii.{bytesOf}
 use Rattle.print_lines.specs.Decimal.{decimal, digitsOf, lengthIn}
 use Rattle.print_lines.specs.Lines.{newline}
 use Rattle.print_lines.proofs.GrowingLine.{at-most-21}
-use Rattle.switch.specs.Records.{valueOf}
+use Rattle.switch.specs.Conduction.{Channel, p-channel, n-channel, EdgeTag, by-position, stated}
+use Rattle.switch.specs.Records.{edgeOf, channelIn, tagIn, valueOf}
+use Rattle.switch.specs.declared.Edge.{Edge as EdgeRecord}
 use Rattle.circuit.specs.Circuit.{Choice, exhaustive, no-faults, list, Reference, primary, outputOf, joinLists}
 use Rattle.circuit.specs.declared.Bridge.{Bridge as BridgeRecord}
 use Rattle.circuit.specs.declared.Reference.{Reference as ReferenceRecord}
 use Rattle.circuit.specs.declared.Vector.{Vector as VectorRecord}
-use Rattle.print_circuit.specs.Lines.{spaced, kindText, endsText, bridgeLine, choiceText, referenceText, valueLetter}
+use Rattle.print_circuit.specs.Lines.{spaced, channelText, edgeLineBy, edgeLine, kindText, endsText, bridgeLine, choiceText, referenceText, valueLetter}
 use Rattle.print_circuit.specs.Told.{bridgeTold, listedTold, choiceTold, referenceTold, vectorTold}
 use Rattle.print_circuit.proofs.Putting.{spaced-short}
+
+-- ---- the channel of an edge, and its line
+
+-- each where a test of the record came out as `is`
+pub channel-is : (e : EdgeRecord) (test is : Bool) → test ≡ is → cond test p-channel n-channel ≡ channelIn e
+    → channelText (cond is p-channel n-channel) ≡ channelText (channelIn e)
+channel-is e test is same h = rw (← same) (ap channelText h)
+
+pub edge-line-is : (e : EdgeRecord) (test is : Bool) → test ≡ is → cond test stated by-position ≡ tagIn e
+    → edgeLineBy (cond is stated by-position) (edgeOf e) ≡ edgeLine (edgeOf e)
+unfolding edgeLine edgeOf
+edge-line-is e test is same h = rw (← same) (ap (λ (tag : EdgeTag). edgeLineBy tag (edgeOf e)) h)
+
+pub channel-short : (c : Channel) → length (channelText c) ≤ 2
+unfolding channelText
+channel-short p-channel = omega arith
+channel-short n-channel = omega arith
 
 -- ---- the kind and the ends of a bridge
 

@@ -4,7 +4,7 @@ use mathlib.Core.List.{List, _++_, map}
 use Rattle.print_lines.specs.Ascii.{bytesOf}
 use Rattle.print_lines.specs.Decimal.{decimal}
 use Rattle.print_lines.specs.Lines.{space, newline}
-use Rattle.switch.specs.Conduction.{Value, at0, at1, atX, Edge}
+use Rattle.switch.specs.Conduction.{Value, at0, at1, atX, Channel, p-channel, n-channel, EdgeTag, by-position, stated, Edge}
 use Rattle.switch.specs.Modules.{ModuleType}
 use Rattle.switch.specs.Bridges.{Bridge, nodes, input}
 use Rattle.circuit.specs.Circuit.{Reference, primary, outputOf, Choice, exhaustive, no-faults, list, Instance, Listed, joinLists}
@@ -21,9 +21,20 @@ inputsLine inputs = bytesOf "inputs" ++ spaced inputs ++ newline
 unfoldable pub typeLine : ℕ → ModuleType → List ℕ
 typeLine number t = bytesOf "type" ++ spaced number ++ spaced (t .highest) ++ spaced (t .output) ++ spaced (t .labels) ++ newline
 
--- edge A B L
+-- p for p-channel, n for n-channel
+unfoldable pub channelText : Channel → List ℕ
+channelText p-channel = bytesOf " p"
+channelText n-channel = bytesOf " n"
+
+-- edge A B L, of an edge that came with tag 3
+-- pass A B n L or pass A B p L, of one that came with tag 7, which states the channel
+unfoldable pub edgeLineBy : EdgeTag → Edge → List ℕ
+edgeLineBy by-position e = bytesOf "edge" ++ spaced (e .first) ++ spaced (e .second) ++ spaced (e .label) ++ newline
+edgeLineBy stated e =
+    bytesOf "pass" ++ spaced (e .first) ++ spaced (e .second) ++ channelText (e .channel) ++ spaced (e .label) ++ newline
+
 unfoldable pub edgeLine : Edge → List ℕ
-edgeLine e = bytesOf "edge" ++ spaced (e .first) ++ spaced (e .second) ++ spaced (e .label) ++ newline
+edgeLine e = edgeLineBy (e .tag) e
 
 -- n for kind 0, i for kind 1
 unfoldable pub kindText : ℕ → List ℕ

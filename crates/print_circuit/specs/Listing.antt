@@ -1,5 +1,5 @@
--- docs/SHOW.md: the listing of a file, one line for each field that was read, of an edge field one for each label, in file order, and last
--- the line of a refusal.
+-- docs/SHOW.md: the listing of a file, one line for each field that was read, of an edge field with tag 3 one for each label, in file
+-- order, and last the line of a refusal.
 use Prim.Native.Nat.{ℕ, zero, suc}
 use mathlib.Core.Path.{_≡_}
 use mathlib.Core.List.{List, [], _∷_, _++_, map}

@@ -4,9 +4,10 @@ ghost use mathlib.Core.List.{map};
 ghost use Prim.Native.Nat.{_+_, _<_, _≤_};
 ghost use lib.ListN.{length, take};
 ghost use Rattle.words.specs.Bits.{bit};
-ghost use Rattle.switch.specs.Records.{edgeOf, typeOf, valueOf};
+ghost use Rattle.switch.specs.Conduction.{stated};
+ghost use Rattle.switch.specs.Records.{edgeOf, typeOf, valueOf, channelIn};
 ghost use Rattle.circuit.specs.Circuit.{joinLists};
-ghost use Rattle.print_circuit.specs.Lines.{spaced, inputsLine, typeLine, edgeLine, kindText, bridgeLine, choiceText, referenceText, instanceLine, valueLetter, vectorLine};
+ghost use Rattle.print_circuit.specs.Lines.{spaced, inputsLine, typeLine, channelText, edgeLineBy, edgeLine, kindText, bridgeLine, choiceText, referenceText, instanceLine, valueLetter, vectorLine};
 ghost use Rattle.print_circuit.specs.Told.{listedTold, choiceTold, referenceTold, instanceWith, vectorTold};
 ghost use Rattle.print_circuit.specs.Puts.{Puts};
 use crate::least::at_most;
@@ -21,6 +22,8 @@ use switch::Edge;
 use switch::MOST_LABELS;
 use switch::ModuleType;
 use switch::edges::first_of;
+use switch::edges::is_p;
+use switch::edges::is_stated;
 use switch::edges::label_of;
 use switch::edges::second_of;
 
@@ -56,11 +59,14 @@ pub fn type_line(out: &mut [u8], at: usize, number: usize, t: ModuleType) -> usi
     put_byte(out, at, b'\n')
 }
 
-// `edge A B L`
+// `edge A B L`, or the line of a pass transistor where the edge's field stated its channel
 pub fn edge_line(out: &mut [u8], at: usize, e: Edge) -> usize
     requires { ⌜ at + 512 ≤ length (now out) ⌝ }
     ensures { λ r. ⌜ Puts (edgeLine (edgeOf e)) (now (out .entry)) at r (now (out .exit)) ⌝ }
 {
+    if is_stated(e) {
+        return pass_line(out, at, e);
+    }
     let first = first_of(e) as u64;
     let second = second_of(e) as u64;
     let label = label_of(e) as u64;
@@ -69,6 +75,33 @@ pub fn edge_line(out: &mut [u8], at: usize, e: Edge) -> usize
     let at = put_spaced(out, at, second);
     let at = put_spaced(out, at, label);
     put_byte(out, at, b'\n')
+}
+
+// `pass A B n L` or `pass A B p L`
+fn pass_line(out: &mut [u8], at: usize, e: Edge) -> usize
+    requires { ⌜ at + 512 ≤ length (now out) ⌝ }
+    ensures { λ r. ⌜ Puts (edgeLineBy stated (edgeOf e)) (now (out .entry)) at r (now (out .exit)) ⌝ }
+{
+    let first = first_of(e) as u64;
+    let second = second_of(e) as u64;
+    let label = label_of(e) as u64;
+    let at = put_bytes(out, at, b"pass");
+    let at = put_spaced(out, at, first);
+    let at = put_spaced(out, at, second);
+    let at = put_channel(out, at, e);
+    let at = put_spaced(out, at, label);
+    put_byte(out, at, b'\n')
+}
+
+// The letter of an edge's channel.
+fn put_channel(out: &mut [u8], at: usize, e: Edge) -> usize
+    requires { ⌜ at + 2 ≤ length (now out) ⌝ }
+    ensures { λ r. ⌜ Puts (channelText (channelIn e)) (now (out .entry)) at r (now (out .exit)) ⌝ }
+{
+    if is_p(e) {
+        return put_bytes(out, at, b" p");
+    }
+    put_bytes(out, at, b" n")
 }
 
 // `bridge N n A B` or `bridge N i A L`

@@ -9,7 +9,7 @@ use lib.ListN.{length, getD, set, replicate}
 use Rattle.switch.specs.Modules.{allOf}
 use Rattle.circuit.specs.Limits.{mostBridges}
 use Rattle.circuit.specs.Fields.{cutFrom}
-use Rattle.circuit.specs.Order.{bridge-tag, tagOf}
+use Rattle.circuit.specs.Order.{bridge-tag, tagOf, isKind}
 use Rattle.circuit.specs.Circuit.{Listed}
 use Rattle.circuit.specs.Known.{bridgeOf, listedIn}
 use Rattle.circuit.specs.Table.{Verdict, passes, refusedAt, firstOf, listedGood, bridgeInRange, bridgeTests}
@@ -99,7 +99,7 @@ module _ {file : List ℕ} {from : ℕ} {all : List BridgeRecord} {count at : �
     ranges = sofar .ranges;
   }
 
-  module _ (f : FieldRecord) (here : FieldAt file at f) (own : tagOf (f .tag) ≡ bridge-tag) (r : Refusal)
+  module _ (f : FieldRecord) (here : FieldAt file at f) (own : isKind bridge-tag (tagOf (f .tag)) ≡ true) (r : Refusal)
       (verdict : verdictOf r ≡ firstOf (bridgeTests count (f .at) (bodyOf file f))) where
     of-length : verdictOf r ≡ firstOf (bridgeTests (length (sofar .bridges)) (f .at) (bodyOf file f))
     of-length = verdict ∙ ap (λ (n : ℕ). firstOf (bridgeTests n (f .at) (bodyOf file f))) (sofar .so .counted)
@@ -118,7 +118,7 @@ module _ {file : List ℕ} {from : ℕ} {all : List BridgeRecord} {count at : �
         }
 
   -- a turn, which found n and has m behind it
-  module _ {n : Next} {m : ℕ} (turn : Turned file at bridge-tag n m) where
+  module _ {n : Next} {m : ℕ} (turn : Turned file at (isKind bridge-tag) n m) where
     pub bridges-end : endsBy (bridgeVerdict file count) n ≡ true → (r : Refusal) → verdictOf r ≡ verdictBy (bridgeVerdict file count) n
         → BridgesRead file from (record { refusal = r; at = at; count = count; all = all })
     unfolding endsBy verdictBy bridgeVerdict NextIs
@@ -127,7 +127,7 @@ module _ {file : List ℕ} {from : ℕ} {all : List BridgeRecord} {count at : �
         go : (x : Next) → n ≡ x → BridgesRead file from (record { refusal = r; at = at; count = count; all = all })
         go Other e = bridges-read r (stops (sofar .so) (rw e at (turn .own)) ∙ ap (λ (v : Verdict). stageOf v (sofar .bridges) (cutFrom file at)) (sym (rw e at is)))
         go (Found f) e =
-            let here : NextIs file at bridge-tag (Found f) = rw e at (turn .own) in
+            let here : NextIs file at (isKind bridge-tag) (Found f) = rw e at (turn .own) in
             let why : verdictOf r ≡ firstOf (bridgeTests count (f .at) (bodyOf file f)) = rw e at is in
             bridges-refused f (here .0) (here .1) r why (ap isRefused why ∙ (rw e at ends))
 
@@ -140,7 +140,7 @@ module _ {file : List ℕ} {from : ℕ} {all : List BridgeRecord} {count at : �
           go : (x : Next) → n ≡ x → BridgeNext file x
           go Other e = tt
           go (Found f) e =
-              let here : NextIs file at bridge-tag (Found f) = rw e at (turn .own) in
+              let here : NextIs file at (isKind bridge-tag) (Found f) = rw e at (turn .own) in
               let passed = passes-is (firstOf (bridgeTests count (f .at) (bodyOf file f))) (rw e at goes) in
               (here .0 .inside, bridge-fits count (f .at) (bodyOf file f) passed .kind)
 
@@ -151,7 +151,7 @@ module _ {file : List ℕ} {from : ℕ} {all : List BridgeRecord} {count at : �
           go : (x : Next) → n ≡ x → BridgesSoFar file from (set all count (keptBy (bridgeKept file) unusedBridge x)) (count + 1) m × (count < mostBridges) × (at < m)
           go Other e = let z : _≡_ {A = Bool} true false = rw e at goes in let y : _≡_ {A = ℕ} 0 1 = cc in absurd (omega arith)
           go (Found f) e =
-              let here : NextIs file at bridge-tag (Found f) = rw e at (turn .own) in
+              let here : NextIs file at (isKind bridge-tag) (Found f) = rw e at (turn .own) in
               let v : Verdict = firstOf (bridgeTests count (f .at) (bodyOf file f)) in
               let passed : v ≡ passes = passes-is v (rw e at goes) in
               let past = turn .past f e in (

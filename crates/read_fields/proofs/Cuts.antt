@@ -12,7 +12,6 @@ use Rattle.circuit.specs.Fields.{Field, Cut, clean, broken, field, cutIn, cutFr
 use Rattle.circuit.specs.Order.{Tag, tagOf}
 use Rattle.circuit.specs.Table.{Test, firstOf}
 use Rattle.circuit.specs.Stages.{stopped, ifPasses, section}
-use Rattle.circuit.proofs.OrderLaws.{is-kind, not-kind}
 use Rattle.read_fields.specs.Steps.{bodyOf, fieldIn, FieldAt, NextIs}
 use Rattle.read_fields.specs.declared.Field.{Field as FieldRecord}
 use Rattle.read_fields.specs.declared.Next.the-variants.{Other}
@@ -78,21 +77,21 @@ module _ (file : List ℕ) (at : ℕ) where
       cut-step (omega arith)
       ∙ rw (ne-eqb at (length file) (omega arith), le-ltb (length file) (at + 3) (omega arith), le-ltb (length file) (behind file at) h)
 
-module _ {A : Type 0} (kind : Tag) (tests : A → ℕ → List ℕ → List Test) (add : A → List ℕ → A) (sofar : A) (file : List ℕ) (at : ℕ) where
-  -- a stage at a field of its kind
-  pub section-step : (f : FieldRecord) → FieldAt file at f → tagOf (f .tag) ≡ kind
-      → section kind tests add sofar (cutFrom file at)
-      ≡ ifPasses (firstOf (tests sofar (f .at) (bodyOf file f))) sofar (cutFrom file at)
-      (section kind tests add (add sofar (bodyOf file f)) (cutFrom file (f .body + f .len)))
+module _ {A : Type 0} (own : Tag → Bool) (tests : Tag → A → ℕ → List ℕ → List Test) (add : Tag → A → List ℕ → A) (sofar : A) (file : List ℕ) (at : ℕ) where
+  -- a stage at a field of its own
+  pub section-step : (f : FieldRecord) → FieldAt file at f → own (tagOf (f .tag)) ≡ true
+      → section own tests add sofar (cutFrom file at)
+      ≡ ifPasses (firstOf (tests (tagOf (f .tag)) sofar (f .at) (bodyOf file f))) sofar (cutFrom file at)
+      (section own tests add (add (tagOf (f .tag)) sofar (bodyOf file f)) (cutFrom file (f .body + f .len)))
   unfolding section fieldIn
-  section-step f here own = rw (here .cut, is-kind kind (tagOf (f .tag)) own)
+  section-step f here its = rw (here .cut, its)
 
-  -- a stage where no field of its kind stands
-  pub section-stop : NextIs file at kind Other → section kind tests add sofar (cutFrom file at) ≡ stopped sofar (cutFrom file at)
+  -- a stage where no field of its own stands
+  pub section-stop : NextIs file at own Other → section own tests add sofar (cutFrom file at) ≡ stopped sofar (cutFrom file at)
   unfolding NextIs section
   section-stop other = go (cutFrom file at) refl
     where
-      go : (cut : Cut) → cutFrom file at ≡ cut → section kind tests add sofar cut ≡ stopped sofar cut
+      go : (cut : Cut) → cutFrom file at ≡ cut → section own tests add sofar cut ≡ stopped sofar cut
       go clean e = refl
       go (broken place) e = refl
-      go (field f rest) e = rw (not-kind kind (tagOf (f .tag)) (other f rest e))
+      go (field f rest) e = rw (other f rest e)

@@ -7,11 +7,11 @@ use mathlib.Core.List.{List, [], _∷_, _++_, map, map-append}
 use native.Mathlib.Omega.{arith}
 use lib.ListN.{length, set, replicate, length-append, length-map}
 use Rattle.circuit.specs.Fields.{Cut, cutFrom}
-use Rattle.circuit.specs.Order.{Tag, tagOf}
+use Rattle.circuit.specs.Order.{Tag, tagOf, isKind}
 use Rattle.circuit.specs.Table.{Test, Verdict, passes, refusedAt, firstOf}
 use Rattle.circuit.specs.Records.{padded}
 use Rattle.circuit.specs.Verdicts.{isRefused}
-use Rattle.circuit.specs.Stages.{Stage, stopped, ifPasses, section, stageOf}
+use Rattle.circuit.specs.Stages.{Stage, stopped, ifPasses, sectionOf, stageOf}
 use Rattle.read_fields.specs.Steps.{bodyOf, FieldAt, NextIs}
 use Rattle.read_fields.specs.declared.Field.{Field as FieldRecord}
 use Rattle.read_fields.specs.declared.Next.the-variants.{Other}
@@ -26,7 +26,7 @@ refused-here (refusedAt n p) a cut more e = refl
 -- fields of one kind, of whose bodies elements are made; `shown` is an element's record, and `none` stands in unused places
 module _ {A R : Type 0} (kind : Tag) (most : ℕ) (tests : List A → ℕ → List ℕ → List Test) (make : List ℕ → A) (shown : A → R) (none : R) where
   abbrev pub gather : List A → Cut → Stage (List A)
-  gather = section kind tests (λ (as′ : List A) (body : List ℕ). as′ ++ (make body ∷ []))
+  gather = sectionOf kind tests (λ (as′ : List A) (body : List ℕ). as′ ++ (make body ∷ []))
 
   -- the elements between two offsets of a file, and the code's array, count and offset
   pub record SoFar (file : List ℕ) (from : ℕ) (as′ : List A) (all : List R) (count at : ℕ) : Type 0 where
@@ -51,18 +51,18 @@ module _ {A R : Type 0} {kind : Tag} {most : ℕ} {tests : List A → ℕ → Li
   abbrev add : List A → List ℕ → List A
   add l body = l ++ (make body ∷ [])
 
-  pub stops : NextIs file at kind Other → section kind tests add [] (cutFrom file from) ≡ stopped as′ (cutFrom file at)
-  stops other = so .stage ∙ section-stop kind tests add as′ file at other
+  pub stops : NextIs file at (isKind kind) Other → sectionOf kind tests add [] (cutFrom file from) ≡ stopped as′ (cutFrom file at)
+  stops other = so .stage ∙ section-stop (isKind kind) (λ (tag : Tag). tests) (λ (tag : Tag). add) as′ file at other
 
-  module _ (f : FieldRecord) (here : FieldAt file at f) (own : tagOf (f .tag) ≡ kind) (v : Verdict)
+  module _ (f : FieldRecord) (here : FieldAt file at f) (own : isKind kind (tagOf (f .tag)) ≡ true) (v : Verdict)
       (verdict : v ≡ firstOf (tests as′ (f .at) (bodyOf file f))) where
-    stepped : section kind tests add [] (cutFrom file from)
-        ≡ ifPasses v as′ (cutFrom file at) (section kind tests add (add as′ (bodyOf file f)) (cutFrom file (f .body + f .len)))
-    stepped = so .stage ∙ section-step kind tests add as′ file at f here own ∙ rw (← verdict)
+    stepped : sectionOf kind tests add [] (cutFrom file from)
+        ≡ ifPasses v as′ (cutFrom file at) (sectionOf kind tests add (add as′ (bodyOf file f)) (cutFrom file (f .body + f .len)))
+    stepped = so .stage ∙ section-step (isKind kind) (λ (tag : Tag). tests) (λ (tag : Tag). add) as′ file at f here own ∙ rw (← verdict)
 
-    pub fails : isRefused v ≡ true → section kind tests add [] (cutFrom file from) ≡ stageOf v as′ (cutFrom file at)
+    pub fails : isRefused v ≡ true → sectionOf kind tests add [] (cutFrom file from) ≡ stageOf v as′ (cutFrom file at)
     fails e =
-        stepped ∙ refused-here v as′ (cutFrom file at) (section kind tests add (add as′ (bodyOf file f)) (cutFrom file (f .body + f .len))) e
+        stepped ∙ refused-here v as′ (cutFrom file at) (sectionOf kind tests add (add as′ (bodyOf file f)) (cutFrom file (f .body + f .len))) e
 
     pub one-more : v ≡ passes → count < most
         → SoFar kind most tests make shown none file from (add as′ (bodyOf file f)) (set all count (shown (make (bodyOf file f)))) (count + 1) (f .body + f .len)

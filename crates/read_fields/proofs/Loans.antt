@@ -46,7 +46,7 @@ use denote.Triple.Clauses.{lasts}
 use denote.Triple.Entry.{alive}
 use denote.Triple.Spec.{tripleOf}
 use denote.Triple.Walked.{says}
-use Rattle.circuit.specs.Kinds.{kindTag}
+use Rattle.circuit.specs.Kinds.{ofKind}
 use Rattle.circuit.specs.declared.order.Kind.{Kind}
 use Rattle.circuit.proofs.order.Kind as Kd
 use Rattle.circuit.proofs.order.Kind.Laws as Kd′
@@ -250,7 +250,7 @@ module _ {M : Type 1} (𝓤 : URA M) (H : Heap 𝓤) (A : Atoms 𝓤) (W : Given
         → Lies K E a readerTy l → Lies K E b τ lb → Holds (hasTy τ (vptr l 0)) × WT (vptr l 0) → Lies K E c S′.mir lc → Lies K E e Kd′.mir le
         → (k : Kind) → Holds (ltb j (2 ^ 8)) → Is Kd.the-row k (kindVal j ∷ [])
         → (m : ℕ) → m < 2 ^ 64 → m ≤ length (now s)
-        → ((n : Next) (u : Val) (m′ : ℕ) → Turned (now s) m (kindTag k) n m′ → Is N.the-row n (u ∷ [])
+        → ((n : Next) (u : Val) (m′ : ℕ) → Turned (now s) m (ofKind k) n m′ → Is N.the-row n (u ∷ [])
         → Seq K W (‵ (N.the-row .own n (u ∷ [])) ∷ ‵ (Cell l m′) ∷ ‵ (froom τ lb 0) ∷ ‵ (froom S′.mir lc 0) ∷ ‵ (froom Kd′.mir le 0) ∷ Token ∷ ‵ Own ∷ Γ) (lands C Λ E (place d []) u rest Q))
         → Seq K W (‵ (Cell l m) ∷ ‵ (froom τ lb 0) ∷ ‵ (froom S′.mir lc 0) ∷ ‵ (froom Kd′.mir le 0) ∷ Token ∷ ‵ Own ∷ Γ)
         (runs C Λ E (seq (assign (place b []) (addrOf (place a []))) (seq (call #next (copy (place b []) ∷ []) (place c []))
@@ -261,7 +261,7 @@ module _ {M : Type 1} (𝓤 : URA M) (H : Heap 𝓤) (A : Atoms 𝓤) (W : Given
         land t₀ (step _) (init t₀ 5 refl (EL.lawful S.the-type S′.the-laws 𝓤 H A W tt .typed t _ is .0)) $
         assigns t₀ (agg t₀ (and-then t₀ (lit t₀ small) (no-more t₀))) (kind _) (init t₀ 6 refl (EL.lawful Kd.the-type Kd′.the-laws 𝓤 H A W tt .typed k _ is-k .0)) $
         use1 W (raw (OwnField 𝓤 H A mem run .pre (to-own t u k (kindVal j)))) (goes-own t u k (kindVal j) is-k) $
-        called W own.ended (own.clauses 𝓤 H A mem run) (to-own t u k (kindVal j) .0) tt t₀ fm known-own (λ n ws. n ≡ ownField (kindTag k) t) (λ n ws. id⊢ 𝓤 _) (and-then t₀ (load t₀ (step _) (look t₀ 5 refl)) (and-then t₀ (load t₀ (kind _) (look t₀ 6 refl)) (no-more t₀))) (λ n ws w e is′.
+        called W own.ended (own.clauses 𝓤 H A mem run) (to-own t u k (kindVal j) .0) tt t₀ fm known-own (λ n ws. n ≡ ownField (ofKind k) t) (λ n ws. id⊢ 𝓤 _) (and-then t₀ (load t₀ (step _) (look t₀ 5 refl)) (and-then t₀ (load t₀ (kind _) (look t₀ 6 refl)) (no-more t₀))) (λ n ws w e is′.
         -- [the field; no token; no last value; the reader; room for the loan; the token; what s owns; what was told; the kind]
         move t₀ (1 ∷ 2 ∷ []) $ drop t₀ $ drop t₀ $ forget t₀ 5 refl $ forget t₀ 6 refl $ move t₀ (0 ∷ 1 ∷ 2 ∷ 5 ∷ 6 ∷ 3 ∷ 4 ∷ []) $
-        next n w (behindStep t m) (subst (λ (x : Next). Turned (now s) m (kindTag k) x (behindStep t m)) (sym e) (turned (now s) m (kindTag k) t within told)) is′))
+        next n w (behindStep t m) (subst (λ (x : Next). Turned (now s) m (ofKind k) x (behindStep t m)) (sym e) (turned (now s) m (ofKind k) t within told)) is′))

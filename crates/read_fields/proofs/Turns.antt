@@ -1,16 +1,15 @@
 -- A turn of a stage: what its reader finds at a place of the file, and the place behind it.
 use Prim.Native.Nat.{ℕ, _+_, _≤_}
-use mathlib.Core.Path.{_≡_, refl, ap, _∙_}
+use mathlib.Core.Path.{_≡_, refl, sym, ap, _∙_}
 use mathlib.Core.Bool.{Bool, true, false, cond}
 use mathlib.Core.List.{List}
 use native.Mathlib.Omega.{arith}
 use lib.ListN.{length}
-use Rattle.circuit.specs.Order.{Tag, tagOf, isKind}
+use Rattle.circuit.specs.Order.{Tag, tagOf}
 use Rattle.circuit.specs.Table.{Verdict, passes}
 use Rattle.circuit.specs.Refusals.{verdictOf, refusalNumber, refusalPlace, numberedVerdict}
 use Rattle.circuit.specs.Verdicts.{isRefused}
 use Rattle.circuit.specs.declared.refusal.Refusal.the-variants.{Nothing}
-use Rattle.circuit.proofs.OrderLaws.{kind-is, other-kind}
 use Rattle.read_fields.specs.Steps.{fieldIn, FieldAt, StepIs, NextIs, NextIn, ownField, behindStep, endsBy, verdictBy, keptBy}
 use Rattle.read_fields.specs.declared.Field.{Field as FieldRecord}
 use Rattle.read_fields.specs.declared.Step.{Step}
@@ -19,42 +18,42 @@ use Rattle.read_fields.specs.declared.Next.{Next}
 use Rattle.read_fields.specs.declared.Next.the-variants.{Found, Other}
 
 module _ (file : List ℕ) (at : ℕ) where
-  -- a field of another kind stands there
-  another : (kind : Tag) (f : FieldRecord) → FieldAt file at f → (tagOf (f .tag) ≡ kind → ⊥) → NextIs file at kind Other
+  -- a field that is not looked for stands there
+  another : (own : Tag → Bool) (f : FieldRecord) → FieldAt file at f → own (tagOf (f .tag)) ≡ false → NextIs file at own Other
   unfolding NextIs fieldIn
-  another kind f here not-own =
-      λ g rest e own. not-own (let c = here .cut in let same : fieldIn file f ≡ g = cc in let t : f .tag ≡ g .tag = cc in ap tagOf t ∙ own)
+  another own f here not-own =
+      λ g rest e. (let c = here .cut in let same : fieldIn file f ≡ g = cc in let t : f .tag ≡ g .tag = cc in ap (λ (n : ℕ). own (tagOf n)) (sym t) ∙ not-own)
 
-  pub own-is : (kind : Tag) (s : Step) → StepIs file at s → NextIs file at kind (ownField kind s)
+  pub own-is : (own : Tag → Bool) (s : Step) → StepIs file at s → NextIs file at own (ownField own s)
   unfolding ownField StepIs NextIs
-  own-is kind (Whole f) here = go (isKind kind (tagOf (f .tag))) refl
+  own-is own (Whole f) here = go (own (tagOf (f .tag))) refl
     where
-      go : (b : Bool) → isKind kind (tagOf (f .tag)) ≡ b → NextIs file at kind (cond b (Found f) Other)
-      go true e = (here, kind-is kind (tagOf (f .tag)) e)
-      go false e = another kind f here (other-kind kind (tagOf (f .tag)) e)
-  own-is kind Broken is = λ g rest e own. let z : _≡_ {A = ℕ} 0 1 = cc in omega arith
-  own-is kind End is = λ g rest e own. let z : _≡_ {A = ℕ} 0 1 = cc in omega arith
+      go : (b : Bool) → own (tagOf (f .tag)) ≡ b → NextIs file at own (cond b (Found f) Other)
+      go true e = (here, e)
+      go false e = another own f here e
+  own-is own Broken is = λ g rest e. let z : _≡_ {A = ℕ} 0 1 = cc in absurd (omega arith)
+  own-is own End is = λ g rest e. let z : _≡_ {A = ℕ} 0 1 = cc in absurd (omega arith)
 
   -- what a turn of a stage finds at a place, and the place behind it
-  pub record Turned (kind : Tag) (found : Next) (behind : ℕ) : Type 0 where
-    pub own : NextIs file at kind found
+  pub record Turned (test : Tag → Bool) (found : Next) (behind : ℕ) : Type 0 where
+    pub own : NextIs file at test found
     pub past : (f : FieldRecord) → found ≡ Found f → behind ≡ f .body + f .len
     pub within : behind ≤ length file
 
-  pub turned : (kind : Tag) (s : Step) → at ≤ length file → StepIs file at s → Turned kind (ownField kind s) (behindStep s at)
+  pub turned : (own : Tag → Bool) (s : Step) → at ≤ length file → StepIs file at s → Turned own (ownField own s) (behindStep s at)
   unfolding ownField StepIs behindStep
-  turned kind (Whole f) h here = record { own = own-is kind (Whole f) here; past = go (isKind kind (tagOf (f .tag))); within = here .inside }
+  turned own (Whole f) h here = record { own = own-is own (Whole f) here; past = go (own (tagOf (f .tag))); within = here .inside }
     where
       go : (b : Bool) (g : FieldRecord) → cond b (Found f) Other ≡ Found g → f .body + f .len ≡ g .body + g .len
       go true g e = let same : f ≡ g = cc in ap (λ (x : FieldRecord). x .body + x .len) same
       go false g e = let z : _≡_ {A = ℕ} 0 1 = cc in absurd (omega arith)
-  turned kind Broken h is = record { own = own-is kind Broken is; past = λ g e. let z : _≡_ {A = ℕ} 0 1 = cc in absurd (omega arith); within = h }
-  turned kind End h is = record { own = own-is kind End is; past = λ g e. let z : _≡_ {A = ℕ} 0 1 = cc in absurd (omega arith); within = h }
+  turned own Broken h is = record { own = own-is own Broken is; past = λ g e. let z : _≡_ {A = ℕ} 0 1 = cc in absurd (omega arith); within = h }
+  turned own End h is = record { own = own-is own End is; past = λ g e. let z : _≡_ {A = ℕ} 0 1 = cc in absurd (omega arith); within = h }
 
-  pub next-in : (kind : Tag) (n : Next) → NextIs file at kind n → NextIn file n
+  pub next-in : (own : Tag → Bool) (n : Next) → NextIs file at own n → NextIn file n
   unfolding NextIs NextIn
-  next-in kind (Found f) is = is .0 .inside
-  next-in kind Other is = tt
+  next-in own (Found f) is = is .0 .inside
+  next-in own Other is = tt
 
 -- ---- what a stage's functions say of a field of its own, and of none
 

@@ -1,12 +1,12 @@
 -- The code's steps over a file in the words of its cut into fields: what stands at a place, and what the reader's step promises.
 use Prim.Native.Nat.{ℕ, _+_, _<_, _≤_}
 use mathlib.Core.Path.{_≡_}
-use mathlib.Core.Bool.{Bool, true, cond}
+use mathlib.Core.Bool.{Bool, true, false, cond}
 use mathlib.Core.List.{List}
 use denote.Ref.{now}
 use lib.ListN.{length, take, drop}
 use Rattle.circuit.specs.Fields.{Field, Cut, clean, broken, field, cutFrom}
-use Rattle.circuit.specs.Order.{Tag, tagOf, isKind}
+use Rattle.circuit.specs.Order.{Tag, tagOf}
 use Rattle.circuit.specs.Table.{Verdict, passes}
 use Rattle.circuit.specs.Verdicts.{isRefused}
 use Rattle.read_fields.specs.declared.cursor.Reader.{Reader}
@@ -36,15 +36,16 @@ StepIs file at (Whole f) = FieldAt file at f
 StepIs file at Broken = cutFrom file at ≡ broken at
 StepIs file at End = cutFrom file at ≡ clean
 
-unfoldable pub NextIs : List ℕ → ℕ → Tag → Next → Type 0
-NextIs file at kind (Found f) = FieldAt file at f × (tagOf (f .tag) ≡ kind)
-NextIs file at kind Other = (f : Field) (rest : Cut) → cutFrom file at ≡ field f rest → tagOf (f .tag) ≡ kind → ⊥
+-- where a field is looked for whose tag passes a test
+unfoldable pub NextIs : List ℕ → ℕ → (Tag → Bool) → Next → Type 0
+NextIs file at own (Found f) = FieldAt file at f × (own (tagOf (f .tag)) ≡ true)
+NextIs file at own Other = (f : Field) (rest : Cut) → cutFrom file at ≡ field f rest → own (tagOf (f .tag)) ≡ false
 
--- the field that a step told, where it is of the kind
-unfoldable pub ownField : Tag → Step → Next
-ownField kind (Whole f) = cond (isKind kind (tagOf (f .tag))) (Found f) Other
-ownField kind Broken = Other
-ownField kind End = Other
+-- the field that a step told, where its tag passes
+unfoldable pub ownField : (Tag → Bool) → Step → Next
+ownField own (Whole f) = cond (own (tagOf (f .tag))) (Found f) Other
+ownField own Broken = Other
+ownField own End = Other
 
 -- ---- a step of the reader
 

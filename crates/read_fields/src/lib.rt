@@ -9,7 +9,7 @@ ghost use mathlib.Core.Path.{_≡_};
 ghost use Prim.Native.Nat.{_+_, _≤_};
 ghost use lib.ListN.{length, getD};
 ghost use Rattle.circuit.specs.Fields.{twoBytes};
-ghost use Rattle.circuit.specs.Kinds.{kindTag};
+ghost use Rattle.circuit.specs.Kinds.{ofKind};
 ghost use Rattle.read_fields.specs.Steps.{bodyOf, StepIs, NextIs, ownField};
 
 // A whole field: the offset of its tag byte, its tag, and where its body starts and how long that is.
@@ -44,7 +44,7 @@ pub fn step_at(file: &[u8], at: usize) -> Step
 
 // The field that a step told, if it is of the kind. A stage knows its own fields by this test alone.
 pub fn own_field(step: Step, kind: Kind) -> Next
-    ensures { λ r. ⌜ r ≡ ownField (kindTag kind) step ⌝ }
+    ensures { λ r. ⌜ r ≡ ownField (ofKind kind) step ⌝ }
 {
     let Step::Whole(f) = step else {
         return Next::Other;
@@ -57,7 +57,7 @@ pub fn own_field(step: Step, kind: Kind) -> Next
 
 pub fn field_of(file: &[u8], at: usize, kind: Kind) -> Next
     requires { ⌜ at ≤ length (now file) ⌝ }
-    ensures { λ r. ⌜ NextIs (now (file .entry)) at (kindTag kind) r ⌝ }
+    ensures { λ r. ⌜ NextIs (now (file .entry)) at (ofKind kind) r ⌝ }
 {
     own_field(step_at(file, at), kind)
 }

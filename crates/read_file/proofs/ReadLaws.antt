@@ -14,7 +14,7 @@ use Rattle.switch.specs.Modules.{ModuleType}
 use Rattle.circuit.specs.Limits.{mostBytes, mostTypes, mostBridges, mostInstances, mostVectors}
 use Rattle.circuit.specs.Fields.{Cut, clean, broken, field, cutFrom, twoBytes}
 use Rattle.circuit.specs.Circuit.{Circuit, Instance, Listed, numbered, faultCount}
-use Rattle.circuit.specs.Order.{inputs-tag, tagOf, isUnknown}
+use Rattle.circuit.specs.Order.{inputs-tag, tagOf, isKind, isUnknown}
 use Rattle.circuit.specs.Table.{Verdict, passes, refusedAt, firstOf, test, isEmpty, inputsTests}
 use Rattle.circuit.specs.Reading.{Reading, accepted, refusal, unless, readingWith}
 use Rattle.circuit.specs.Records.{unusedType, unusedBridge, unusedInstance, unusedVector, circuitRecord, emptyCircuit}
@@ -49,7 +49,6 @@ use Rattle.read_vectors.specs.declared.Vectors.{Vectors}
 use Rattle.circuit.proofs.Padding.{padded-nil}
 use Rattle.circuit.proofs.Verdicts.{first-passes}
 use Rattle.circuit.proofs.BeforeLaws.{stage-types}
-use Rattle.circuit.proofs.OrderLaws.{is-kind, not-kind}
 use Rattle.circuit.proofs.GatheredLaws.{gathered-is-before}
 use Rattle.read_fields.proofs.Cuts.{cut-clean}
 use Rattle.read_file.proofs.ColumnLaws.{nodes-told, labels-told}
@@ -228,13 +227,13 @@ told-accepted (refusal n p) r tells e = (tells, cc (e, ap isRefused tells))
 
 -- ---- how a file begins
 
-pub start-field : (wanted : Bool) (file : List ℕ) (f : FieldRecord) → FieldAt file 0 f → tagOf (f .tag) ≡ inputs-tag
+pub start-field : (wanted : Bool) (file : List ℕ) (f : FieldRecord) → FieldAt file 0 f → isKind inputs-tag (tagOf (f .tag)) ≡ true
     → fromStart wanted (length file) (cutFrom file 0)
     ≡ unless (firstOf (inputsTests (f .at) (bodyOf file f))) (afterInputs wanted (length file) (twoBytes (bodyOf file f) 0) (cutFrom file (f .body + f .len)))
 unfolding fromStart fieldIn
-start-field wanted file f here own = rw (here .cut, is-kind inputs-tag (tagOf (f .tag)) own)
+start-field wanted file f here own = rw (here .cut, own)
 
-pub start-other : (wanted : Bool) (file : List ℕ) → NextIs file 0 inputs-tag Other
+pub start-other : (wanted : Bool) (file : List ℕ) → NextIs file 0 (isKind inputs-tag) Other
     → fromStart wanted (length file) (cutFrom file 0) ≡ unless (endingVerdict wanted (length file) 0 0 (cutFrom file 0)) (accepted emptyCircuit)
 unfolding NextIs fromStart endingVerdict
 start-other wanted file other = go (cutFrom file 0) refl
@@ -242,7 +241,7 @@ start-other wanted file other = go (cutFrom file 0) refl
     go : (cut : Cut) → cutFrom file 0 ≡ cut → fromStart wanted (length file) cut ≡ unless (endingVerdict wanted (length file) 0 0 cut) (accepted emptyCircuit)
     go clean e = refl
     go (broken place) e = refl
-    go (field f rest) e = rw (not-kind inputs-tag (tagOf (f .tag)) (other f rest e))
+    go (field f rest) e = rw (other f rest e)
 
 -- with no instance and no vector there is always a refusal
 pub start-refused : (wanted : Bool) (size : ℕ) (cut : Cut) → isRefused (endingVerdict wanted size 0 0 cut) ≡ true
@@ -286,20 +285,20 @@ unfolding gatheredOf
 gathered-long file h = rw (lt-ltb mostBytes (length file) h)
 
 module _ (file : List ℕ) (short : length file ≤ mostBytes) where
-  pub gathered-other : NextIs file 0 inputs-tag Other → gatheredOf file ≡ emptyCircuit
+  pub gathered-other : NextIs file 0 (isKind inputs-tag) Other → gatheredOf file ≡ emptyCircuit
   unfolding NextIs gatheredOf gatheredAtStart
   gathered-other other = rw (le-ltb mostBytes (length file) short) (go (cutFrom file 0) refl)
     where
       go : (cut : Cut) → cutFrom file 0 ≡ cut → gatheredAtStart cut ≡ emptyCircuit
       go clean e = refl
       go (broken place) e = refl
-      go (field f rest) e = rw (not-kind inputs-tag (tagOf (f .tag)) (other f rest e))
+      go (field f rest) e = rw (other f rest e)
 
-  pub gathered-field : (f : FieldRecord) → FieldAt file 0 f → tagOf (f .tag) ≡ inputs-tag
+  pub gathered-field : (f : FieldRecord) → FieldAt file 0 f → isKind inputs-tag (tagOf (f .tag)) ≡ true
       → gatheredOf file ≡ cond (isRefused (firstOf (inputsTests (f .at) (bodyOf file f)))) emptyCircuit
       (gatheredFrom (twoBytes (bodyOf file f) 0) (cutFrom file (f .body + f .len)))
   unfolding gatheredOf gatheredAtStart fieldIn
-  gathered-field f here own = rw (le-ltb mostBytes (length file) short, here .cut, is-kind inputs-tag (tagOf (f .tag)) own)
+  gathered-field f here own = rw (le-ltb mostBytes (length file) short, here .cut, own)
 
 -- ---- the number of inputs
 

@@ -8,7 +8,7 @@ use lib.ListN.{length, getD, set, replicate}
 use Rattle.switch.specs.Modules.{ModuleType}
 use Rattle.circuit.specs.Limits.{mostInstances}
 use Rattle.circuit.specs.Fields.{cutFrom}
-use Rattle.circuit.specs.Order.{instance-tag, tagOf}
+use Rattle.circuit.specs.Order.{instance-tag, tagOf, isKind}
 use Rattle.circuit.specs.Circuit.{Instance, Listed, typeOfInstance, chosenSize, faultCount}
 use Rattle.circuit.specs.Known.{instanceIn}
 use Rattle.circuit.specs.Table.{Verdict, Test, passes, firstOf, instanceTests}
@@ -77,7 +77,7 @@ module _ {file : List ℕ} {from P : ℕ} {types : List ModuleType} {bridges : L
     all = sofar .so .is;
   }
 
-  module _ (f : FieldRecord) (here : FieldAt file at f) (own : tagOf (f .tag) ≡ instance-tag) (r : Refusal)
+  module _ (f : FieldRecord) (here : FieldAt file at f) (own : isKind instance-tag (tagOf (f .tag)) ≡ true) (r : Refusal)
       (verdict : verdictOf r ≡ firstOf (testsAfter P types bridges (sofar .instances) (f .at) (bodyOf file f))) where
     abbrev one : Instance
     one = instanceIn (bodyOf file f)
@@ -100,13 +100,13 @@ module _ {file : List ℕ} {from P : ℕ} {types : List ModuleType} {bridges : L
 
 module _ {file : List ℕ} {from P typeCount : ℕ} {held : Held} {all : List InstanceRecord} {count faults at : ℕ}
     (inv : AtLoop file from P typeCount (held .nodes) (held .labels) (held .lists) all count faults at)
-    {n : Next} {m : ℕ} (turn : Turned file at instance-tag n m) (asked : Asked) (is : asked ≡ keptBy (askedOf file held) noneAsked n) where
+    {n : Next} {m : ℕ} (turn : Turned file at (isKind instance-tag) n m) (asked : Asked) (is : asked ≡ keptBy (askedOf file held) noneAsked n) where
   abbrev verdict : FieldRecord → Verdict
   verdict = instanceVerdict file P typeCount asked count faults
 
   -- where a field was found
   module _ (f : FieldRecord) (e : n ≡ Found f) where
-    stands : FieldAt file at f × (tagOf (f .tag) ≡ instance-tag)
+    stands : FieldAt file at f × (isKind instance-tag (tagOf (f .tag)) ≡ true)
     unfolding NextIs
     stands = rw e at (turn .own)
 
@@ -138,7 +138,7 @@ module _ {file : List ℕ} {from P typeCount : ℕ} {held : Held} {all : List In
   none-small e = let none : asked ≡ noneAsked = rw e at is in rw none (omega arith)
 
   pub turn-given : HeldAt typeCount held → TurnGiven file n asked faults
-  turn-given some = record { inside = next-in file at instance-tag n (turn .own); few = inv .few; small = go n refl }
+  turn-given some = record { inside = next-in file at (isKind instance-tag) n (turn .own); few = inv .few; small = go n refl }
     where
       go : (x : Next) → n ≡ x → asked .given .faults ≤ 65536
       go (Found f) e = small f e (some .types) (some .bridges) (some .told)

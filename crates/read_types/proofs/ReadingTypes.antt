@@ -7,7 +7,7 @@ use native.Mathlib.Omega.{arith}
 use lib.Dec.{T, leb, ltb, leb→le, ltb→lt}
 use lib.ListN.{length, getD, drop, set, replicate, length-append, length-map}
 use lib.Seq.{getD-drop}
-use Rattle.switch.specs.Conduction.{Edge}
+use Rattle.switch.specs.Conduction.{EdgeTag, by-position, stated, Edge}
 use Rattle.switch.specs.Modules.{ModuleType, mostEdges, allOf, typeInRange, inRange}
 use Rattle.switch.specs.Deciding.{isComplementary}
 use Rattle.switch.specs.Records.{noEdge, edgeRecord, typeOf, TypeGiven}
@@ -18,15 +18,15 @@ use Rattle.switch.proofs.Deciding.{and-both}
 use Rattle.switch.proofs.Ranges.{type-ranges}
 use Rattle.circuit.specs.Limits.{mostTypes}
 use Rattle.circuit.specs.Fields.{Field, Cut, clean, field, cutFrom}
-use Rattle.circuit.specs.Order.{type-tag, edge-tag, tagOf}
-use Rattle.circuit.specs.Known.{typeIn, edgesIn, withEdges}
-use Rattle.circuit.specs.Table.{Verdict, passes, refusedAt, firstOf, typeTests, edgesInRange, edgeTests, edgeTestsOf}
+use Rattle.circuit.specs.Order.{Tag, type-tag, tagOf, isKind, isEdge, edgeTagOf}
+use Rattle.circuit.specs.Known.{typeIn, edgesTold, edgesIn, withEdges}
+use Rattle.circuit.specs.Table.{Test, Verdict, passes, refusedAt, firstOf, typeTests, edgesInRange, edgeTests, edgeTestsOf}
 use Rattle.circuit.specs.Records.{padded, unusedType, typeRecord}
 use Rattle.circuit.specs.Refusals.{verdictOf}
 use Rattle.circuit.specs.Verdicts.{isRefused}
 use Rattle.circuit.specs.Stages.{Stage, ifPasses, edgeStage, failingVerdict, fieldPlace, typeStage, stageOf}
 use Rattle.read_fields.specs.Steps.{bodyOf, fieldIn, FieldAt, NextIs, endsBy, verdictBy, keptBy}
-use Rattle.read_types.specs.EdgeTurns.{edgeVerdict, edgesKept, placed, listWith, EdgeCodesFit, EdgesNext, shapedRecord, EdgesEnded}
+use Rattle.read_types.specs.EdgeTurns.{edgeTag, verdictAs, edgeVerdict, edgesAs, placed, listWith, LabelsFit, EdgeCodesFit, EdgesNext, shapedRecord, EdgesEnded}
 use Rattle.read_types.specs.ReadTypes.{bareOf, EdgesRead, TypeRead, TypesRead}
 use Rattle.read_types.specs.TypeTurns.{FoundWhole, typeVerdict, FieldTold, TypeTold, endsAt}
 use Rattle.read_fields.specs.declared.Field.{Field as FieldRecord}
@@ -43,7 +43,7 @@ use Rattle.read_fields.proofs.Bodies.{length-body}
 use Rattle.read_fields.proofs.Cuts.{section-step, section-stop}
 use Rattle.read_fields.proofs.Turns.{Turned}
 use Rattle.circuit.proofs.Tested.{type-pass}
-use Rattle.circuit.proofs.TypeLaws.{type-back, type-given, edges-ranges, EdgesPass, edges-pass, length-edges-in, field-ranges, with-edges-ranges, with-edges-record}
+use Rattle.circuit.proofs.TypeLaws.{type-back, type-given, edges-ranges, BytesPass, EdgesPass, edges-pass, body-parts, length-edges-in, with-edges-ranges, with-edges-record}
 use Rattle.read_types.proofs.TypeStages.{afterEdges, edges-first, failing-stage, Settled, settled-none, settled-more, type-step, type-stop}
 
 -- ---- a stage that fails
@@ -109,8 +109,39 @@ pub record EdgesSoFar (file : List ℕ) (from : ℕ) (shape : Shape) (list : Edg
   pub within : length (type .edges) ≤ mostEdges
   pub is : shapedRecord shape list ≡ typeRecord type
 
-abbrev plusEdges : ModuleType → List ℕ → ModuleType
-plusEdges t body = withEdges t (edgesIn (t .output) body)
+abbrev plusEdges : Tag → ModuleType → List ℕ → ModuleType
+plusEdges tag t body = withEdges t (edgesIn (edgeTagOf tag) (t .output) body)
+
+abbrev testsBy : Tag → ModuleType → ℕ → List ℕ → List Test
+testsBy tag = edgeTests (edgeTagOf tag)
+
+-- the bytes of a field that passed its tests have room in a code
+codes-of : (tag : EdgeTag) (t : ModuleType) (file : List ℕ) (f : FieldRecord) → t .highest < 32 → t .labels ≤ 12
+    → f .body + f .len ≤ length file → BytesPass tag t (bodyOf file f) → EdgeCodesFit tag file f
+unfolding BytesPass LabelsFit edgesInRange
+codes-of by-position t file f nodes few inside passed =
+    let body = bodyOf file f in
+    let h = t .highest in
+    let first = leb (getD body 0 0) h in
+    let second = leb (getD body 1 0) h in
+    let parts = both (first && second) (allOf (λ (l : ℕ). ltb l (t .labels)) (drop 2 body)) (passed .2) in
+    let ends = both first second (parts .0) in
+    record {
+      inside = inside;
+      first = omega (arith, leb→le (getD body 0 0) h (ends .0));
+      second = omega (arith, leb→le (getD body 1 0) h (ends .1));
+      labels = λ i. rw (← getD-drop 2 body i 0) (all-below (t .labels) few (drop 2 body) (parts .1) i);
+    }
+codes-of stated t file f nodes few inside passed =
+    let body = bodyOf file f in
+    let h = t .highest in
+    let its = body-parts h (t .labels) body (passed .1) in
+    record {
+      inside = inside;
+      first = omega (arith, leb→le (getD body 0 0) h (its .first-in));
+      second = omega (arith, leb→le (getD body 1 0) h (its .second-in));
+      labels = omega (arith, ltb→lt (getD body 3 0) (t .labels) (its .label-in));
+    }
 
 pub edges-start : (file : List ℕ) (from : ℕ) (shape : Shape) → from ≤ length file → T (typeInRange (shape .highest) (shape .output) (shape .labels))
     → EdgesSoFar file from shape (record { count = 0; edges = replicate mostEdges noEdge }) from
@@ -143,14 +174,14 @@ module _ {file : List ℕ} {from : ℕ} {shape : Shape} {list : EdgeList} {at : 
   edges-few = omega (arith, edge-count, sofar .within)
 
   -- the verdict on a field is that in the type which the edges make so far
-  verdict-so-far : (f : FieldRecord) → edgeVerdict file shape count f ≡ firstOf (edgeTests made (f .at) (bodyOf file f))
-  unfolding edgeVerdict edgeTests typeRecord
+  verdict-so-far : (f : FieldRecord) → edgeVerdict file shape count f ≡ firstOf (edgeTests (edgeTag f) made (f .at) (bodyOf file f))
+  unfolding verdictAs edgeTests typeRecord
   verdict-so-far f =
-      ap (λ (r : TypeRecord). firstOf (edgeTestsOf (r .highest) (r .output) (r .labels) (r .count) (f .at) (bodyOf file f))) (sofar .is)
+      ap (λ (r : TypeRecord). firstOf (edgeTestsOf (edgeTag f) (r .highest) (r .output) (r .labels) (r .count) (f .at) (bodyOf file f))) (sofar .is)
 
   -- what was read, with a verdict by which the stage ends here
   edges-read : (v : Refusal) → edgeStage made (cutFrom file at) ≡ stageOf (verdictOf v) made (cutFrom file at)
-      → ((f : Field) (rest : Cut) → verdictOf v ≡ passes → cutFrom file at ≡ field f rest → tagOf (f .tag) ≡ edge-tag → ⊥)
+      → ((f : Field) (rest : Cut) → verdictOf v ≡ passes → cutFrom file at ≡ field f rest → isEdge (tagOf (f .tag)) ≡ false)
       → EdgesRead file from shape (given v)
   edges-read v e none = record {
     type = made;
@@ -163,78 +194,66 @@ module _ {file : List ℕ} {from : ℕ} {shape : Shape} {list : EdgeList} {at : 
   }
 
   -- no edge stands here
-  edges-stop : NextIs file at edge-tag Other → (v : Refusal) → verdictOf v ≡ passes → EdgesRead file from shape (given v)
+  edges-stop : NextIs file at isEdge Other → (v : Refusal) → verdictOf v ≡ passes → EdgesRead file from shape (given v)
   unfolding NextIs
   edges-stop other v e =
-      edges-read v (section-stop edge-tag edgeTests plusEdges made file at other ∙ rw e) (λ f rest p here. other f rest here)
+      edges-read v (section-stop isEdge testsBy plusEdges made file at other ∙ rw e) (λ f rest p here. other f rest here)
 
-  module _ (f : FieldRecord) (here : NextIs file at edge-tag (Found f)) where
+  module _ (f : FieldRecord) (here : NextIs file at isEdge (Found f)) where
     -- the stage at this field
     stage-here : edgeStage made (cutFrom file at)
-        ≡ ifPasses (edgeVerdict file shape count f) made (cutFrom file at) (edgeStage (plusEdges made (bodyOf file f)) (cutFrom file (f .body + f .len)))
+        ≡ ifPasses (edgeVerdict file shape count f) made (cutFrom file at) (edgeStage (plusEdges (tagOf (f .tag)) made (bodyOf file f)) (cutFrom file (f .body + f .len)))
     unfolding NextIs
-    stage-here = section-step edge-tag edgeTests plusEdges made file at f (here .0) (here .1) ∙ rw (verdict-so-far f)
+    stage-here = section-step isEdge testsBy plusEdges made file at f (here .0) (here .1) ∙ rw (verdict-so-far f)
 
     edges-refused : (v : Refusal) → verdictOf v ≡ edgeVerdict file shape count f → isRefused (verdictOf v) ≡ true → EdgesRead file from shape (given v)
     edges-refused v tested e =
         edges-read v (stage-here ∙ if-refused (verdictOf v) _ tested e _ made (cutFrom file at)) (λ g rest p. never-passes (verdictOf v) e p)
 
     module _ (accepted : isRefused (edgeVerdict file shape count f) ≡ false) where
-      passed : EdgesPass made (bodyOf file f)
-      passed = edges-pass made (f .at) (bodyOf file f) (sym (verdict-so-far f) ∙ passes-is (edgeVerdict file shape count f) accepted)
+      passed : EdgesPass (edgeTag f) made (bodyOf file f)
+      passed = edges-pass (edgeTag f) made (f .at) (bodyOf file f) (sym (verdict-so-far f) ∙ passes-is (edgeVerdict file shape count f) accepted)
 
-      -- as many edges as labels, and a place for each
-      labels-are : f .len - 2 ≡ length (edgesIn (made .output) (bodyOf file f))
+      -- how many edges, and a place for each
+      added-are : edgesTold (edgeTag f) (f .len) ≡ length (edgesIn (edgeTag f) (made .output) (bodyOf file f))
       unfolding NextIs
-      labels-are = omega (arith, length-edges-in (made .output) (bodyOf file f), length-body file f (here .0 .inside))
+      added-are = ap (edgesTold (edgeTag f)) (sym (length-body file f (here .0 .inside))) ∙ sym (length-edges-in (edgeTag f) (made .output) (bodyOf file f))
 
-      places : count + (f .len - 2) ≤ mostEdges
+      places : count + edgesTold (edgeTag f) (f .len) ≤ mostEdges
+      places = omega (arith, edge-count, passed .few, added-are)
+
+      codes-fit : EdgeCodesFit (edgeTag f) file f
       unfolding NextIs
-      places = omega (arith, edge-count, passed .few, length-body file f (here .0 .inside))
-
-      codes-fit : EdgeCodesFit file f
-      unfolding NextIs edgesInRange
       codes-fit =
-          let body = bodyOf file f in
-          let h = made .highest in
-          let its = type-ranges h (made .output) (made .labels) (edges-ranges made (sofar .ranges) (sofar .within) .0) in
-          let first = leb (getD body 0 0) h in
-          let second = leb (getD body 1 0) h in
-          let parts = both (first && second) (allOf (λ (l : ℕ). ltb l (made .labels)) (drop 2 body)) (passed .ranges) in
-          let nodes = both first second (parts .0) in
-          record {
-            inside = here .0 .inside;
-            first = omega (arith, leb→le (getD body 0 0) h (nodes .0), its .highest);
-            second = omega (arith, leb→le (getD body 1 0) h (nodes .1), its .highest);
-            labels = λ i. rw (← getD-drop 2 body i 0) (all-below (made .labels) (its .labels-high) (drop 2 body) (parts .1) i);
-          }
+          let its = type-ranges (made .highest) (made .output) (made .labels) (edges-ranges made (sofar .ranges) (sofar .within) .0) in
+          codes-of (edgeTag f) made file f (its .highest) (its .labels-high) (here .0 .inside) (passed .bytes)
 
       edges-added : EdgesSoFar file from shape (listWith file (shape .output) list f) (f .body + f .len)
-      unfolding NextIs withEdges typeRecord listWith edgesKept
+      unfolding NextIs withEdges typeRecord listWith edgesAs
       edges-added =
           let body = bodyOf file f in
-          let es = edgesIn (made .output) body in
-          let fits : length (made .edges) + length es ≤ mostEdges = omega (arith, labels-are, places, edge-count) in
+          let es = edgesIn (edgeTag f) (made .output) body in
+          let fits : length (made .edges) + length es ≤ mostEdges = passed .few in
           record {
-            type = plusEdges made body;
+            type = plusEdges (tagOf (f .tag)) made body;
             stage = sofar .stage ∙ stage-here ∙ if-passes (edgeVerdict file shape count f) _ refl accepted _ _ _;
             place = here .0 .inside;
-            ranges = with-edges-ranges made es (sofar .ranges) (field-ranges (made .highest) (made .output) (made .labels) body (passed .ranges));
+            ranges = with-edges-ranges made es (sofar .ranges) (passed .ranges);
             within = omega (arith, length-append (made .edges) es, fits);
             is =
-                rw labels-are
+                rw added-are
                 (ap (λ (r : TypeRecord). record {
                   highest = r .highest;
                   output = r .output;
                   labels = r .labels;
                   count = r .count + length es;
-                  edges = placed (r .edges) (r .count) (map edgeRecord (edgesIn (r .output) body));
+                  edges = placed (r .edges) (r .count) (map edgeRecord (edgesIn (edgeTag f) (r .output) body));
                 }) (sofar .is)
                 ∙ stored-behind made es fits);
           }
 
   -- a turn, which found n and has m behind it
-  module _ {n : Next} {m : ℕ} (turn : Turned file at edge-tag n m) where
+  module _ {n : Next} {m : ℕ} (turn : Turned file at isEdge n m) where
     pub edges-end : endsBy (edgeVerdict file shape count) n ≡ true → (r : OneType) → EdgesEnded file n shape at list r → EdgesRead file from shape r
     unfolding endsBy verdictBy
     edges-end ends r is = subst (EdgesRead file from shape) (sym (is .rest)) (go n refl)
@@ -254,7 +273,7 @@ module _ {file : List ℕ} {from : ℕ} {shape : Shape} {list : EdgeList} {at : 
           go : (x : Next) → n ≡ x → EdgesNext file count x
           go Other e = tt
           go (Found f) e =
-              let here : NextIs file at edge-tag (Found f) = rw e at (turn .own) in
+              let here : NextIs file at isEdge (Found f) = rw e at (turn .own) in
               let accepted : isRefused (edgeVerdict file shape count f) ≡ false = rw e at goes in
               (codes-fit f here accepted, places f here accepted)
 
@@ -265,7 +284,7 @@ module _ {file : List ℕ} {from : ℕ} {shape : Shape} {list : EdgeList} {at : 
           go : (x : Next) → n ≡ x → EdgesSoFar file from shape (keptBy (listWith file (shape .output) list) list x) m × (at < m)
           go Other e = let z : _≡_ {A = Bool} true false = rw e at goes in let y : _≡_ {A = ℕ} 0 1 = cc in absurd (omega arith)
           go (Found f) e =
-              let here : NextIs file at edge-tag (Found f) = rw e at (turn .own) in
+              let here : NextIs file at isEdge (Found f) = rw e at (turn .own) in
               let accepted : isRefused (edgeVerdict file shape count f) ≡ false = rw e at goes in
               let past = turn .past f e in (
                 subst (EdgesSoFar file from shape (listWith file (shape .output) list f)) (sym past) (edges-added f here accepted),
@@ -379,7 +398,7 @@ module _ {file : List ℕ} {from : ℕ} {all : List TypeRecord} {count at : ℕ}
   }
 
   -- at a type
-  module _ (f : FieldRecord) (here : NextIs file at type-tag (Found f)) (one : OneType) where
+  module _ (f : FieldRecord) (here : NextIs file at (isKind type-tag) (Found f)) (one : OneType) where
     type-here : typeStage (sofar .types) (sofar .latest) (cutFrom file at)
         ≡ ifPasses (typeVerdict file count f) (sofar .types) (cutFrom file at)
         (typeStage (sofar .types ++ (typeIn (bodyOf file f) ∷ [])) (cutFrom file at) (cutFrom file (f .body + f .len)))
@@ -440,7 +459,7 @@ module _ {file : List ℕ} {from : ℕ} {all : List TypeRecord} {count at : ℕ}
     type-goes-on (refusedAt number place) e why r = let z : _≡_ {A = Bool} true false = rw why at r in let y : _≡_ {A = ℕ} 0 1 = cc in absurd (omega arith)
 
   -- a turn, which found n
-  module _ {n : Next} {m : ℕ} (turn : Turned file at type-tag n m) where
+  module _ {n : Next} {m : ℕ} (turn : Turned file at (isKind type-tag) n m) where
     pub found-whole : FoundWhole file n
     unfolding FoundWhole NextIs
     found-whole = go n refl
@@ -448,7 +467,7 @@ module _ {file : List ℕ} {from : ℕ} {all : List TypeRecord} {count at : ℕ}
         go : (x : Next) → n ≡ x → FoundWhole file x
         go Other e = tt
         go (Found f) e =
-            let here : NextIs file at type-tag (Found f) = rw e at (turn .own) in subst (λ (k : ℕ). FieldAt file k f) (sym (here .0 .place)) (here .0)
+            let here : NextIs file at (isKind type-tag) (Found f) = rw e at (turn .own) in subst (λ (k : ℕ). FieldAt file k f) (sym (here .0 .place)) (here .0)
 
     -- and made a type of it
     module _ (one : OneType) (told : TypeTold file count n one) where

@@ -13,14 +13,13 @@ use Rattle.switch.specs.Modules.{ModuleType}
 use Rattle.switch.specs.Deciding.{isComplementary}
 use Rattle.circuit.specs.Fields.{Field, Cut, clean, broken, field, cutFrom}
 use Rattle.circuit.specs.Circuit.{noType}
-use Rattle.circuit.specs.Order.{type-tag, edge-tag, tagOf, isEdge}
+use Rattle.circuit.specs.Order.{type-tag, tagOf, isKind, isEdge}
 use Rattle.circuit.specs.Known.{typeIn, edgesIn, latest, withEdges, edgesAdded}
 use Rattle.circuit.specs.Table.{Verdict, passes, refusedAt, firstOf, notComplementary, isEmpty, typeTests, edgeTests}
 use Rattle.circuit.specs.Verdicts.{isRefused}
 use Rattle.circuit.specs.Before.{typesBefore}
 use Rattle.circuit.specs.Stages.{Stage, stopped, ifPasses, section, edgeStage, failingVerdict, judged, fieldPlace, typeStage}
-use Rattle.circuit.proofs.OrderLaws.{is-kind, not-kind}
-use Rattle.circuit.proofs.StageLaws.{snoc-some}
+use Rattle.circuit.proofs.StageLaws.{edgeAs, snoc-some}
 use Rattle.circuit.proofs.GatheredLaws.{failing-refuses}
 use Rattle.read_fields.specs.Steps.{bodyOf, fieldIn, FieldAt, NextIs}
 use Rattle.read_fields.specs.declared.Field.{Field as FieldRecord}
@@ -53,20 +52,24 @@ unfolding ifPasses
 after-if types from passes t cut s = refl
 after-if types from (refusedAt number place) t cut s = refl
 
+-- a type with the edges of a field more
+abbrev with-field : ModuleType → Field → ModuleType
+with-field t f = withEdges t (edgesIn (edgeAs f) (t .output) (f .body))
+
 -- a field of edges at a time, or all edges first
 pub edges-first : (types : List ModuleType) (t : ModuleType) (from cut : Cut)
     → typeStage (types ++ (t ∷ [])) from cut ≡ afterEdges types from (edgeStage t cut)
 unfolding section typeStage ifPasses
 edges-first types t from clean = refl
 edges-first types t from (broken at) = refl
-edges-first types t from (field f rest) = go (isEdge (tagOf (f .tag))) refl (edges-first types (withEdges t (edgesIn (t .output) (f .body))) from rest)
+edges-first types t from (field f rest) = go (isEdge (tagOf (f .tag))) refl (edges-first types (with-field t f) from rest)
   where
     go : (b : Bool) → isEdge (tagOf (f .tag)) ≡ b
-        → typeStage (types ++ (withEdges t (edgesIn (t .output) (f .body)) ∷ [])) from rest ≡ afterEdges types from (edgeStage (withEdges t (edgesIn (t .output) (f .body))) rest)
+        → typeStage (types ++ (with-field t f ∷ [])) from rest ≡ afterEdges types from (edgeStage (with-field t f) rest)
         → typeStage (types ++ (t ∷ [])) from (field f rest) ≡ afterEdges types from (edgeStage t (field f rest))
     go true e later =
-        rw (typeStage, e, snoc-some types t, latest-snoc types t, before-snoc types t, edges-added-snoc types t (edgesIn (t .output) (f .body)), later)
-        (after-if types from (firstOf (edgeTests t (f .at) (f .body))) t (field f rest) (edgeStage (withEdges t (edgesIn (t .output) (f .body))) rest))
+        rw (typeStage, e, snoc-some types t, latest-snoc types t, before-snoc types t, edges-added-snoc types t (edgesIn (edgeAs f) (t .output) (f .body)), later)
+        (after-if types from (firstOf (edgeTests (edgeAs f) t (f .at) (f .body))) t (field f rest) (edgeStage (with-field t f) rest))
     go false e later =
         let stays : edgeStage t (field f rest) ≡ stopped t (field f rest) = rw e in ap (afterEdges types from) (sym stays)
 
@@ -84,7 +87,7 @@ failing-leaves typeAt cut a from s u = refused-leaves (failingVerdict typeAt cut
 
 -- where no edge stands the latest type is judged before anything else
 abbrev pub NoEdge : Cut → Type 0
-NoEdge cut = (f : Field) (rest : Cut) → cut ≡ field f rest → tagOf (f .tag) ≡ edge-tag → ⊥
+NoEdge cut = (f : Field) (rest : Cut) → cut ≡ field f rest → isEdge (tagOf (f .tag)) ≡ false
 
 judged-latest : (types : List ModuleType) (t : ModuleType) (typeAt : ℕ) (cut : Cut)
     → judged (types ++ (t ∷ [])) typeAt cut ≡ cond (not (isComplementary t)) (failingVerdict typeAt cut) passes
@@ -100,7 +103,7 @@ failing-stage types t from clean none e s =
 failing-stage types t from (broken at) none e s =
     rw (judged-latest types t (fieldPlace from) (broken at), e, before-snoc types t) (failing-leaves (fieldPlace from) (broken at) types from _ s)
 failing-stage types t from (field f rest) none e s =
-    rw (not-kind edge-tag (tagOf (f .tag)) (none f rest refl), judged-latest types t (fieldPlace from) (field f rest), e, before-snoc types t)
+    rw (none f rest refl, judged-latest types t (fieldPlace from) (field f rest), e, before-snoc types t)
     (failing-leaves (fieldPlace from) (field f rest) types from _ s)
 
 -- ---- types that are judged, before what stands next
@@ -117,12 +120,12 @@ settled-none cut = record { sound = λ typeAt. refl; no-edge = λ f rest e. and-
 pub settled-more : (types : List ModuleType) (t : ModuleType) (cut : Cut) → T (isComplementary t) → NoEdge cut → Settled (types ++ (t ∷ [])) cut
 settled-more types t cut p none = record {
   sound = λ typeAt. judged-latest types t typeAt cut ∙ rw (is-true (isComplementary t) p);
-  no-edge = λ f rest e. rw (not-kind edge-tag (tagOf (f .tag)) (none f rest e));
+  no-edge = λ f rest e. rw (none f rest e);
 }
 
 module _ (types : List ModuleType) (from : Cut) (file : List ℕ) (at : ℕ) (settled : Settled types (cutFrom file at)) where
   -- at a type
-  pub type-step : (f : FieldRecord) → FieldAt file at f → tagOf (f .tag) ≡ type-tag
+  pub type-step : (f : FieldRecord) → FieldAt file at f → isKind type-tag (tagOf (f .tag)) ≡ true
       → typeStage types from (cutFrom file at)
       ≡ ifPasses (firstOf (typeTests (length types) (f .at) (bodyOf file f))) types (cutFrom file at)
       (typeStage (types ++ (typeIn (bodyOf file f) ∷ [])) (cutFrom file at) (cutFrom file (f .body + f .len)))
@@ -130,14 +133,14 @@ module _ (types : List ModuleType) (from : Cut) (file : List ℕ) (at : ℕ) (se
   type-step f here own =
       let cut : Cut = field (fieldIn file f) (cutFrom file (f .body + f .len)) in
       let sound : judged types (fieldPlace from) cut ≡ passes = rw (here .cut) at (settled .sound (fieldPlace from)) in
-      rw (here .cut, settled .no-edge (fieldIn file f) (cutFrom file (f .body + f .len)) (here .cut), sound, is-kind type-tag (tagOf (f .tag)) own)
+      rw (here .cut, settled .no-edge (fieldIn file f) (cutFrom file (f .body + f .len)) (here .cut), sound, own)
 
   -- at anything else
-  pub type-stop : NextIs file at type-tag Other → typeStage types from (cutFrom file at) ≡ stopped types (cutFrom file at)
+  pub type-stop : NextIs file at (isKind type-tag) Other → typeStage types from (cutFrom file at) ≡ stopped types (cutFrom file at)
   unfolding NextIs typeStage ifPasses
   type-stop other = go (cutFrom file at) refl (settled .sound (fieldPlace from))
     where
       go : (cut : Cut) → cutFrom file at ≡ cut → judged types (fieldPlace from) cut ≡ passes → typeStage types from cut ≡ stopped types cut
       go clean e sound = rw sound
       go (broken place) e sound = rw sound
-      go (field f rest) e sound = rw (settled .no-edge f rest e, sound, not-kind type-tag (tagOf (f .tag)) (other f rest e))
+      go (field f rest) e sound = rw (settled .no-edge f rest e, sound, other f rest e)

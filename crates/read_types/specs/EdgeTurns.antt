@@ -1,13 +1,15 @@
 -- A turn of the stage that reads a type's edges: the verdict on an edge field, the edges in it, and what is given where the stage ends.
-use Prim.Native.Nat.{ℕ, suc, _+_, _-_, _<_, _≤_}
+use Prim.Native.Nat.{ℕ, suc, _+_, _<_, _≤_}
 use mathlib.Core.Path.{_≡_}
 use mathlib.Core.List.{List, [], _∷_, map}
 use lib.ListN.{length, getD, set}
+use Rattle.switch.specs.Conduction.{EdgeTag, by-position, stated}
 use Rattle.switch.specs.Modules.{mostEdges}
 use Rattle.switch.specs.Records.{edgeRecord}
 use Rattle.switch.specs.declared.Edge.{Edge as EdgeRecord}
 use Rattle.switch.specs.declared.ModuleType.{ModuleType as TypeRecord}
-use Rattle.circuit.specs.Known.{edgesIn}
+use Rattle.circuit.specs.Order.{tagOf, edgeTagOf}
+use Rattle.circuit.specs.Known.{edgesTold, edgesIn}
 use Rattle.circuit.specs.Table.{Verdict, firstOf, edgeTestsOf}
 use Rattle.circuit.specs.Refusals.{verdictOf}
 use Rattle.read_fields.specs.Steps.{bodyOf, verdictBy}
@@ -18,14 +20,24 @@ use Rattle.read_types.specs.declared.edges.EdgeList.{EdgeList}
 use Rattle.read_types.specs.declared.edges.OneType.{OneType}
 use Rattle.read_types.specs.declared.edges.Shape.{Shape}
 
--- the verdict on an edge field, in a type of this shape after `count` edges
-unfoldable pub edgeVerdict : List ℕ → Shape → ℕ → FieldRecord → Verdict
-edgeVerdict file shape count f =
-    firstOf (edgeTestsOf (shape .highest) (shape .output) (shape .labels) count (f .at) (bodyOf file f))
+-- the tag of an edge field
+abbrev pub edgeTag : FieldRecord → EdgeTag
+edgeTag f = edgeTagOf (tagOf (f .tag))
 
--- the edges in it, one for each label, as the code keeps them, in a type with the output node o
-unfoldable pub edgesKept : List ℕ → ℕ → FieldRecord → List EdgeRecord
-edgesKept file o f = map edgeRecord (edgesIn o (bodyOf file f))
+-- the verdict on an edge field, in a type of this shape after `count` edges: as if it had a tag, and with its own
+unfoldable pub verdictAs : EdgeTag → List ℕ → Shape → ℕ → FieldRecord → Verdict
+verdictAs tag file shape count f =
+    firstOf (edgeTestsOf tag (shape .highest) (shape .output) (shape .labels) count (f .at) (bodyOf file f))
+
+abbrev pub edgeVerdict : List ℕ → Shape → ℕ → FieldRecord → Verdict
+edgeVerdict file shape count f = verdictAs (edgeTag f) file shape count f
+
+-- the edges in it, as the code keeps them, in a type with the output node o
+unfoldable pub edgesAs : EdgeTag → List ℕ → ℕ → FieldRecord → List EdgeRecord
+edgesAs tag file o f = map edgeRecord (edgesIn tag o (bodyOf file f))
+
+abbrev pub edgesKept : List ℕ → ℕ → FieldRecord → List EdgeRecord
+edgesKept file o f = edgesAs (edgeTag f) file o f
 
 -- records stored one behind the other, from a place on
 unfoldable pub placed : List EdgeRecord → ℕ → List EdgeRecord → List EdgeRecord
@@ -34,18 +46,24 @@ placed places at (e ∷ es) = placed (set places at e) (suc at) es
 
 -- the list with the field's edges behind its own
 unfoldable pub listWith : List ℕ → ℕ → EdgeList → FieldRecord → EdgeList
-listWith file o list f = record { count = list .count + (f .len - 2); edges = placed (list .edges) (list .count) (edgesKept file o f) }
+listWith file o list f =
+    record { count = list .count + edgesTold (edgeTag f) (f .len); edges = placed (list .edges) (list .count) (edgesKept file o f) }
 
--- the field lies in the file, and its nodes and labels have room in an edge's code. A byte past the field's end is 0
-pub record EdgeCodesFit (file : List ℕ) (f : FieldRecord) : Type 0 where
+-- the labels of a field have room in an edge's code. A byte past the field's end is 0
+unfoldable pub LabelsFit : EdgeTag → List ℕ → Type 0
+LabelsFit by-position body = (i : ℕ) → getD body (2 + i) 0 < 16
+LabelsFit stated body = getD body 3 0 < 16
+
+-- the field lies in the file, and its nodes and labels have room in an edge's code
+pub record EdgeCodesFit (tag : EdgeTag) (file : List ℕ) (f : FieldRecord) : Type 0 where
   pub inside : f .body + f .len ≤ length file
   pub first : getD (bodyOf file f) 0 0 < 32
   pub second : getD (bodyOf file f) 1 0 < 32
-  pub labels : (i : ℕ) → getD (bodyOf file f) (2 + i) 0 < 16
+  pub labels : LabelsFit tag (bodyOf file f)
 
--- of the field that was found so, and behind `count` edges there is a place for each of its labels
+-- of the field that was found so, and behind `count` edges there is a place for each of its own
 unfoldable pub EdgesNext : List ℕ → ℕ → Next → Type 0
-EdgesNext file count (Found f) = EdgeCodesFit file f × (count + (f .len - 2) ≤ mostEdges)
+EdgesNext file count (Found f) = EdgeCodesFit (edgeTag f) file f × (count + edgesTold (edgeTag f) (f .len) ≤ mostEdges)
 EdgesNext file count Other = Unit {0}
 
 -- the record of a type of this shape, with these edges

@@ -2,6 +2,7 @@
 -- there.
 use Prim.Native.Nat.{ℕ, _+_, _≤_}
 use mathlib.Core.Path.{_≡_}
+use mathlib.Core.Bool.{false}
 use mathlib.Core.List.{List, [], _∷_, _++_, map}
 use lib.Dec.{T}
 use lib.ListN.{length}
@@ -9,7 +10,7 @@ use Rattle.switch.specs.Modules.{ModuleType, mostEdges, inRange}
 use Rattle.switch.specs.Deciding.{isComplementary}
 use Rattle.circuit.specs.Limits.{mostTypes}
 use Rattle.circuit.specs.Fields.{Field, Cut, clean, field, cutFrom}
-use Rattle.circuit.specs.Order.{edge-tag, tagOf}
+use Rattle.circuit.specs.Order.{tagOf, isEdge}
 use Rattle.circuit.specs.Table.{passes}
 use Rattle.circuit.specs.Records.{padded, unusedType, typeRecord}
 use Rattle.circuit.specs.Refusals.{verdictOf}
@@ -32,8 +33,8 @@ pub record EdgesRead (file : List ℕ) (from : ℕ) (shape : Shape) (r : OneType
   pub place : r .at ≤ length file
   pub ranges : T (inRange type)
   pub within : length (type .edges) ≤ mostEdges
-  pub next : (f : Field) (rest : Cut) → verdictOf (r .refusal) ≡ passes → cutFrom file (r .at) ≡ field f rest → tagOf (f .tag) ≡ edge-tag
-      → ⊥
+  pub next : (f : Field) (rest : Cut) → verdictOf (r .refusal) ≡ passes → cutFrom file (r .at) ≡ field f rest
+      → isEdge (tagOf (f .tag)) ≡ false
   pub is : r .«module_type» ≡ typeRecord type
 
 -- a type with its edges, judged: it is refused, or it is complementary
@@ -45,8 +46,8 @@ pub record TypeRead (file : List ℕ) (f : FieldRecord) (r : OneType) : Type 0 w
       → typeStage (types ++ (typeIn (bodyOf file f) ∷ [])) from (cutFrom file (f .body + f .len))
       ≡ ifPasses (verdictOf (r .refusal)) types from (typeStage (types ++ (type ∷ [])) from (cutFrom file (r .at)))
   pub complementary : verdictOf (r .refusal) ≡ passes → T (isComplementary type)
-  pub next : (g : Field) (rest : Cut) → verdictOf (r .refusal) ≡ passes → cutFrom file (r .at) ≡ field g rest → tagOf (g .tag) ≡ edge-tag
-      → ⊥
+  pub next : (g : Field) (rest : Cut) → verdictOf (r .refusal) ≡ passes → cutFrom file (r .at) ≡ field g rest
+      → isEdge (tagOf (g .tag)) ≡ false
 
 -- the types from an offset on
 pub record TypesRead (file : List ℕ) (from : ℕ) (r : Types) : Type 0 where

@@ -1,5 +1,8 @@
-// The edges of a type: the fields with tag 3 right after it.
+// The edges of a type: the fields with tags 3 and 7 right after it. Those with tag 3 take their channel from their nodes.
+use crate::passes::pass_edge;
+use crate::passes::pass_verdict;
 use circuit::order::Kind;
+use circuit::order::states_channel;
 use circuit::ranges::is_between;
 use circuit::refusal::Refusal;
 use circuit::refusal::or_if;
@@ -19,12 +22,13 @@ ghost use mathlib.Core.Path.{_≡_};
 ghost use Prim.Native.Nat.{_+_, _-_, _<_, _≤_};
 ghost use lib.Dec.{T, ltb};
 ghost use lib.ListN.{length, getD, drop, replicate};
-ghost use Rattle.switch.specs.Conduction.{pEnds, nEnd, badEnds};
+ghost use Rattle.switch.specs.Conduction.{by-position, pEnds, nEnd, badEnds};
 ghost use Rattle.switch.specs.Modules.{mostEdges, allOf, typeInRange};
 ghost use Rattle.switch.specs.Records.{noEdge};
+ghost use Rattle.circuit.specs.Known.{edgesTold};
 ghost use Rattle.circuit.specs.Refusals.{verdictOf};
 ghost use Rattle.read_fields.specs.Steps.{bodyOf, NextIn, endsBy, keptBy};
-ghost use Rattle.read_types.specs.EdgeTurns.{edgeVerdict, edgesKept, listWith, EdgeCodesFit, EdgesNext, EdgesEnded};
+ghost use Rattle.read_types.specs.EdgeTurns.{edgeTag, verdictAs, edgeVerdict, edgesAs, edgesKept, listWith, EdgeCodesFit, EdgesNext, EdgesEnded};
 ghost use Rattle.read_types.specs.ReadTypes.{EdgesRead};
 
 // What a type's own field says: its highest node, its output node and its number of labels.
@@ -91,47 +95,74 @@ fn bad_nodes(h: u8, o: u8, a: u8, b: u8) -> bool
     !(n_end(h, o, a) && n_end(h, o, b))
 }
 
-// How many labels a field has, each of which gives an edge: the bytes behind its two nodes.
-fn labels_in(f: Field) -> usize
-    ensures { λ r. ⌜ r ≡ f .len - 2 ⌝ }
+// How many edges a field has: a pass transistor is one, and else each byte behind the two nodes gives one.
+fn edges_in(f: Field) -> usize
+    ensures { λ r. ⌜ r ≡ edgesTold (edgeTag f) (f .len) ⌝ }
 {
     let len = f.len;
+    if states_channel(f.tag) {
+        return 1;
+    }
     if len < 2 {
         return 0;
     }
     len - 2
 }
 
-// The first test of an edge field that refuses, in a type of this shape with `count` edges so far. The sum of count and labels might not fit its type, so the labels are held against the places that are left.
-fn edge_verdict(file: &[u8], f: Field, shape: Shape, count: usize) -> Refusal
+// The first test of a field with tag 3 that refuses, in a type of this shape with `count` edges so far. The sum of count and labels might not fit its type, so the labels are held against the places that are left.
+fn labels_verdict(file: &[u8], f: Field, shape: Shape, count: usize) -> Refusal
     requires { ⌜ (f .body + f .len ≤ length (now file)) × (count ≤ mostEdges) ⌝ }
-    ensures { λ r. ⌜ verdictOf r ≡ edgeVerdict (now (file .entry)) shape count f ⌝ }
+    ensures { λ r. ⌜ verdictOf r ≡ verdictAs by-position (now (file .entry)) shape count f ⌝ }
 {
     let h = shape.highest;
     let o = shape.output;
     let k = shape.labels;
+    let len = f.len;
     let a = byte(file, f, 0);
     let b = byte(file, f, 1);
     let in_range = a <= h && b <= h && labels_below(file, f, k);
     let v = or_if(
         Refusal::Nothing,
-        f.len < 3 || 6 < f.len,
+        len < 3 || 6 < len,
         Refusal::WrongLength(f.at),
     );
-    let v = or_if(v, MOST_EDGES - count < labels_in(f), Refusal::TooMany(f.at));
+    let v = or_if(v, MOST_EDGES - count + 2 < len, Refusal::TooMany(f.at));
     let v = or_if(v, !in_range, Refusal::OutOfRange(f.at));
     or_if(v, bad_nodes(h, o, a, b), Refusal::BadEnds(f.at))
 }
 
-// The edge of one of a field's labels, by the label's number, in a type with the output node o.
-fn edge_for(file: &[u8], f: Field, o: u8, j: usize) -> Edge
-    requires { ⌜ EdgeCodesFit (now file) f ⌝ }
+// The first test of an edge field that refuses, by its tag.
+fn edge_verdict(file: &[u8], f: Field, shape: Shape, count: usize) -> Refusal
+    requires { ⌜ (f .body + f .len ≤ length (now file)) × (count ≤ mostEdges) ⌝ }
+    ensures { λ r. ⌜ verdictOf r ≡ edgeVerdict (now (file .entry)) shape count f ⌝ }
+{
+    if states_channel(f.tag) {
+        return pass_verdict(file, f, shape.highest, shape.output, shape.labels, count);
+    }
+    labels_verdict(file, f, shape, count)
+}
+
+// The edge of one of the labels of a field with tag 3, by the label's number, in a type with the output node o.
+fn label_edge(file: &[u8], f: Field, o: u8, j: usize) -> Edge
+    requires { ⌜ EdgeCodesFit by-position (now file) f ⌝ }
     requires { ⌜ j < f .len - 2 ⌝ }
-    ensures { λ r. ⌜ r ≡ getD (edgesKept (now (file .entry)) o f) j noEdge ⌝ }
+    ensures { λ r. ⌜ r ≡ getD (edgesAs by-position (now (file .entry)) o f) j noEdge ⌝ }
 {
     let a = byte(file, f, 0);
     let b = byte(file, f, 1);
-    edge_with(a, b, byte(file, f, 2 + j), p_ends(o, a, b))
+    edge_with(a, b, byte(file, f, 2 + j), p_ends(o, a, b), false)
+}
+
+// One of a field's edges, by its number, in a type with the output node o.
+fn edge_for(file: &[u8], f: Field, o: u8, j: usize) -> Edge
+    requires { ⌜ EdgeCodesFit (edgeTag f) (now file) f ⌝ }
+    requires { ⌜ j < edgesTold (edgeTag f) (f .len) ⌝ }
+    ensures { λ r. ⌜ r ≡ getD (edgesKept (now (file .entry)) o f) j noEdge ⌝ }
+{
+    if states_channel(f.tag) {
+        return pass_edge(file, f, o);
+    }
+    label_edge(file, f, o, j)
 }
 
 // Whether the stage ends here: no edge field stands next, or one that is refused.
@@ -153,15 +184,15 @@ fn with_found(file: &[u8], found: Next, shape: Shape, list: EdgeList) -> EdgeLis
     let Next::Found(f) = found else {
         return list;
     };
-    let labels = labels_in(f);
+    let added = edges_in(f);
     let count = list.count;
     let mut list = list;
     let mut j: usize = 0;
-    while j < labels {
+    while j < added {
         list.edges[count + j] = edge_for(file, f, shape.output, j);
         j += 1;
     }
-    list.count = count + labels;
+    list.count = count + added;
     list
 }
 

@@ -1,3 +1,4 @@
-// Module types: the fields with tags 2 and 3 become records of types, each in range and complementary.
+// Module types: the fields with tags 2, 3 and 7 become records of types, each in range and complementary.
 mod edges;
+mod passes;
 pub mod types;

@@ -18,7 +18,7 @@ use Rattle.switch.specs.Modules.{allOf}
 use Rattle.switch.specs.Promises.{isAt0, isAt1}
 use Rattle.circuit.specs.Limits.{mostVectors}
 use Rattle.circuit.specs.Fields.{cutFrom}
-use Rattle.circuit.specs.Order.{vector-tag, tagOf}
+use Rattle.circuit.specs.Order.{vector-tag, tagOf, isKind}
 use Rattle.circuit.specs.Known.{letterOf, vectorIn}
 use Rattle.circuit.specs.Table.{Test, Verdict, test, passes, firstOf, isLetter, vectorTests}
 use Rattle.circuit.specs.Records.{unusedVector, vectorRecord}
@@ -186,7 +186,7 @@ module _ {file : List ℕ} {from P : ℕ} {all : List VectorRecord} {count at : 
     all = sofar .so .is;
   }
 
-  module _ (f : FieldRecord) (here : FieldAt file at f) (own : tagOf (f .tag) ≡ vector-tag) (r : Refusal)
+  module _ (f : FieldRecord) (here : FieldAt file at f) (own : isKind vector-tag (tagOf (f .tag)) ≡ true) (r : Refusal)
       (verdict : verdictOf r ≡ firstOf (vectorTests P count (f .at) (bodyOf file f))) where
     of-length : verdictOf r ≡ firstOf (vectorTests P (length (sofar .vectors)) (f .at) (bodyOf file f))
     of-length = verdict ∙ ap (λ (n : ℕ). firstOf (vectorTests P n (f .at) (bodyOf file f))) (sofar .so .counted)
@@ -202,7 +202,7 @@ module _ {file : List ℕ} {from P : ℕ} {all : List VectorRecord} {count at : 
     }
 
   -- a turn, which found n and has m behind it
-  module _ {n : Next} {m : ℕ} (turn : Turned file at vector-tag n m) where
+  module _ {n : Next} {m : ℕ} (turn : Turned file at (isKind vector-tag) n m) where
     pub vectors-end : endsBy (vectorVerdict file P count) n ≡ true → (r : Refusal) → verdictOf r ≡ verdictBy (vectorVerdict file P count) n
         → VectorsRead file from P (record { refusal = r; at = at; count = count; all = all })
     unfolding endsBy verdictBy vectorVerdict NextIs
@@ -211,7 +211,7 @@ module _ {file : List ℕ} {from P : ℕ} {all : List VectorRecord} {count at : 
         go : (x : Next) → n ≡ x → VectorsRead file from P (record { refusal = r; at = at; count = count; all = all })
         go Other e = vectors-read r (stops (sofar .so) (rw e at (turn .own)) ∙ ap (λ (v : Verdict). stageOf v (sofar .vectors) (cutFrom file at)) (sym (rw e at is)))
         go (Found f) e =
-            let here : NextIs file at vector-tag (Found f) = rw e at (turn .own) in
+            let here : NextIs file at (isKind vector-tag) (Found f) = rw e at (turn .own) in
             let why : verdictOf r ≡ firstOf (vectorTests P count (f .at) (bodyOf file f)) = rw e at is in
             vectors-refused f (here .0) (here .1) r why (ap isRefused why ∙ (rw e at ends))
 
@@ -224,7 +224,7 @@ module _ {file : List ℕ} {from P : ℕ} {all : List VectorRecord} {count at : 
           go : (x : Next) → n ≡ x → VectorNext file x
           go Other e = tt
           go (Found f) e =
-              let here : NextIs file at vector-tag (Found f) = rw e at (turn .own) in
+              let here : NextIs file at (isKind vector-tag) (Found f) = rw e at (turn .own) in
               let passed = passes-is (firstOf (vectorTests P count (f .at) (bodyOf file f))) (rw e at goes) in
               (here .0 .inside, omega (arith, vector-fits P count (f .at) (bodyOf file f) passed .letters, length-body file f (here .0 .inside), most))
 
@@ -235,7 +235,7 @@ module _ {file : List ℕ} {from P : ℕ} {all : List VectorRecord} {count at : 
           go : (x : Next) → n ≡ x → VectorsSoFar file from P (set all count (keptBy (vectorKept file) unusedVector x)) (count + 1) m × (count < mostVectors) × (at < m)
           go Other e = let z : _≡_ {A = Bool} true false = rw e at goes in let y : _≡_ {A = ℕ} 0 1 = cc in absurd (omega arith)
           go (Found f) e =
-              let here : NextIs file at vector-tag (Found f) = rw e at (turn .own) in
+              let here : NextIs file at (isKind vector-tag) (Found f) = rw e at (turn .own) in
               let v : Verdict = firstOf (vectorTests P count (f .at) (bodyOf file f)) in
               let passed : v ≡ passes = passes-is v (rw e at goes) in
               let past = turn .past f e in (

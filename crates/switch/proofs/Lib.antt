@@ -3,6 +3,7 @@
 --   Apart, Marks, Refinement, KnownOutputs            the statements of specs/Statements on paths
 --   Blocks                                            blocks of settings tell what all of them do
 --   Groups                                            groups of transistors link what their edges do
+--   Tags                                              tags conduct nothing
 --   Ranges                                            what a record tells that a file can give
 --   Outputs                                           the statements on planes
 --   Examples                                          a type that is accepted, and a record that the code takes
@@ -11,6 +12,7 @@ pub mod Channels
 pub mod Deciding
 pub mod Blocks
 pub mod Groups
+pub mod Tags
 pub mod MoreOn
 pub mod Apart
 pub mod Marks

@@ -8,7 +8,7 @@ use mathlib.Core.Logic.{_⊎_, inl, inr, _↔_}
 use mathlib.Core.List.{List, [], _∷_, List·Memᴰ·head, List·Memᴰ·tail, List·Memᴰ·cases-cons, List·Memᴰ·not-nil}
 use lib.Dec.{T, leb, ltb, ltb→lt}
 use lib.ListN.{length, getD}
-use Rattle.switch.specs.Conduction.{Value, Edge, Channel, n-channel, Link, Among, Joined, here, forth, back}
+use Rattle.switch.specs.Conduction.{Value, by-position, Edge, Channel, n-channel, Link, Among, Joined, here, forth, back}
 use Rattle.switch.specs.Conduction.{transistorOn, Switching, byValues, edgeOn, links}
 use Rattle.switch.specs.Modules.{ModuleType, allOf, typeInRange, edgeInRange, inRange, linksOf}
 use Rattle.switch.specs.Statements.{JoinedIsEquivalence, MoreLinks}
@@ -144,7 +144,7 @@ links-among on es d w = (on-at on d w es, λ a. of-on-at on d w es (a .place) (a
 pub links-more : (on more : Switching) (es : List Edge)
     → ((e : Edge) → T (edgeOn on e) → T (edgeOn more e)) → (w : Link) → Among w (links on es) → Among w (links more es)
 links-more on more es f w m =
-    let none : Edge = record { first = 0; second = 0; channel = n-channel; label = 0 } in
+    let none : Edge = record { first = 0; second = 0; channel = n-channel; label = 0; tag = by-position } in
     let a : OnAt on es none w = on-at on none w es m in
     of-on-at more none w es (a .place) (a .within) (f (getD es (a .place) none) (a .is-on)) (a .ends)
 

@@ -2,15 +2,15 @@
 -- one that its record tells. Assumes nothing.
 use Prim.Native.Nat.{ℕ, zero, suc, _+_, _*_, _/_, _%_, _≤_, _<_}
 use native.Mathlib.Omega.{arith}
-use mathlib.Core.Path.{_≡_, ap, subst, _∙_}
+use mathlib.Core.Path.{_≡_, refl, ap, subst, _∙_}
 use mathlib.Core.Bool.{Bool, _&&_}
 use mathlib.Core.List.{List, [], _∷_}
 use lib.Dec.{T, leb, ltb, leb→le, ltb→lt}
 use lib.ListN.{getD, take, List·getD-map}
 use lib.Seq.{getD-take}
-use Rattle.switch.specs.Conduction.{Channel, p-channel, n-channel, Edge, between}
+use Rattle.switch.specs.Conduction.{Channel, p-channel, n-channel, channelBit, channelBy, EdgeTag, by-position, stated, Edge, between}
 use Rattle.switch.specs.Modules.{allOf, typeInRange, edgeInRange, inRange}
-use Rattle.switch.specs.Records.{noEdge, channelBit, channelBy, gateOf, edgeRecord, firstNodeIn, secondNodeIn, gateIn, edgeOf, edgesOf, typeOf}
+use Rattle.switch.specs.Records.{noEdge, tagBit, tagBy, gateOf, edgeRecord, firstNodeIn, secondNodeIn, gateIn, edgeOf, edgesOf, typeOf}
 use Rattle.switch.specs.Records.{TypeGiven}
 use Rattle.switch.specs.declared.Edge.{Edge as EdgeRecord}
 use Rattle.switch.specs.declared.ModuleType.{ModuleType as TypeRecord}
@@ -64,28 +64,35 @@ edge-ranges h k hk e t =
 
 -- an edge that a code has room for is the one that its record tells
 module _ (a b l : ℕ) (ha : a < 32) (hb : b < 32) (hl : l < 16) where
-  abbrev coded : ℕ → EdgeRecord
-  coded gate = record { code = a + 32 * b + 1024 * gate }
+  abbrev coded : ℕ → ℕ → EdgeRecord
+  coded gate tag = record { code = a + 32 * b + 1024 * gate + 32768 * tag }
 
-  parts : (gate : ℕ) → gate < 32 → (firstNodeIn (coded gate) ≡ a) × (secondNodeIn (coded gate) ≡ b) × (gateIn (coded gate) ≡ gate)
-  parts gate h = (omega arith, omega arith, omega arith)
+  parts : (gate tag : ℕ) → gate < 32
+      → (firstNodeIn (coded gate tag) ≡ a) × (secondNodeIn (coded gate tag) ≡ b) × (gateIn (coded gate tag) ≡ gate)
+      × (coded gate tag .code / 32768 ≡ tag)
+  parts gate tag h = (omega arith, omega arith, omega arith, omega arith)
 
-  its-record-by : (c : Channel)
-      → edgeOf (edgeRecord (record { first = a; second = b; channel = c; label = l })) ≡ record { first = a; second = b; channel = c; label = l }
-  unfolding edgeOf edgeRecord gateOf channelBit channelBy
-  its-record-by p-channel =
-      let its = parts (l + 16) (omega arith) in
-      let channel : (l + 16) / 16 ≡ 1 = omega arith in
-      let label : (l + 16) % 16 ≡ l = omega arith in
-      rw (its .0, its .1, its .2, channel, label)
-  its-record-by n-channel =
-      let its = parts (l + 0) (omega arith) in
-      let channel : (l + 0) / 16 ≡ 0 = omega arith in
-      let label : (l + 0) % 16 ≡ l = omega arith in
-      rw (its .0, its .1, its .2, channel, label)
+  -- the gate of either channel tells the channel and the label
+  gate-told : (c : Channel) → let gate = l + 16 * channelBit c in (gate < 32) × (channelBy (gate / 16) ≡ c) × (gate % 16 ≡ l)
+  unfolding channelBit channelBy
+  gate-told p-channel = let channel : (l + 16) / 16 ≡ 1 = omega arith in (omega arith, rw channel refl, omega arith)
+  gate-told n-channel = let channel : (l + 0) / 16 ≡ 0 = omega arith in (omega arith, rw channel refl, omega arith)
+
+  tag-told : (t : EdgeTag) → tagBy (tagBit t) ≡ t
+  unfolding tagBit tagBy
+  tag-told by-position = refl
+  tag-told stated = refl
+
+  its-record-by : (c : Channel) (t : EdgeTag)
+      → edgeOf (edgeRecord (record { first = a; second = b; channel = c; label = l; tag = t })) ≡ record { first = a; second = b; channel = c; label = l; tag = t }
+  unfolding edgeOf edgeRecord gateOf
+  its-record-by c t =
+      let gate = gate-told c in
+      let its = parts (l + 16 * channelBit c) (tagBit t) (gate .0) in
+      rw (its .0, its .1, its .2, its .3, gate .1, gate .2, tag-told t) refl
 
 pub its-record : (e : Edge) → e .first < 32 → e .second < 32 → e .label < 16 → edgeOf (edgeRecord e) ≡ e
-its-record e ha hb hl = its-record-by (e .first) (e .second) (e .label) ha hb hl (e .channel)
+its-record e ha hb hl = its-record-by (e .first) (e .second) (e .label) ha hb hl (e .channel) (e .tag)
 
 no-edge : (h : ℕ) → EdgeRanges h (edgeOf noEdge)
 unfolding edgeOf

@@ -1,6 +1,7 @@
 -- 01, "Conduction": values 0, 1, X; channels, and the rule that gives them by position; edges that are on; paths over on edges; joined
--- nodes. 02, "No more grouped transistors": an edge is one transistor (01's edges of several are in Grouped).
-use Prim.Native.Nat.{ℕ}
+-- nodes. 02, "No more grouped transistors": an edge is one transistor (01's edges of several are in Grouped). 02, "Pass transistors": each
+-- edge has its own channel, which the rule gives it or which is stated.
+use Prim.Native.Nat.{ℕ, zero, suc}
 use mathlib.Core.Bool.{Bool, true, false, cond, _&&_, _||_, not}
 use mathlib.Core.List.{List, [], _∷_, List·Memᴰ}
 use lib.Dec.{leb, eqb}
@@ -21,23 +22,39 @@ pub data Channel : Type 0 where
   p-channel : Channel
   n-channel : Channel
 
--- an edge of a module type, one transistor: its two nodes, its channel and its label
+-- the number that stands for a channel, 0 n, 1 p, and the channel that a number stands for; a file gives no others (refusal 7)
+unfoldable pub channelBit : Channel → ℕ
+channelBit p-channel = 1
+channelBit n-channel = 0
+
+unfoldable pub channelBy : ℕ → Channel
+channelBy zero = n-channel
+channelBy (suc b) = p-channel
+
+-- how a field of the file tells an edge's channel: by its node numbers (tag 3), or by a byte of its own (tag 7)
+pub data EdgeTag : Type 0 where
+  by-position : EdgeTag
+  stated : EdgeTag
+
+-- an edge of a module type, one transistor: its two nodes, its channel and its label; and the tag that it came with, which is kept for
+-- whoever writes the file back. Nothing here asks for it
 pub record Edge : Type 0 where
   pub first : ℕ
   pub second : ℕ
   pub channel : Channel
   pub label : ℕ
+  pub tag : EdgeTag
 
--- parallel transistors: an edge for each of their labels, in order
+-- parallel transistors of tag 3: an edge for each of their labels, in order
 unfoldable pub edgesFor : ℕ → ℕ → Channel → List ℕ → List Edge
 edgesFor a b c [] = []
-edgesFor a b c (l ∷ ls) = record { first = a; second = b; channel = c; label = l } ∷ edgesFor a b c ls
+edgesFor a b c (l ∷ ls) = record { first = a; second = b; channel = c; label = l; tag = by-position } ∷ edgesFor a b c ls
 
 unfoldable pub between : ℕ → ℕ → ℕ → Bool
 between low high m = leb low m && leb m high
 
--- the channel rule, of an edge with the ends a and b in a type with the highest node h and the output node o: with both ends in 1 to o it
--- is p-channel
+-- the channel rule of tag 3, of an edge with the ends a and b in a type with the highest node h and the output node o: with both ends in 1
+-- to o it is p-channel
 unfoldable pub pEnds : ℕ → ℕ → ℕ → Bool
 pEnds o a b = between 1 o a && between 1 o b
 
@@ -48,12 +65,12 @@ nEnd h o m = eqb m ground || between o h m
 unfoldable pub nEnds : ℕ → ℕ → ℕ → ℕ → Bool
 nEnds h o a b = nEnd h o a && nEnd h o b
 
--- any other edge is refused, as is one with equal ends (refusal 8, which reading gives)
+-- any other edge of tag 3 is refused, as is one with equal ends (refusal 8, which reading gives)
 unfoldable pub badEnds : ℕ → ℕ → ℕ → ℕ → Bool
 badEnds h o a b = eqb a b || not (pEnds o a b || nEnds h o a b)
 
 -- so of the edges that are not refused each is of one channel: only an edge from o to o would be of both, and it has equal ends. Reading
--- takes an edge's channel from here; nothing else asks where its ends are
+-- tag 3 takes an edge's channel from here; nothing else asks where its ends are
 unfoldable pub channelOf : ℕ → ℕ → ℕ → Channel
 channelOf o a b = cond (pEnds o a b) p-channel n-channel
 

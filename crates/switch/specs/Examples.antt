@@ -4,14 +4,14 @@ use Prim.Native.Nat.{ℕ, _-_}
 use mathlib.Core.Path.{_≡_}
 use mathlib.Core.List.{[], _∷_, _++_, map}
 use lib.ListN.{replicate}
-use Rattle.switch.specs.Conduction.{Edge, Channel, p-channel, n-channel}
+use Rattle.switch.specs.Conduction.{Edge, Channel, p-channel, n-channel, by-position}
 use Rattle.switch.specs.Modules.{ModuleType, mostEdges}
 use Rattle.switch.specs.Records.{noEdge, edgeRecord, typeOf, TypeGiven}
 use Rattle.switch.specs.Statements.{Accepted}
 use Rattle.switch.specs.declared.ModuleType.{ModuleType as TypeRecord}
 
 unfoldable pub edge : ℕ → ℕ → Channel → ℕ → Edge
-edge a b c l = record { first = a; second = b; channel = c; label = l }
+edge a b c l = record { first = a; second = b; channel = c; label = l; tag = by-position }
 
 unfoldable pub nand : ModuleType
 nand = record {

@@ -3,6 +3,7 @@
 --   Deciding                       Boolean tests that compute what the three say of paths
 --   Blocks                         a type judged over its settings 64 at a time
 --   Grouped                        edges of several transistors, as files had them before
+--   Tags                           edges without the tag that they came with
 --   Records, Promises              the code's records in those words, and the words that a caller is promised
 --   Statements                     the theorems that all later crates rest on
 --   Examples                       the NAND: a type that is accepted, and a record that the code takes
@@ -12,6 +13,7 @@ pub mod Bridges
 pub mod Deciding
 pub mod Blocks
 pub mod Grouped
+pub mod Tags
 pub mod Records
 pub mod Promises
 pub mod Statements

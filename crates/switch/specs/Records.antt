@@ -6,27 +6,28 @@ use mathlib.Core.List.{List, map}
 use lib.Dec.{T}
 use lib.ListN.{length, take, getD}
 use Rattle.words.specs.Bits.{bit}
-use Rattle.switch.specs.Conduction.{Value, at0, at1, atX, Edge, Channel, p-channel, n-channel, Switching}
+use Rattle.switch.specs.Conduction.{Value, at0, at1, atX, Channel, p-channel, n-channel, channelBit, channelBy, Switching}
+use Rattle.switch.specs.Conduction.{EdgeTag, by-position, stated, Edge}
 use Rattle.switch.specs.Modules.{ModuleType, mostEdges, inRange}
 use Rattle.switch.specs.declared.Edge.{Edge as EdgeRecord}
 use Rattle.switch.specs.declared.ModuleType.{ModuleType as TypeRecord}
-
--- the bit that tells a channel, and the channel that a bit tells
-unfoldable pub channelBit : Channel → ℕ
-channelBit p-channel = 1
-channelBit n-channel = 0
-
-unfoldable pub channelBy : ℕ → Channel
-channelBy zero = n-channel
-channelBy (suc b) = p-channel
 
 -- the gate of an edge, what switches it, as one number below 32: its label, which is 0 to 11, and 16 more in a p-channel edge
 unfoldable pub gateOf : Edge → ℕ
 gateOf e = e .label + 16 * channelBit (e .channel)
 
--- an edge is one number, from its lowest bit: five bits for the first node, five for the second, five for the gate
+-- the bit that tells the tag of an edge, and the tag that a bit tells
+unfoldable pub tagBit : EdgeTag → ℕ
+tagBit by-position = 0
+tagBit stated = 1
+
+unfoldable pub tagBy : ℕ → EdgeTag
+tagBy zero = by-position
+tagBy (suc b) = stated
+
+-- an edge is one number, from its lowest bit: five bits for the first node, five for the second, five for the gate, one for the tag
 unfoldable pub edgeRecord : Edge → EdgeRecord
-edgeRecord e = record { code = e .first + 32 * e .second + 1024 * gateOf e }
+edgeRecord e = record { code = e .first + 32 * e .second + 1024 * gateOf e + 32768 * tagBit (e .tag) }
 
 abbrev pub firstNodeIn : EdgeRecord → ℕ
 firstNodeIn r = r .code % 32
@@ -40,9 +41,15 @@ gateIn r = r .code / 1024 % 32
 abbrev pub labelIn : EdgeRecord → ℕ
 labelIn r = gateIn r % 16
 
+abbrev pub channelIn : EdgeRecord → Channel
+channelIn r = channelBy (gateIn r / 16)
+
+abbrev pub tagIn : EdgeRecord → EdgeTag
+tagIn r = tagBy (r .code / 32768)
+
 -- the edge of a record
 unfoldable pub edgeOf : EdgeRecord → Edge
-edgeOf r = record { first = firstNodeIn r; second = secondNodeIn r; channel = channelBy (gateIn r / 16); label = labelIn r }
+edgeOf r = record { first = firstNodeIn r; second = secondNodeIn r; channel = channelIn r; label = labelIn r; tag = tagIn r }
 
 -- what stands in the places of a type that no edge fills, and past the end of a list of edge records. It is no edge of a file: its ends are
 -- equal

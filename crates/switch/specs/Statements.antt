@@ -15,7 +15,7 @@ use Rattle.switch.specs.Deciding.{joins, isComplementary, levelIn, outpu
 use Rattle.switch.specs.Records.{valueOf, complement, byPlanes}
 use Rattle.switch.specs.Promises.{railWords, PlanesHold, planes, planesOf}
 
--- 01, "Conduction": an edge that is not refused is p-channel or n-channel, and not both
+-- 01, "Conduction": an edge of tag 3 that is not refused is p-channel or n-channel, and not both
 abbrev pub OneChannel : Type 0
 OneChannel = (h o a b : ℕ) → badEnds h o a b ≡ false → pEnds o a b ≡ not (nEnds h o a b)
 

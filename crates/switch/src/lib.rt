@@ -8,7 +8,7 @@ pub const MOST_NODES: usize = 32;
 
 pub const MOST_LABELS: usize = 12;
 
-// An edge of a module type, one transistor: its two nodes, its label and its channel in one number, which `edges` makes and takes apart. So the edges of a type fill half a kilobyte.
+// An edge of a module type, one transistor: its two nodes, its label, its channel and the tag it came with in one number, which `edges` makes and takes apart. So the edges of a type fill half a kilobyte.
 pub struct Edge {
     pub code: u16,
 }

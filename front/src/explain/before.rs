@@ -1,7 +1,7 @@
 //! What the fields before a place say. They are good ones: the refusal is the first.
 
-use second::bodies::{bridge_of, edges_of, inputs_of, instance_of, module_of};
-use second::circuit::Circuit;
+use second::bodies::{bridge_of, edges_of, inputs_of, instance_of, module_of, pass_of};
+use second::circuit::{Circuit, Edge, ModuleType};
 use second::faults::faults_of;
 use second::fields::{cut, Field};
 use second::format::{Tag, MOST_GROUPED};
@@ -37,7 +37,7 @@ impl Before {
         match tag {
             Tag::Inputs => self.circuit.inputs = inputs_of(body),
             Tag::Type => self.circuit.types.push(module_of(body)),
-            Tag::Edge => self.take_edge(body),
+            Tag::Edge | Tag::Pass => self.take_edge(tag, body),
             Tag::Bridge => self.take_bridge(field),
             Tag::Instance => self.take_instance(body),
             Tag::Vector => self.vectors += 1,
@@ -46,12 +46,10 @@ impl Before {
         self.latest_tag = Some(tag);
     }
 
-    fn take_edge(&mut self, body: &[u8]) {
+    fn take_edge(&mut self, tag: Tag, body: &[u8]) {
         let latest = self.circuit.types.last_mut();
         let module = latest.expect("an edge that is not refused stands after its type");
-        let edges = edges_of(body, module.output);
-        let edges = edges.expect("an edge that is not refused has a channel");
-        module.edges.extend(edges);
+        module.edges.extend(edges_in(module, tag, body));
     }
 
     fn take_bridge(&mut self, field: &Field) {
@@ -72,7 +70,7 @@ impl Before {
         format!("field {}", self.fields + 1)
     }
 
-    /// The number of the first edge that the next field has, if it is an edge field.
+    /// The number of the first edge that the next field has, if it is one of edges.
     pub fn next_edge(&self) -> usize {
         let latest = self.circuit.types.last();
         1 + latest.map_or(0, |module| module.edges.len())
@@ -89,6 +87,10 @@ impl Before {
             Tag::Bridge => format!("bridge {}", circuit.bridges.len() + 1),
             Tag::Instance => format!("instance {}", circuit.instances.len() + 1),
             Tag::Vector => format!("vector {}", self.vectors + 1),
+            Tag::Pass => {
+                let number = self.next_edge();
+                format!("edge {number} of type {types} (a pass transistor)")
+            }
         }
     }
 
@@ -101,4 +103,13 @@ impl Before {
             _ => format!("edge {first}"),
         }
     }
+}
+
+/// The edges of a field that is not refused.
+pub fn edges_in(module: &ModuleType, tag: Tag, body: &[u8]) -> Vec<Edge> {
+    let edges = match tag {
+        Tag::Pass => pass_of(body).map(|pass| vec![pass]),
+        _ => edges_of(body, module.output),
+    };
+    edges.expect("an edge that is not refused has a channel")
 }

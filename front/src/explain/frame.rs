@@ -26,6 +26,7 @@ fn meaning(tag: Tag) -> &'static str {
         Tag::Bridge => "a bridge",
         Tag::Instance => "an instance",
         Tag::Vector => "a vector",
+        Tag::Pass => "a pass transistor",
     }
 }
 
@@ -82,6 +83,9 @@ pub fn out_of_order(scene: &Scene) -> Told {
     let rule = match scene.tag() {
         Tag::Inputs => "the number of inputs (tag 1) stands once, at the start of the file.",
         Tag::Edge => "an edge stands right after its type or after another edge of that type.",
+        Tag::Pass => {
+            "a pass transistor stands right after its type or after another edge of that type."
+        }
         Tag::Type | Tag::Bridge | Tag::Instance | Tag::Vector => {
             "after the number of inputs come the types with their edges, then the bridges, \
               then the instances, then the vectors."
@@ -110,6 +114,9 @@ pub fn wrong_length(scene: &Scene) -> Told {
             2 + 2 * MOST_LABELS
         ),
         Tag::Vector => format!("a vector takes 1 byte for each primary input, here {inputs}."),
+        Tag::Pass => {
+            "a pass transistor takes 4 bytes: two nodes, its channel, its label.".to_string()
+        }
     };
     let length = count(scene.field.body.len(), "byte");
     Told::new(rule, format!("its length says {length}."))
@@ -118,14 +125,18 @@ pub fn wrong_length(scene: &Scene) -> Told {
 pub fn one_too_many(scene: &Scene) -> Told {
     let (owner, most, things) = match scene.tag() {
         Tag::Type => ("a file", MOST_TYPES, "types"),
-        Tag::Edge => ("a type", MOST_EDGES, "edges, counted by label"),
+        Tag::Edge | Tag::Pass => (
+            "a type",
+            MOST_EDGES,
+            "edges, counted by label, pass transistors among them",
+        ),
         Tag::Bridge => ("a file", MOST_BRIDGES, "bridges"),
         Tag::Instance => ("a file", MOST_INSTANCES, "instances"),
         Tag::Vector => ("a file", MOST_VECTORS, "vectors"),
         Tag::Inputs => unreachable!("a second number of inputs is out of order"),
     };
     let rule = format!("{owner} has at most {most} {things}.");
-    let is_several = scene.tag().is_edge() && scene.field.body.len() > 3;
+    let is_several = scene.tag() == Tag::Edge && scene.field.body.len() > 3;
     let these = if is_several { "these are" } else { "this is" };
     Told::new(rule, format!("{these} {}.", scene.name()))
 }

@@ -2,7 +2,7 @@
 //! is told.
 
 use second::bodies::{inputs_of, instance_of, value_of};
-use second::circuit::Kind;
+use second::circuit::{Channel, Kind};
 use second::faults::EXHAUSTIVE;
 use second::format::{Tag, HIGHEST_LIST, HIGHEST_NODE, MOST_INPUTS, MOST_LABELS};
 
@@ -17,6 +17,7 @@ pub fn out_of_range(scene: &Scene) -> Told {
         Tag::Bridge => bridge(body),
         Tag::Instance => instance(scene, body),
         Tag::Vector => vector(body),
+        Tag::Pass => pass(scene, body),
     };
     Told::new(rule, sentence(slips))
 }
@@ -76,6 +77,26 @@ fn edge(scene: &Scene, body: &[u8]) -> (String, Vec<String>) {
         if *label >= labels {
             slips.push(format!("edge {edge} has label {label}"));
         }
+    }
+    (rule, slips)
+}
+
+fn pass(scene: &Scene, body: &[u8]) -> (String, Vec<String>) {
+    let (number, module) = scene.latest_type();
+    let (first, second, channel, label) = (body[0], body[1], body[2], body[3]);
+    let rule = format!(
+        "a pass transistor has two different nodes and a label of its type, and a channel of 0 \
+         (n) or 1 (p); {}.",
+        has(number, module)
+    );
+    let mut slips = slips([
+        ("the first node", first, first <= module.highest),
+        ("the second node", second, second <= module.highest),
+        ("the channel", channel, Channel::of(channel).is_some()),
+        ("the label", label, label < module.labels),
+    ]);
+    if first == second {
+        slips.push(format!("both ends are node {first}"));
     }
     (rule, slips)
 }

@@ -1,12 +1,13 @@
 //! Refusals 8 and 9: an edge that has no channel, and a type whose output is joined
 //! to both rails or to neither under some setting of its labels.
 
-use second::bodies::{edges_of, module_of};
+use second::bodies::module_of;
 use second::circuit::ModuleType;
 use second::conduction::{is_on, values_in, GROUND, SUPPLY};
 use second::fields::{cut, Field};
 use second::format::Tag;
 
+use super::before::edges_in;
 use super::{count, listed, span, Scene, Told};
 
 pub fn no_channel(scene: &Scene) -> Told {
@@ -40,12 +41,9 @@ pub fn no_channel(scene: &Scene) -> Told {
 pub fn not_complementary(scene: &Scene, bytes: &[u8]) -> (String, Told) {
     let mut module = module_of(scene.field.body);
     let mut end = scene.field.end();
-    let is_edge = |next: &Field| Tag::of(next.tag).is_some_and(Tag::is_edge);
-    while let Some(next) = cut(bytes, end).ok().filter(is_edge) {
-        let edges = edges_of(next.body, module.output);
-        module
-            .edges
-            .extend(edges.expect("an edge of a type that is judged has a channel"));
+    while let Some((tag, next)) = next_edge(bytes, end) {
+        let edges = edges_in(&module, tag, next.body);
+        module.edges.extend(edges);
         end = next.end();
     }
     let name = scene.name();
@@ -61,6 +59,13 @@ pub fn not_complementary(scene: &Scene, bytes: &[u8]) -> (String, Told) {
     let rule = "a type is complementary: under each setting of its labels to 0 and 1 its output \
                 is joined to exactly one of supply (node 1) and ground (node 0).";
     (field, Told::new(rule, bad_setting(&module)))
+}
+
+/// The field at this place with its tag, if it is one of edges.
+fn next_edge(bytes: &[u8], place: usize) -> Option<(Tag, Field<'_>)> {
+    let field = cut(bytes, place).ok()?;
+    let tag = Tag::of(field.tag).filter(|tag| tag.is_edge())?;
+    Some((tag, field))
 }
 
 /// The first setting, in counting order with label 0 as the lowest digit, under

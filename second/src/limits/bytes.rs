@@ -3,7 +3,7 @@
 //! file has 57,344 bytes, so at the limit another number is given.
 
 use super::{named, NamedFile};
-use crate::builder::FileBuilder;
+use crate::builder::{FileBuilder, N, P};
 use crate::starts::inverter_file;
 
 /// 65,578 is 42 more than two bytes hold, as the inverter's file is long.
@@ -14,10 +14,14 @@ const LENGTHS: [usize; 12] = [
 
 const GOOD_LENGTHS: [usize; 6] = [32_767, 32_768, 32_769, 32_770, 40_000, 47_000];
 
+/// The labels in each edge field of a type.
+type Sizes<'a> = &'a [usize];
+
 pub fn files() -> Vec<NamedFile> {
     let mut files = vec![
-        named("bytes-47333-fullest", fullest()),
-        named("bytes-31973-fullest-by-4", filled(&[[4; 64]; 16])),
+        named("bytes-51429-fullest", fullest()),
+        named("bytes-47333-fullest-by-1", filled(&[&[1; 256][..]; 16])),
+        named("bytes-31973-fullest-by-4", filled(&[&[4; 64][..]; 16])),
     ];
     for length in GOOD_LENGTHS {
         let name = format!("bytes-{length}-fewer-edges");
@@ -38,21 +42,22 @@ pub fn files() -> Vec<NamedFile> {
     files
 }
 
-/// All but the edges at the limit. For each type, the labels in each of its edge
-/// fields, which lead from supply and to ground in turn.
-fn filled(types: &[impl AsRef<[usize]>]) -> FileBuilder {
+/// After the types, as much as there may be.
+fn with_rest(types: FileBuilder) -> FileBuilder {
     let vector = "10X1".repeat(16);
     types
-        .iter()
-        .fold(FileBuilder::inputs(64), |file, sizes| {
-            with_type(file, sizes.as_ref())
-        })
         .times(256, |file| file.bridge(1, 0, 0, 1))
         .times(128, |file| file.instance(16, 0, &[64; 12]))
         .times(256, |file| file.vectors(&[vector.as_str()]))
 }
 
-fn with_type(file: FileBuilder, sizes: &[usize]) -> FileBuilder {
+/// All but the edges at the limit. Those of a type lead from supply and to ground in turn.
+fn filled(types: &[Sizes]) -> FileBuilder {
+    let types = types.iter().copied();
+    with_rest(types.fold(FileBuilder::inputs(64), with_type))
+}
+
+fn with_type(file: FileBuilder, sizes: Sizes) -> FileBuilder {
     let ends = [[1, 31], [31, 0]].into_iter().cycle();
     let edges = sizes.iter().zip(ends);
     edges.fold(file.field(2, &[31, 31, 12]), |file, (&size, ends)| {
@@ -60,17 +65,22 @@ fn with_type(file: FileBuilder, sizes: &[usize]) -> FileBuilder {
     })
 }
 
-/// The fullest file that the other limits allow: 47,333 bytes.
+/// The fullest file that the other limits allow: 51,429 bytes. A pass transistor takes 7
+/// bytes, more than an edge of tag 3 can.
 fn fullest() -> FileBuilder {
-    filled(&[[1; 256]; 16])
+    let with_passes = |file: FileBuilder| {
+        let file = file.field(2, &[31, 31, 12]);
+        file.times(128, |file| file.pass(1, 31, P, 11).pass(31, 0, N, 11))
+    };
+    with_rest(FileBuilder::inputs(64).times(16, with_passes))
 }
 
 /// A field of one label takes 6 bytes, one of two labels 7.
 fn with_fewer_edges(length: usize) -> FileBuilder {
-    let bytes = length - filled(&[[]; 16]).end();
+    let bytes = length - filled(&[&[][..]; 16]).end();
     let mut sizes = vec![1; bytes / 6];
     sizes[..bytes % 6].fill(2);
-    let types: Vec<&[usize]> = sizes.chunks(sizes.len().div_ceil(16)).collect();
+    let types: Vec<Sizes> = sizes.chunks(sizes.len().div_ceil(16)).collect();
     filled(&types)
 }
 

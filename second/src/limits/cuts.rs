@@ -1,13 +1,15 @@
-//! Two good files cut to every length, their own among them.
+//! Three good files cut to every length, their own among them.
 
 use super::{named, NamedFile};
 use crate::builder::FileBuilder;
+use crate::samples::mux;
 use crate::starts::{every_kind_file, inverter_file};
 
 pub fn files() -> Vec<NamedFile> {
     let whole_files = [
         ("inverter", inverter_file()),
         ("every-kind", every_kind_file()),
+        ("mux", mux()),
     ];
     whole_files
         .iter()

@@ -9,7 +9,7 @@ use crate::builder::FileBuilder;
 const COUNTS: [usize; 10] = [64, 65, 253, 254, 255, 256, 257, 258, 259, 260];
 
 /// Edges that decide alone, from 1: at the ends, and around each 64.
-const DECIDING: [usize; 7] = [1, 64, 65, 128, 129, 255, 256];
+pub const DECIDING: [usize; 7] = [1, 64, 65, 128, 129, 255, 256];
 
 /// Ends of an edge from supply, and of one to ground.
 const P: [u8; 2] = [1, 2];
@@ -31,7 +31,7 @@ pub fn files() -> Vec<NamedFile> {
     files
 }
 
-fn start() -> FileBuilder {
+pub fn start() -> FileBuilder {
     FileBuilder::inputs(1)
 }
 
@@ -41,7 +41,7 @@ fn with_type(file: FileBuilder, bodies: &[Vec<u8>]) -> FileBuilder {
     bodies.iter().fold(file, |file, body| file.field(3, body))
 }
 
-fn whole(file: FileBuilder) -> FileBuilder {
+pub fn whole(file: FileBuilder) -> FileBuilder {
     file.instance(1, -1, &[1, 1]).vectors(&["0", "1"])
 }
 

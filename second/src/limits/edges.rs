@@ -8,12 +8,19 @@ use super::{named, NamedFile};
 use crate::builder::FileBuilder;
 
 /// Highest node, output node and the nodes that are tried at both ends.
-const GRIDS: [(u8, u8, &[u8]); 5] = [
+pub const GRIDS: [(u8, u8, &[u8]); 5] = [
     (2, 2, &[0, 1, 2, 3, 255]),
     (4, 2, &[0, 1, 2, 3, 4, 5, 255]),
     (4, 4, &[0, 1, 2, 3, 4, 5, 255]),
     (6, 4, &[0, 1, 2, 3, 4, 5, 6, 7, 31, 32, 255]),
     (31, 17, &[0, 1, 2, 16, 17, 18, 30, 31, 32, 128, 255]),
+];
+
+/// How many labels a type has, and those that are tried.
+pub const LABELS: [(u8, &[u8]); 3] = [
+    (1, &[0, 1, 2, 11, 12, 128, 255]),
+    (2, &[0, 1, 2, 3, 11, 12, 128, 255]),
+    (12, &[0, 11, 12, 13, 128, 255]),
 ];
 
 pub fn files() -> Vec<NamedFile> {
@@ -27,8 +34,8 @@ pub fn files() -> Vec<NamedFile> {
             }
         }
     }
-    for labels in [1, 2, 12] {
-        files.extend(label_files(labels));
+    for (labels, tried) in LABELS {
+        files.extend(label_files(labels, tried));
     }
     files
 }
@@ -47,12 +54,11 @@ fn with_edge(numbers: [u8; 3], edge: &[u8]) -> FileBuilder {
 
 /// One to four labels, with one of them at an end of the range. The edge leads to
 /// a node without other edges, so any label leaves the type complementary.
-fn label_files(labels: u8) -> Vec<NamedFile> {
-    let tried = [0, labels - 1, labels, labels + 1, 11, 12, 128, 255];
+fn label_files(labels: u8, tried: &[u8]) -> Vec<NamedFile> {
     let mut bodies = BTreeSet::new();
     for count in 1..=4 {
         for place in 0..count {
-            for label in tried {
+            for &label in tried {
                 let mut body = vec![1, 2];
                 body.resize(2 + count, 0);
                 body[2 + place] = label;

@@ -13,7 +13,7 @@ const HIGH_BYTE: [usize; 15] = [
 
 pub fn files() -> Vec<NamedFile> {
     let mut files = Vec::new();
-    for tag in 1..=6 {
+    for tag in 1..=7 {
         for length in (0..=30).chain(HIGH_BYTE) {
             let file = framed(tag, &body(tag, length));
             files.push(named(format!("length-tag{tag}-{length}"), file));

@@ -4,9 +4,9 @@
 //!
 //! Pairs that cannot meet: 1 and 14, since no file without another fault is that
 //! long; 3 with 6 to 13, which ask for a known tag; 8 with 10 to 13, since no tag
-//! has both; 9 with 11 or 13, since no bridge and no instance stands between a type
-//! and the instance that judges it; 12 with 11 or 13, since an empty list has no
-//! bridge that fits badly and adds no fault.
+//! has both (a pass transistor has neither); 9 with 11 or 13, since no bridge and no
+//! instance stands between a type and the instance that judges it; 12 with 11 or 13,
+//! since an empty list has no bridge that fits badly and adds no fault.
 
 mod bodies;
 mod heads;

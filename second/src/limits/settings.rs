@@ -9,7 +9,7 @@ use super::{named, NamedFile};
 use crate::builder::{EdgeRow, FileBuilder};
 
 /// How many labels, and settings of them.
-const SINGLES: [(u8, &[u16]); 6] = [
+pub const SINGLES: [(u8, &[u16]); 6] = [
     (1, &[0, 1]),
     (2, &[0, 1, 2, 3]),
     (5, &[0, 1, 15, 16, 30, 31]),
@@ -42,7 +42,7 @@ const RUNS: [(u8, u16, u8); 12] = [
 const PLACES: [u16; 3] = [0, 1, 63];
 
 /// What the output is joined to under the settings: whether ground, whether supply.
-const JOINED: [(&str, bool, bool); 4] = [
+pub const JOINED: [(&str, bool, bool); 4] = [
     ("both", true, true),
     ("neither", false, false),
     ("ground", true, false),

@@ -1,4 +1,4 @@
-//! Every pair of a field's tag and the next field's, from 0 to 7: in a file that
+//! Every pair of a field's tag and the next field's, from 0 to 8: in a file that
 //! has all kinds up to the first of them, and with nothing but the inputs before.
 
 use super::frame::{before, good_body, with_rest};
@@ -6,7 +6,7 @@ use super::{named, NamedFile};
 use crate::builder::FileBuilder;
 use crate::starts::{nothing, two_inputs};
 
-const TAGS: std::ops::RangeInclusive<u8> = 0..=7;
+const TAGS: std::ops::RangeInclusive<u8> = 0..=8;
 
 pub fn files() -> Vec<NamedFile> {
     let mut files = Vec::new();

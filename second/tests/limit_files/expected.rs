@@ -76,13 +76,14 @@ const BYTES_AND_CUTS: &[Expected] = &[
     ("bytes-32769-fewer-edges", None),
     ("bytes-32769-inverter-then-zeros", Some((3, 42))),
     ("bytes-47000-fewer-edges", None),
-    ("bytes-47333-fullest", None),
+    ("bytes-47333-fullest-by-1", None),
+    ("bytes-51429-fullest", None),
     ("bytes-57344-inverter-then-zeros", Some((3, 42))),
     ("bytes-57345-inverter-then-zeros", Some((1, 0))),
     ("bytes-57344-all-255", Some((2, 0))),
     ("bytes-57345-all-255", Some((1, 0))),
-    ("bytes-57344-fullest-then-long-vector", Some((5, 47_333))),
-    ("bytes-57344-fullest-then-cut-vector", Some((2, 47_333))),
+    ("bytes-57344-fullest-then-long-vector", Some((5, 51_429))),
+    ("bytes-57344-fullest-then-cut-vector", Some((2, 51_429))),
     ("bytes-65578-inverter-then-zeros", Some((1, 0))),
     ("bytes-1000000-all-255", Some((1, 0))),
     ("cut-inverter-0-of-42", Some((14, 0))),
@@ -95,8 +96,16 @@ const BYTES_AND_CUTS: &[Expected] = &[
     ("cut-inverter-34-of-42", None),
     ("cut-inverter-41-of-42", Some((2, 38))),
     ("cut-inverter-42-of-42", None),
-    ("cut-every-kind-176-of-177", Some((2, 171))),
-    ("cut-every-kind-177-of-177", None),
+    ("cut-every-kind-89-of-185", Some((2, 83))),
+    ("cut-every-kind-90-of-185", Some((9, 49))),
+    ("cut-every-kind-184-of-185", Some((2, 179))),
+    ("cut-every-kind-185-of-185", None),
+    ("cut-mux-18-of-123", Some((2, 17))),
+    ("cut-mux-23-of-123", Some((2, 17))),
+    ("cut-mux-24-of-123", Some((9, 5))),
+    ("cut-mux-51-of-123", Some((2, 45))),
+    ("cut-mux-52-of-123", Some((14, 52))),
+    ("cut-mux-123-of-123", None),
 ];
 
 const LENGTHS: &[Expected] = &[
@@ -122,6 +131,11 @@ const LENGTHS: &[Expected] = &[
     ("length-tag6-3", Some((5, 58))),
     ("length-tag6-64-for-64-inputs", None),
     ("length-tag6-65-for-64-inputs", Some((5, 30))),
+    ("length-tag7-0", Some((5, 23))),
+    ("length-tag7-3", Some((5, 23))),
+    ("length-tag7-4", None),
+    ("length-tag7-5", Some((5, 23))),
+    ("length-tag7-260", Some((5, 23))),
 ];
 
 const TYPES_AND_EDGES: &[Expected] = &[
@@ -147,6 +161,84 @@ const TYPES_AND_EDGES: &[Expected] = &[
     ("edge-ends-7-7-in-h6-o4", Some((7, 23))),
     ("edge-labels-11-of-k12", None),
     ("edge-labels-0-0-0-12-of-k12", Some((7, 23))),
+];
+
+/// Behind an inverter of 12 bytes of edges, at 23, but for what is judged at its type.
+const PASSES: &[Expected] = &[
+    ("pass-ends-1-4-p-in-h6-o4", None),
+    ("pass-ends-1-4-n-in-h6-o4", Some((9, 5))),
+    ("pass-ends-0-4-p-in-h6-o4", Some((9, 5))),
+    ("pass-ends-5-1-p-in-h6-o4", None),
+    ("pass-ends-0-1-n-in-h6-o4", Some((9, 5))),
+    ("pass-ends-0-0-n-in-h6-o4", Some((7, 23))),
+    ("pass-ends-7-1-p-in-h6-o4", Some((7, 23))),
+    ("pass-ends-1-7-p-in-h6-o4", Some((7, 23))),
+    ("pass-ends-30-2-n-in-h31-o17", None),
+    ("pass-ends-32-2-n-in-h31-o17", Some((7, 23))),
+    ("pass-equal-4-p-in-h6-o4", Some((7, 23))),
+    ("pass-equal-32-n-in-h31-o31", Some((7, 23))),
+    ("pass-channel-0", None),
+    ("pass-channel-1", None),
+    ("pass-channel-2", Some((7, 23))),
+    ("pass-channel-128", Some((7, 23))),
+    ("pass-channel-255", Some((7, 23))),
+    ("pass-label-11-n-of-k12", None),
+    ("pass-label-12-n-of-k12", Some((7, 23))),
+    ("pass-as-edge-3", Some((5, 23))),
+    ("pass-as-edge-4", Some((9, 5))),
+    ("pass-runs-256-passes", None),
+    ("pass-runs-257-passes", Some((6, 11 + 256 * 7))),
+    ("pass-runs-256-by-1-1-passes", Some((6, 11 + 256 * 6))),
+    ("pass-runs-256-passes-1-by-1", Some((6, 11 + 256 * 7))),
+    (
+        "pass-runs-253-by-1-1-passes-1-by-4",
+        Some((6, 11 + 253 * 6 + 7)),
+    ),
+    ("pass-runs-251-by-1-1-passes-1-by-4", None),
+    ("pass-turns-256", None),
+    ("pass-turns-257", Some((6, 11 + 128 * 6 + 128 * 7))),
+    ("pass-turns-256-of-which-256-breaks", Some((9, 5))),
+    ("pass-turns-256-of-which-65-is-needed", None),
+    ("pass-turns-256-in-each-of-16-types", None),
+    (
+        "pass-turns-256-then-a-pass-in-type-16",
+        Some((6, 5 + 16 * (6 + 128 * 13))),
+    ),
+    ("pass-setting-0-of-k1-both-else-supply", Some((9, 5))),
+    ("pass-setting-63-of-k6-neither-else-ground", Some((9, 5))),
+    ("pass-setting-64-of-k7-ground-else-supply", None),
+    ("pass-setting-4095-of-k12-both-by-the-rails", Some((9, 5))),
+    ("pass-setting-4095-of-k12-supply-else-supply", None),
+    ("pass-shows-0-2-n-in-h4-o3", None),
+    ("pass-shows-0-2-p-in-h4-o3", Some((9, 5))),
+];
+
+/// Half a type takes 12 bytes and begins at 5; a pass transistor takes 7 behind it.
+const JUDGED: &[Expected] = &[
+    ("pass-judged-bare-then-both", None),
+    ("pass-judged-bare-then-one", Some((9, 5))),
+    ("pass-judged-half-then-its-other", None),
+    ("pass-judged-half-then-the-same", Some((9, 5))),
+    ("pass-judged-half-then-a-short", Some((9, 5))),
+    ("pass-judged-half-then-an-opposite", None),
+    ("pass-judged-whole-then-the-same", None),
+    ("pass-judged-whole-then-a-short", Some((9, 5))),
+    ("pass-judged-whole-then-an-opposite", Some((9, 5))),
+    ("pass-judged-whole-then-the-rails", Some((9, 5))),
+    ("pass-judged-broken-then-the-end", Some((9, 5))),
+    ("pass-judged-broken-then-tag-0", Some((3, 24))),
+    ("pass-judged-broken-then-tag-1", Some((4, 24))),
+    ("pass-judged-broken-then-tag-2", Some((9, 5))),
+    ("pass-judged-broken-then-tag-3", Some((9, 5))),
+    ("pass-judged-broken-then-tag-4", Some((9, 5))),
+    ("pass-judged-broken-then-tag-5", Some((9, 5))),
+    ("pass-judged-broken-then-tag-6", Some((9, 5))),
+    ("pass-judged-broken-then-tag-7", Some((9, 5))),
+    ("pass-judged-broken-then-tag-8", Some((3, 24))),
+    ("pass-judged-broken-then-tag-4-cut", Some((2, 24))),
+    ("pass-judged-broken-then-tag-7-cut", Some((2, 24))),
+    ("pass-judged-second-broken", Some((9, 23))),
+    ("pass-judged-second-whole", None),
 ];
 
 const SETTINGS: &[Expected] = &[
@@ -233,12 +325,26 @@ const TAGS_AND_ORDERS: &[Expected] = &[
     ("tags-3-then-4", None),
     ("tags-2-then-4", Some((9, 5))),
     ("tags-5-then-4", Some((4, 58))),
+    ("tags-none-then-7", Some((4, 0))),
+    ("tags-1-then-7", Some((4, 5))),
+    ("tags-2-then-7", None),
+    ("tags-3-then-7", None),
+    ("tags-7-then-3", None),
+    ("tags-7-then-7", None),
+    ("tags-4-then-7", Some((4, 30))),
+    ("tags-5-then-7", Some((4, 58))),
+    ("tags-6-then-7", Some((4, 63))),
+    ("tags-7-then-8", Some((3, 30))),
     ("order-2-before-9-head", Some((2, 17))),
     ("order-9-before-5-tag4", Some((9, 5))),
     ("order-9-before-5-tag4-mended", Some((5, 23))),
     ("order-5-before-6-tag3-five", Some((5, 11 + 253 * 6))),
     ("order-6-before-7-pair-first-label", Some((6, 23 + 253 * 6))),
     ("order-6-before-8-four-channel", Some((6, 23 + 251 * 6))),
+    ("order-5-before-7-pass-equal", Some((5, 23))),
+    ("order-5-before-7-pass-equal-mended", Some((7, 23))),
+    ("order-6-before-7-pass-channel", Some((6, 23 + 254 * 7))),
+    ("order-7-before-9-pass-equal", Some((7, 17))),
     ("order-6-before-13", Some((6, 2_711))),
     ("order-6-before-13-mended", Some((13, 2_704))),
     ("order-11-before-13", Some((11, 1_899))),
@@ -279,6 +385,12 @@ fn lengths() {
 #[test]
 fn types_and_edges() {
     check(TYPES_AND_EDGES);
+}
+
+#[test]
+fn passes() {
+    check(PASSES);
+    check(JUDGED);
 }
 
 #[test]

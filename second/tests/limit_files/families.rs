@@ -6,7 +6,7 @@ use crate::support::refusal;
 
 /// Checks the number that a rule gives for the numbers in each name that starts
 /// so, 0 for an accepted file; answers with how many files there were.
-fn check(prefix: &str, rule: impl Fn(&str, &[usize]) -> u8) -> usize {
+pub fn check(prefix: &str, rule: impl Fn(&str, &[usize]) -> u8) -> usize {
     let mut count = 0;
     for file in limit_files() {
         if let Some(rest) = file.name.strip_prefix(prefix) {
@@ -45,12 +45,12 @@ fn list_choices() {
 #[test]
 fn field_lengths() {
     let good = |length: usize, allowed: &[usize]| if allowed.contains(&length) { 0 } else { 5 };
-    for tag in [1, 2, 3, 4, 6] {
+    for tag in [1, 2, 3, 4, 6, 7] {
         let rule = |_: &str, numbers: &[usize]| match (tag, numbers) {
             (1, [length]) => good(*length, &[2]),
             (2, [length]) => good(*length, &[3]),
             (3, [length]) => good(*length, &[3, 4, 5, 6]),
-            (4, [length]) => good(*length, &[4]),
+            (4 | 7, [length]) => good(*length, &[4]),
             (_, [length]) => good(*length, &[2]),
             (_, numbers) => good(numbers[0], &[64]),
         };
@@ -161,45 +161,47 @@ fn references() {
 }
 
 /// The number for each tag, in a row for each tag before; 0 is accepted.
-type TagPairs = [[u8; 8]; 8];
+type TagPairs = [[u8; 9]; 9];
 
 const IN_A_WHOLE_FILE: TagPairs = [
-    [3, 3, 3, 3, 3, 3, 3, 3],
-    [3, 4, 0, 4, 7, 7, 14, 3],
-    [3, 4, 9, 0, 9, 9, 9, 3],
-    [3, 4, 0, 0, 0, 0, 14, 3],
-    [3, 4, 4, 4, 0, 0, 14, 3],
-    [3, 4, 4, 4, 4, 0, 0, 3],
-    [3, 4, 4, 4, 4, 4, 0, 3],
-    [3, 3, 3, 3, 3, 3, 3, 3],
+    [3, 3, 3, 3, 3, 3, 3, 3, 3],
+    [3, 4, 0, 4, 7, 7, 14, 4, 3],
+    [3, 4, 9, 0, 9, 9, 9, 0, 3],
+    [3, 4, 0, 0, 0, 0, 14, 0, 3],
+    [3, 4, 4, 4, 0, 0, 14, 4, 3],
+    [3, 4, 4, 4, 4, 0, 0, 4, 3],
+    [3, 4, 4, 4, 4, 4, 0, 4, 3],
+    [3, 4, 0, 0, 0, 0, 14, 0, 3],
+    [3, 3, 3, 3, 3, 3, 3, 3, 3],
 ];
 
 const AFTER_THE_INPUTS_ALONE: TagPairs = [
-    [3, 3, 3, 3, 3, 3, 3, 3],
-    [4, 4, 4, 4, 4, 4, 4, 4],
-    [3, 4, 9, 9, 9, 9, 9, 3],
-    [4, 4, 4, 4, 4, 4, 4, 4],
-    [3, 4, 4, 4, 14, 7, 14, 3],
-    [7, 7, 7, 7, 7, 7, 7, 7],
-    [3, 4, 4, 4, 4, 4, 14, 3],
-    [3, 3, 3, 3, 3, 3, 3, 3],
+    [3, 3, 3, 3, 3, 3, 3, 3, 3],
+    [4, 4, 4, 4, 4, 4, 4, 4, 4],
+    [3, 4, 9, 9, 9, 9, 9, 9, 3],
+    [4, 4, 4, 4, 4, 4, 4, 4, 4],
+    [3, 4, 4, 4, 14, 7, 14, 4, 3],
+    [7, 7, 7, 7, 7, 7, 7, 7, 7],
+    [3, 4, 4, 4, 4, 4, 14, 4, 3],
+    [4, 4, 4, 4, 4, 4, 4, 4, 4],
+    [3, 3, 3, 3, 3, 3, 3, 3, 3],
 ];
 
 #[test]
 fn pairs_of_tags() {
-    for before in 0..8 {
+    for before in 0..9 {
         let rule = |rest: &str, numbers: &[usize]| match rest.ends_with("and-no-more") {
             true => AFTER_THE_INPUTS_ALONE[before][numbers[0]],
             false => IN_A_WHOLE_FILE[before][numbers[0]],
         };
-        assert_eq!(check(&format!("tags-{before}-then-"), rule), 16);
+        assert_eq!(check(&format!("tags-{before}-then-"), rule), 18);
     }
     let first = |_: &str, numbers: &[usize]| match numbers[0] {
         1 => 0,
-        2..=6 => 4,
+        2..=7 => 4,
         _ => 3,
     };
-    assert_eq!(check("tags-none-then-", first), 10);
+    assert_eq!(check("tags-none-then-", first), 11);
 }
 
 /// Inside a field a cut is always 2; these are the numbers at the ends of fields.
@@ -213,10 +215,17 @@ fn cuts() {
     };
     assert_eq!(check("cut-inverter-", inverter), 43);
     let every_kind = |_: &str, numbers: &[usize]| match numbers[0] {
-        0 | 5 | 23 | 49 | 95 | 102 | 109 | 116 | 123 | 130 | 139 | 152 | 159 => 14,
-        11 | 17 | 29 | 37 | 43 | 55 | 62 | 71 | 77 | 83 | 89 => 9,
-        165 | 171 | 177 => 0,
+        0 | 5 | 23 | 49 | 103 | 110 | 117 | 124 | 131 | 138 | 147 | 160 | 167 => 14,
+        11 | 17 | 29 | 37 | 43 | 55 | 62 | 71 | 77 | 83 | 90 | 97 => 9,
+        173 | 179 | 185 => 0,
         _ => 2,
     };
-    assert_eq!(check("cut-every-kind-", every_kind), 178);
+    assert_eq!(check("cut-every-kind-", every_kind), 186);
+    let mux = |_: &str, numbers: &[usize]| match numbers[0] {
+        0 | 5 | 52 | 63 => 14,
+        11 | 17 | 24 | 31 | 38 | 45 => 9,
+        length @ 64.. if (length - 63) % 6 == 0 => 0,
+        _ => 2,
+    };
+    assert_eq!(check("cut-mux-", mux), 124);
 }

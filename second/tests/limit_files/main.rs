@@ -5,6 +5,7 @@ mod expected;
 mod families;
 mod meetings;
 mod packings;
+mod passes;
 mod settings;
 #[path = "../support/mod.rs"]
 mod support;
@@ -37,6 +38,6 @@ fn every_number_is_reached() {
         tally[usize::from(number)] += 1;
     }
     // As the README says.
-    assert_eq!((files.len(), tally[0]), (4_009, 815));
+    assert_eq!((files.len(), tally[0]), (6_024, 1_400));
     assert!(tally.iter().all(|&count| count >= 17), "{tally:?}");
 }

@@ -8,16 +8,18 @@ use crate::support::refusal;
 /// The place of the type's field, right after the inputs.
 const TYPE: usize = 5;
 
-/// What a name says: the labels, whether a setting is one of those meant, and the
-/// last word, which is what the output is joined to under them.
+/// What a name says: the labels, whether a setting is one of those meant, what the output
+/// is joined to under them and, if it says so, what under the others.
 struct Named {
     labels: u8,
     is_meant: Box<dyn Fn(u32) -> bool>,
     joined: String,
+    else_joined: Option<String>,
 }
 
 fn named(name: &str) -> Option<Named> {
-    let words: Vec<&str> = name.trim_end_matches(".cir").split('-').collect();
+    let name = name.trim_end_matches(".cir").trim_start_matches("pass-");
+    let words: Vec<&str> = name.split('-').collect();
     let number = |word: &str| word.parse::<u32>().expect("a setting is a number");
     let (is_meant, rest): (Box<dyn Fn(u32) -> bool>, &[&str]) = match words.as_slice() {
         ["setting", only, rest @ ..] => {
@@ -34,8 +36,12 @@ fn named(name: &str) -> Option<Named> {
         }
         _ => return None,
     };
-    let ["of", labels, joined] = *rest else {
-        panic!("{name} ends in its labels and what is joined");
+    let ["of", labels, joined, ref more @ ..] = *rest else {
+        panic!("{name} has its labels and what is joined");
+    };
+    let else_joined = match *more {
+        ["else", rail] => Some(rail.to_string()),
+        _ => None,
     };
     let labels = labels
         .trim_start_matches('k')
@@ -46,10 +52,11 @@ fn named(name: &str) -> Option<Named> {
         labels,
         is_meant,
         joined,
+        else_joined,
     })
 }
 
-/// The type of a file, and its edges as bodies.
+/// The type of a file, and its edges as fields.
 struct Type<'a> {
     output: u8,
     labels: u8,
@@ -63,9 +70,9 @@ impl Type<'_> {
         };
         let mut edges = Vec::new();
         let mut rest = &bytes[TYPE + 6..];
-        while rest[0] == 3 {
+        while [3, 7].contains(&rest[0]) {
             let (field, after) = rest.split_at(3 + usize::from(rest[2]));
-            edges.push(&field[3..]);
+            edges.push(field);
             rest = after;
         }
         Type {
@@ -76,9 +83,16 @@ impl Type<'_> {
     }
 
     fn is_on(&self, edge: &[u8], setting: u32) -> bool {
-        let is_p = edge[..2].iter().all(|end| (1..=self.output).contains(end));
+        let body = &edge[3..];
+        let (is_p, labels) = match edge[0] {
+            7 => (body[2] == 1, &body[3..]),
+            _ => {
+                let in_p = |end: &u8| (1..=self.output).contains(end);
+                (body[..2].iter().all(in_p), &body[2..])
+            }
+        };
         let needed = if is_p { 0 } else { 1 };
-        edge[2..].iter().any(|label| setting >> label & 1 == needed)
+        labels.iter().any(|label| setting >> label & 1 == needed)
     }
 
     /// Whether the output is joined to ground, and whether to supply.
@@ -88,7 +102,7 @@ impl Type<'_> {
         loop {
             let before = reached;
             for edge in &self.edges {
-                let [a, b] = [usize::from(edge[0]), usize::from(edge[1])];
+                let [a, b] = [usize::from(edge[3]), usize::from(edge[4])];
                 if self.is_on(edge, setting) && (reached[a] || reached[b]) {
                     (reached[a], reached[b]) = (true, true);
                 }
@@ -125,7 +139,10 @@ fn fail_under_the_named_settings_alone() {
             let word = word(module.joined(setting));
             let is_as_named = match (named.is_meant)(setting) {
                 true => word == named.joined,
-                false => !is_failing(word),
+                false => match &named.else_joined {
+                    Some(rail) => word == rail,
+                    None => !is_failing(word),
+                },
             };
             assert!(is_as_named, "{}: {word} under {setting}", file.name);
         }
@@ -146,5 +163,7 @@ fn failing_types_are_refused_and_no_others() {
             None => complementary += 1,
         }
     }
-    assert_eq!((failing, complementary), (82, 82));
+    // Of tag 3, then of tag 7 for 34 single settings.
+    let expected = (82 + 34 * 5, 82 + 34 * 4);
+    assert_eq!((failing, complementary), expected);
 }

@@ -54,7 +54,7 @@ use Rattle.read_bridges.specs.declared.Bridges.{Bridges}
 use Rattle.read_bridges.proofs.Bridges as R
 use Rattle.read_bridges.proofs.Bridges.Laws as R′
 use Rattle.read_bridges.proofs.BridgeLaws.{BridgesSoFar, no-bridges, bridges-end, bridge-next, bridges-more}
-use Rattle.circuit.specs.Order.{bridge-tag}
+use Rattle.circuit.specs.Order.{bridge-tag, isKind}
 use Rattle.circuit.specs.declared.order.Kind.the-variants.{Bridge}
 use Rattle.circuit.specs.Refusals.{verdictOf}
 use Rattle.circuit.specs.declared.refusal.Refusal.{Refusal}
@@ -279,10 +279,10 @@ module _ {M : Type 1} (𝓤 : URA M) (H : Heap 𝓤) (A : Atoms 𝓤) (W : Given
     After i = afterTurn 𝓤 H (Below 𝓤 H A Nearer At i) (afterBlock 𝓤 H (afterSeq 𝓤 H (Wp 𝓤 H C Λ En return (atReturn 𝓤 H En Post)) (atReturn 𝓤 H En Post)))
 
     -- the stage ends: the array is whole again, and the answer is made of it
-    leaves : (i : Upto) (t : Next) (u : Val) (m : ℕ) → Turned (now s) (i .2) bridge-tag t m → Is N.the-row t (u ∷ []) → endsBy (bridgeVerdict (now s) (i .1)) t ≡ true → Sq W (Told i u m true) (runs C Λ En left (anyQ (afterSeq 𝓤 H (Wp 𝓤 H C Λ En more (After i)) (After i))))
+    leaves : (i : Upto) (t : Next) (u : Val) (m : ℕ) → Turned (now s) (i .2) (isKind bridge-tag) t m → Is N.the-row t (u ∷ []) → endsBy (bridgeVerdict (now s) (i .1)) t ≡ true → Sq W (Told i u m true) (runs C Λ En left (anyQ (afterSeq 𝓤 H (Wp 𝓤 H C Λ En more (After i)) (After i))))
     unfolding afterTurn
     leaves i t u m turn is ends =
-        use2 W (raw (Why 𝓤 H A mem run .pre (to-why t u (i .1))) ⊛ ‵ Own) (goes-why t u (i .1) is (fits-of i) (next-in (now s) (i .2) bridge-tag t (turn .own))) $ split ! $
+        use2 W (raw (Why 𝓤 H A mem run .pre (to-why t u (i .1))) ⊛ ‵ Own) (goes-why t u (i .1) is (fits-of i) (next-in (now s) (i .2) (isKind bridge-tag) t (turn .own))) $ split ! $
         called W why.ended (why.clauses 𝓤 H A mem run) (to-why t u (i .1) .0) tt ! fm known-why (λ b ws. verdictOf b ≡ verdictBy (bridgeVerdict (now s) (i .1)) t) (λ b ws. id⊢ 𝓤 _) (and-then ! (load ! (from ! (stop !)) (look ! 38 refl)) (and-then ! (load ! (from ! (stop !)) (look ! 26 refl)) (and-then ! (load ! (from ! (stop !)) (look ! 30 refl)) (no-more !)))) (λ b ws₁ v told is₁.
         land ! (from ! (stop !)) (init ! 14 refl (EL.lawful Rf.the-type Rf′.the-laws 𝓤 H A W tt .typed b _ is₁ .0)) $
         move ! (1 ∷ []) $ use1 W Token (id⊢ 𝓤 _) $
@@ -297,7 +297,7 @@ module _ {M : Type 1} (𝓤 : URA M) (H : Heap 𝓤) (A : Atoms 𝓤) (W : Given
         keep ! (0 ∷ 3 ∷ 5 ∷ []) $ by ! (exits r w (subst (BridgesRead (now s) n) (sym e) (bridges-end (i .4) turn ends b told)))))))
 
     -- the stage goes on, with one element more
-    keeps : (i : Upto) (t : Next) (u : Val) (m : ℕ) → Turned (now s) (i .2) bridge-tag t m → Is N.the-row t (u ∷ []) → endsBy (bridgeVerdict (now s) (i .1)) t ≡ false → Sq W (Told i u m false) (runs C Λ En more (anyQ (After i)))
+    keeps : (i : Upto) (t : Next) (u : Val) (m : ℕ) → Turned (now s) (i .2) (isKind bridge-tag) t m → Is N.the-row t (u ∷ []) → endsBy (bridgeVerdict (now s) (i .1)) t ≡ false → Sq W (Told i u m false) (runs C Λ En more (anyQ (After i)))
     unfolding afterTurn
     keeps i t u m turn is goes =
         let read = bridges-more (i .4) turn goes in
@@ -321,7 +321,7 @@ module _ {M : Type 1} (𝓤 : URA M) (H : Heap 𝓤) (A : Atoms 𝓤) (W : Given
         again ! Nearer At i (set (i .0) (i .1) b, i .1 + 1, m, simp length-set (i .3), subst (λ (z : BridgeRecord). BridgesSoFar (now s) n (set (i .0) (i .1) z) (i .1 + 1) m) (sym e) (read .0)) (omega (arith, read .2, turn .within))))
 
     -- what was told decides
-    by-told : (i : Upto) (t : Next) (u : Val) (m : ℕ) → Turned (now s) (i .2) bridge-tag t m → Is N.the-row t (u ∷ []) → (b : Bool) → endsBy (bridgeVerdict (now s) (i .1)) t ≡ b → Sq W (Told i u m b) (runs C Λ En (seq (cond (copy (place 13 [])) left skipᴹ) more) (anyQ (After i)))
+    by-told : (i : Upto) (t : Next) (u : Val) (m : ℕ) → Turned (now s) (i .2) (isKind bridge-tag) t m → Is N.the-row t (u ∷ []) → (b : Bool) → endsBy (bridgeVerdict (now s) (i .1)) t ≡ b → Sq W (Told i u m b) (runs C Λ En (seq (cond (copy (place 13 [])) left skipᴹ) more) (anyQ (After i)))
     unfolding afterTurn
     by-told i t u m turn is true e = first ! $ branches ! (load ! (from ! (stop !)) (look ! 14 refl)) (λ yes. leaves i t u m turn is e) (λ no. absurd no)
     by-told i t u m turn is false e = first ! $ branches ! (load ! (from ! (stop !)) (look ! 14 refl)) (λ yes. absurd yes) (λ no. skips ! $ exec ! C Λ En more (anyQ (After i)) $ keeps i t u m turn is e)
@@ -333,7 +333,7 @@ module _ {M : Type 1} (𝓤 : URA M) (H : Heap 𝓤) (A : Atoms 𝓤) (W : Given
         move ! (32 ∷ 16 ∷ 18 ∷ 14 ∷ 41 ∷ 40 ∷ []) $ Lo.finds 𝓤 H A W mem run κ q s fm ! known-next known-own (λ Δ. from ! (stop !)) (λ Δ. from ! (stop !)) (tt, tt) (λ Δ. from ! (stop !)) (λ Δ. from ! (stop !)) Bridge tt (EL.owes Kd.the-type Kd′.the-laws Bridge tt) (i .2) (there-of i) (place-of i) (λ t u m turn is.
         land ! (from ! (stop !)) (init ! 28 refl (EL.lawful N.the-type N′.the-laws 𝓤 H A W tt .typed t _ is .0)) $ drop ! $
         keep ! (4 ∷ 5 ∷ 6 ∷ 7 ∷ 8 ∷ 9 ∷ 10 ∷ 11 ∷ 12 ∷ 13 ∷ 14 ∷ 15 ∷ 16 ∷ 17 ∷ 18 ∷ 19 ∷ 3 ∷ 20 ∷ 1 ∷ 21 ∷ 2 ∷ 22 ∷ 23 ∷ 24 ∷ 25 ∷ 26 ∷ 27 ∷ 28 ∷ 29 ∷ 30 ∷ 31 ∷ 32 ∷ 33 ∷ 34 ∷ 0 ∷ 35 ∷ 36 ∷ 37 ∷ 38 ∷ 39 ∷ 40 ∷ 41 ∷ 42 ∷ []) $
-        use2 W (raw (Ends 𝓤 H A mem run .pre (to-ends t u (i .1))) ⊛ ‵ Own) (goes-ends t u (i .1) is (fits-of i) (next-in (now s) (i .2) bridge-tag t (turn .own))) $ split ! $
+        use2 W (raw (Ends 𝓤 H A mem run .pre (to-ends t u (i .1))) ⊛ ‵ Own) (goes-ends t u (i .1) is (fits-of i) (next-in (now s) (i .2) (isKind bridge-tag) t (turn .own))) $ split ! $
         called W ends.ended (ends.clauses 𝓤 H A mem run) (to-ends t u (i .1) .0) tt ! fm known-ends (λ b ws. b ≡ endsBy (bridgeVerdict (now s) (i .1)) t) (λ b ws. id⊢ 𝓤 _) (and-then ! (load ! (from ! (stop !)) (look ! 38 refl)) (and-then ! (load ! (from ! (stop !)) (look ! 26 refl)) (and-then ! (load ! (from ! (stop !)) (look ! 30 refl)) (no-more !)))) (λ b ws w e is′.
         land ! (from ! (stop !)) (init ! 16 refl (bool-lawful 𝓤 H A W .typed b _ is′ .0)) $ rewrite ! 16 (λ (z : Val). ‵ (fat fullShare tyBool m₃ 0 z)) (ap only is′) refl $
         move ! (1 ∷ []) $ use1 W Token (id⊢ 𝓤 _) $

@@ -63,7 +63,7 @@ use Rattle.read_instances.proofs.Asked.Laws as As′
 use Rattle.read_instances.proofs.Held as Hd
 use Rattle.read_instances.proofs.Held.Laws as Hd′
 use Rattle.read_instances.proofs.InstanceSteps.{AtLoop, no-instances, turn-given, instances-end, instance-next, instances-more}
-use Rattle.circuit.specs.Order.{instance-tag}
+use Rattle.circuit.specs.Order.{instance-tag, isKind}
 use Rattle.circuit.specs.declared.order.Kind.the-variants.{Instance}
 use Rattle.circuit.specs.Refusals.{verdictOf}
 use Rattle.circuit.specs.declared.refusal.Refusal.{Refusal}
@@ -324,7 +324,7 @@ module _ {M : Type 1} (𝓤 : URA M) (H : Heap 𝓤) (A : Atoms 𝓤) (W : Given
     After i = afterTurn 𝓤 H (Below 𝓤 H A Nearer At i) (afterBlock 𝓤 H (afterSeq 𝓤 H (Wp 𝓤 H C Λ En return (atReturn 𝓤 H En Post)) (atReturn 𝓤 H En Post)))
 
     -- the stage ends: the array is whole again, and the answer is made of it
-    leaves : (i : Upto) (t : Next) (u : Val) (m : ℕ) → Turned (now s) (i .2) instance-tag t m → Is N.the-row t (u ∷ []) → (a : Asked) (w : Val) → a ≡ keptBy (askedOf (now s) h) noneAsked t → Is As.the-row a (w ∷ []) → endsBy (instanceVerdict (now s) P tc a (i .1) (i .3)) t ≡ true → Sq W (Told i u w m true) (runs C Λ En left (anyQ (afterSeq 𝓤 H (Wp 𝓤 H C Λ En more (After i)) (After i))))
+    leaves : (i : Upto) (t : Next) (u : Val) (m : ℕ) → Turned (now s) (i .2) (isKind instance-tag) t m → Is N.the-row t (u ∷ []) → (a : Asked) (w : Val) → a ≡ keptBy (askedOf (now s) h) noneAsked t → Is As.the-row a (w ∷ []) → endsBy (instanceVerdict (now s) P tc a (i .1) (i .3)) t ≡ true → Sq W (Told i u w m true) (runs C Λ En left (anyQ (afterSeq 𝓤 H (Wp 𝓤 H C Λ En more (After i)) (After i))))
     unfolding afterTurn
     leaves i t u m turn is a w e-a is-a ends =
         use2 W (raw (Why 𝓤 H A mem run .pre (to-why t u a w (i .1) (i .3))) ⊛ ‵ Own) (goes-why t u a w (i .1) (i .3) is is-a (fits-of i) (few-of i) (turn-given (i .5) turn a e-a backed)) $ split ! $
@@ -342,7 +342,7 @@ module _ {M : Type 1} (𝓤 : URA M) (H : Heap 𝓤) (A : Atoms 𝓤) (W : Given
         keep ! (0 ∷ 3 ∷ 5 ∷ []) $ by ! (exits r z (λ ts bs told₂. subst (InstancesRead (now s) n P ts bs) (sym e) (instances-end (i .5) turn a e-a ends b told₁ ts bs told₂)))))))
 
     -- the stage goes on, with one element more
-    keeps : (i : Upto) (t : Next) (u : Val) (m : ℕ) → Turned (now s) (i .2) instance-tag t m → Is N.the-row t (u ∷ []) → (a : Asked) (w : Val) → a ≡ keptBy (askedOf (now s) h) noneAsked t → Is As.the-row a (w ∷ []) → endsBy (instanceVerdict (now s) P tc a (i .1) (i .3)) t ≡ false → Sq W (Told i u w m false) (runs C Λ En more (anyQ (After i)))
+    keeps : (i : Upto) (t : Next) (u : Val) (m : ℕ) → Turned (now s) (i .2) (isKind instance-tag) t m → Is N.the-row t (u ∷ []) → (a : Asked) (w : Val) → a ≡ keptBy (askedOf (now s) h) noneAsked t → Is As.the-row a (w ∷ []) → endsBy (instanceVerdict (now s) P tc a (i .1) (i .3)) t ≡ false → Sq W (Told i u w m false) (runs C Λ En more (anyQ (After i)))
     unfolding afterTurn
     keeps i t u m turn is a w e-a is-a goes =
         let read = instances-more (i .5) turn a e-a most goes in
@@ -371,13 +371,13 @@ module _ {M : Type 1} (𝓤 : URA M) (H : Heap 𝓤) (A : Atoms 𝓤) (W : Given
         again ! Nearer At i (set (i .0) (i .1) b, i .1 + 1, m, g, simp length-set (i .4), subst (λ (z : InstanceRecord). AtLoop (now s) n P tc (h .nodes) (h .labels) (h .lists) (set (i .0) (i .1) z) (i .1 + 1) g m) (sym e) (subst (λ (z : ℕ). AtLoop (now s) n P tc (h .nodes) (h .labels) (h .lists) (set (i .0) (i .1) (keptBy (instanceKept (now s)) unusedInstance t)) (i .1 + 1) z m) (sym e-g) (read .0))) (omega (arith, read .2, turn .within)))))
 
     -- what was told decides
-    by-told : (i : Upto) (t : Next) (u : Val) (m : ℕ) → Turned (now s) (i .2) instance-tag t m → Is N.the-row t (u ∷ []) → (a : Asked) (w : Val) → a ≡ keptBy (askedOf (now s) h) noneAsked t → Is As.the-row a (w ∷ []) → (b : Bool) → endsBy (instanceVerdict (now s) P tc a (i .1) (i .3)) t ≡ b → Sq W (Told i u w m b) (runs C Λ En (seq (cond (copy (place 18 [])) left skipᴹ) more) (anyQ (After i)))
+    by-told : (i : Upto) (t : Next) (u : Val) (m : ℕ) → Turned (now s) (i .2) (isKind instance-tag) t m → Is N.the-row t (u ∷ []) → (a : Asked) (w : Val) → a ≡ keptBy (askedOf (now s) h) noneAsked t → Is As.the-row a (w ∷ []) → (b : Bool) → endsBy (instanceVerdict (now s) P tc a (i .1) (i .3)) t ≡ b → Sq W (Told i u w m b) (runs C Λ En (seq (cond (copy (place 18 [])) left skipᴹ) more) (anyQ (After i)))
     unfolding afterTurn
     by-told i t u m turn is a w e-a is-a true e = first ! $ branches ! (load ! (from ! (stop !)) (look ! 14 refl)) (λ yes. leaves i t u m turn is a w e-a is-a e) (λ no. absurd no)
     by-told i t u m turn is a w e-a is-a false e = first ! $ branches ! (load ! (from ! (stop !)) (look ! 14 refl)) (λ yes. absurd yes) (λ no. skips ! $ exec ! C Λ En more (anyQ (After i)) $ keeps i t u m turn is a w e-a is-a e)
 
     -- whether the stage ends is asked
-    told : (i : Upto) (t : Next) (u : Val) (m : ℕ) → Turned (now s) (i .2) instance-tag t m → Is N.the-row t (u ∷ []) → (a : Asked) (w : Val) → a ≡ keptBy (askedOf (now s) h) noneAsked t → Is As.the-row a (w ∷ [])
+    told : (i : Upto) (t : Next) (u : Val) (m : ℕ) → Turned (now s) (i .2) (isKind instance-tag) t m → Is N.the-row t (u ∷ []) → (a : Asked) (w : Val) → a ≡ keptBy (askedOf (now s) h) noneAsked t → Is As.the-row a (w ∷ [])
         → Sq W (Token ∷ ‵ Own ∷ Locals (froom tyBool m₈ 0) (fat fullShare N′.mir m₁ 0 u) (fat fullShare word m₀ 0 (vint w64 (i .2))) (fat fullShare As′.mir m₂ 0 w) m (i .1) (i .3) (row T.the-row fullShare (i .0) l₇ 0) (‵ Owns ∷ [])) (runs C Λ En (seq (call #ends (copy (place 1 []) ∷ copy (place 11 []) ∷ copy (place 3 []) ∷ copy (place 4 []) ∷ copy (place 12 []) ∷ copy (place 8 []) ∷ copy (place 9 []) ∷ []) (place 18 [])) (seq (cond (copy (place 18 [])) left skipᴹ) more)) (anyQ (After i)))
     unfolding afterTurn
     told i t u m turn is a w e-a is-a =
@@ -395,7 +395,7 @@ module _ {M : Type 1} (𝓤 : URA M) (H : Heap 𝓤) (A : Atoms 𝓤) (W : Given
         move ! (36 ∷ 16 ∷ 18 ∷ 14 ∷ 51 ∷ 50 ∷ []) $ Lo.finds 𝓤 H A W mem run κ q s fm ! known-next known-own (λ Δ. from ! (stop !)) (λ Δ. from ! (stop !)) (tt, tt) (λ Δ. from ! (stop !)) (λ Δ. from ! (stop !)) Instance tt (EL.owes Kd.the-type Kd′.the-laws Instance tt) (i .2) (there-of i) (place-of i) (λ t u m turn is.
         land ! (from ! (stop !)) (init ! 30 refl (EL.lawful N.the-type N′.the-laws 𝓤 H A W tt .typed t _ is .0)) $ drop ! $
         keep ! (4 ∷ 5 ∷ 6 ∷ 7 ∷ 8 ∷ 9 ∷ 10 ∷ 11 ∷ 12 ∷ 13 ∷ 14 ∷ 15 ∷ 16 ∷ 17 ∷ 18 ∷ 19 ∷ 3 ∷ 20 ∷ 1 ∷ 21 ∷ 2 ∷ 22 ∷ 23 ∷ 24 ∷ 25 ∷ 26 ∷ 27 ∷ 28 ∷ 29 ∷ 30 ∷ 31 ∷ 32 ∷ 33 ∷ 34 ∷ 35 ∷ 36 ∷ 37 ∷ 38 ∷ 0 ∷ 39 ∷ 40 ∷ 41 ∷ 42 ∷ 43 ∷ 44 ∷ 45 ∷ 46 ∷ 47 ∷ 48 ∷ 49 ∷ 50 ∷ 51 ∷ 52 ∷ []) $
-        use2 W (raw (Asks 𝓤 H A mem run .pre (to-asks t u)) ⊛ ‵ Own) (goes-asks t u is (next-in (now s) (i .2) instance-tag t (turn .own))) $ split ! $
+        use2 W (raw (Asks 𝓤 H A mem run .pre (to-asks t u)) ⊛ ‵ Own) (goes-asks t u is (next-in (now s) (i .2) (isKind instance-tag) t (turn .own))) $ split ! $
         called W asks.ended (asks.clauses 𝓤 H A mem run) (to-asks t u .0) tt ! fm known-asks (λ a ws. a ≡ keptBy (askedOf (now s) h) noneAsked t) (λ a ws. id⊢ 𝓤 _) (and-then ! (load ! (from ! (stop !)) (look ! 48 refl)) (and-then ! (load ! (from ! (stop !)) (look ! 28 refl)) (and-then ! (load ! (from ! (stop !)) (look ! 40 refl)) (no-more !)))) (λ a ws w e-a is-a.
         land ! (from ! (stop !)) (init ! 28 refl (LL.lawful As.the-type As′.the-laws 𝓤 H A W .typed a _ is-a .0)) $
         move ! (1 ∷ []) $ use1 W Token (id⊢ 𝓤 _) $

@@ -2,7 +2,7 @@
 //! numbers, its edge ends, its references and its list.
 
 use super::{after, within, Meeting};
-use crate::builder::FileBuilder;
+use crate::builder::{FileBuilder, P};
 use crate::starts::{
     nothing, two_inputs, with_bridges, with_edges, with_faults_2048, with_instance, with_instances,
     with_many_bridges, with_type, with_types, with_vectors,
@@ -12,9 +12,11 @@ pub fn meetings() -> Vec<Meeting> {
     [
         lengths_and_counts(),
         lengths_and_numbers(),
+        lengths_and_passes(),
         lengths_and_instances(),
         counts_and_numbers(),
         edges_and_numbers(),
+        passes_and_numbers(),
         counts_and_instances(),
         numbers_and_others(),
         references_and_lists(),
@@ -25,6 +27,7 @@ pub fn meetings() -> Vec<Meeting> {
 fn lengths_and_counts() -> Vec<Meeting> {
     let (short, good): (&[u8], &[u8]) = (&[1, 0], &[1, 0, 0, 1]);
     let (five, four): (&[u8], &[u8]) = (&[1, 2, 0, 0, 0, 0, 0], &[1, 2, 0, 0, 0, 0]);
+    let pass = [1, 2, 1, 0, 0];
     vec![
         within((5, 6, "tag2"), with_types(16), 2, &[2, 2], &[2, 2, 1]),
         within((5, 6, "tag3"), with_edges(256), 3, &[1, 2], &[1, 2, 0]),
@@ -32,6 +35,8 @@ fn lengths_and_counts() -> Vec<Meeting> {
         within((5, 6, "tag4"), with_many_bridges(256), 4, short, good),
         within((5, 6, "tag5"), with_instances(128), 5, short, good),
         within((5, 6, "tag6"), with_vectors(256), 6, b"0", b"00"),
+        within((5, 6, "tag7"), with_edges(256), 7, &pass[..3], &pass[..4]),
+        within((5, 6, "tag7-long"), with_edges(256), 7, &pass, &pass[..4]),
     ]
 }
 
@@ -53,6 +58,25 @@ fn lengths_and_numbers() -> Vec<Meeting> {
         within((5, 8, "short"), with_type(), 3, &[0, 1], &[0, 1, 0]),
         within((5, 8, "long"), with_type(), 3, long, ends),
         within((5, 8, "equal"), with_type(), 3, &[2, 2], &[2, 2, 0]),
+    ]
+}
+
+/// Each fault of a pass transistor in a field that is too short or too long.
+fn lengths_and_passes() -> Vec<Meeting> {
+    let short =
+        |what: &'static str, body: &[u8; 4]| within((5, 7, what), with_type(), 7, &body[..3], body);
+    let long = |what: &'static str, body: &[u8; 4]| {
+        let longer = [&body[..], &[0]].concat();
+        within((5, 7, what), with_type(), 7, &longer, body)
+    };
+    vec![
+        short("pass-node", &[3, 2, 1, 0]),
+        short("pass-equal", &[2, 2, 1, 0]),
+        short("pass-channel", &[1, 2, 2, 0]),
+        long("pass-long-node", &[2, 3, 1, 0]),
+        long("pass-long-equal", &[0, 0, 1, 0]),
+        long("pass-long-channel", &[1, 2, 255, 0]),
+        long("pass-long-label", &[1, 2, 1, 1]),
     ]
 }
 
@@ -112,6 +136,27 @@ fn edges_and_numbers() -> Vec<Meeting> {
         field(8, "four-channel", &[0, 1, 0, 0, 0, 0]),
         field(8, "four-equal", &[1, 1, 0, 0, 0, 0]),
     ]
+}
+
+/// The edges before are nearly all of tag 7, or half of them of tag 3.
+fn passes_and_numbers() -> Vec<Meeting> {
+    let faults: [(&'static str, [u8; 4]); 4] = [
+        ("pass-node", [1, 3, 1, 0]),
+        ("pass-equal", [1, 1, 1, 0]),
+        ("pass-channel", [1, 2, 2, 0]),
+        ("pass-label", [1, 2, 1, 1]),
+    ];
+    let passes = |count: usize| with_type().times(count, |file| file.pass(1, 2, P, 0));
+    let edges = |file: FileBuilder| file.times(127, |file| file.field(3, &[1, 2, 0]));
+    let mut meetings = Vec::new();
+    for (what, body) in faults {
+        let (full, one_less) = (passes(254), passes(253));
+        meetings.push(after((6, 7, what), full, one_less, (7, &body)));
+    }
+    let (full, one_less) = (edges(passes(127)), edges(passes(126)));
+    let body = [9, 9, 9, 9];
+    meetings.push(after((6, 7, "pass-after-both"), full, one_less, (7, &body)));
+    meetings
 }
 
 fn counts_and_instances() -> Vec<Meeting> {

@@ -17,6 +17,7 @@ pub fn meetings() -> Vec<Meeting> {
         instances_out_of_place(),
         broken_types(),
         edges_of_broken_types(),
+        passes_of_broken_types(),
     ]
     .concat()
 }
@@ -27,12 +28,12 @@ fn unknown_tags() -> Vec<Meeting> {
     let empty = |tag: u8| with_type().field(tag, &[]);
     vec![
         (3, 4, "tag0", first(0), first(2)),
-        (3, 4, "tag7", first(7), first(2)),
+        (3, 4, "tag8", first(8), first(2)),
         (3, 4, "tag255", first(255), first(2)),
         (3, 5, "tag0", empty(0), empty(4)),
-        (3, 5, "tag7", empty(7), empty(4)),
+        (3, 5, "tag8", empty(8), empty(4)),
         (3, 9, "tag0", next(0), next(4)),
-        (3, 9, "tag7", next(7), next(4)),
+        (3, 9, "tag8", next(8), next(4)),
         (3, 9, "tag255", next(255), next(4)),
     ]
 }
@@ -46,6 +47,7 @@ fn lengths_out_of_place() -> Vec<Meeting> {
         after((4, 5, "tag4"), instance(), bridges(), (4, &[1, 0, 0])),
         after((4, 5, "tag5"), with_vector(), instance(), (5, &[1, 0])),
         after((4, 5, "tag6"), nothing(), two_inputs(), (6, b"0")),
+        after((4, 5, "tag7"), bridges(), with_type(), (7, &[1, 2, 1])),
     ]
 }
 
@@ -60,11 +62,18 @@ fn counts_out_of_place() -> Vec<Meeting> {
         edges.clone().bridge(1, 0, 0, 1),
         bridges.clone().instance(1, 0, &[1]),
         instances.clone().vectors(&["00"]),
+        edges.clone().bridge(1, 0, 0, 1),
     ];
-    let whats = ["tag2", "tag3", "tag4", "tag5"];
-    let full = [types, edges, bridges, instances];
+    let tags = [
+        (2, "tag2"),
+        (3, "tag3"),
+        (4, "tag4"),
+        (5, "tag5"),
+        (7, "tag7"),
+    ];
+    let full = [types, edges.clone(), bridges, instances, edges];
     let mut meetings = Vec::new();
-    for (tag, ((past, full), what)) in (2..).zip(past.into_iter().zip(full).zip(whats)) {
+    for ((tag, what), (past, full)) in tags.into_iter().zip(past.into_iter().zip(full)) {
         meetings.push(after((4, 6, what), past, full, (tag, good_body(tag))));
     }
     meetings
@@ -85,6 +94,8 @@ fn numbers_out_of_place() -> Vec<Meeting> {
             (5, &[9, 0, 0, 1]),
         ),
         after((4, 7, "tag6"), nothing(), two_inputs(), (6, b"0x")),
+        after((4, 7, "tag7"), bridges(), with_type(), (7, &[1, 2, 1, 9])),
+        after((4, 7, "equal"), bridges(), with_type(), (7, &[2, 2, 1, 0])),
         after((4, 8, "channel"), bridges(), with_type(), (3, &[0, 1, 0])),
         after((4, 8, "equal"), bridges(), with_type(), (3, &[2, 2, 0])),
         (4, 9, "", next(1), next(2)),
@@ -138,5 +149,23 @@ fn edges_of_broken_types() -> Vec<Meeting> {
         edge(7, "label", &[1, 2, 1]),
         edge(8, "channel", &[1, 0, 0]),
         edge(8, "equal", &[2, 2, 0]),
+    ]
+}
+
+/// The same with pass transistors, of which none is refused by 8.
+fn passes_of_broken_types() -> Vec<Meeting> {
+    let good = [1, 2, 1, 0];
+    let pass = |number: u8, what: &'static str, body: &[u8]| {
+        within((number, 9, what), broken_type(), 7, body, &good)
+    };
+    let (full, one_less) = (with_edges(256), with_edges(255));
+    vec![
+        pass(5, "pass-short", &[1, 2, 1]),
+        pass(5, "pass-long", &[1, 2, 1, 0, 0]),
+        after((6, 9, "pass"), full, one_less, (7, &good)),
+        pass(7, "pass-node", &[1, 3, 1, 0]),
+        pass(7, "pass-equal", &[2, 2, 1, 0]),
+        pass(7, "pass-channel", &[1, 2, 2, 0]),
+        pass(7, "pass-label", &[1, 2, 1, 1]),
     ]
 }

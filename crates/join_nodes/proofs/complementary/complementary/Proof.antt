@@ -40,6 +40,7 @@ use Rattle.switch.specs.Deciding.{isComplementary}
 use Rattle.switch.proofs.Edge as T
 use Rattle.switch.specs.Blocks.{byBlocks}
 use Rattle.switch.proofs.Blocks.{blocks-tell}
+use Rattle.switch.proofs.Tags.{tags-conduct-nothing}
 use Rattle.join_nodes.specs.Model.{typeInColumns, ColumnsGiven}
 use Rattle.join_nodes.specs.declared.Columns.{Columns}
 use Rattle.join_nodes.proofs.Columns as R
@@ -133,7 +134,7 @@ module _ {M : Type 1} (𝓤 : URA M) (H : Heap 𝓤) (A : Atoms 𝓤) (W : Model
         land ! (from ! (stop !)) (init ! 14 refl (bool-lawful 𝓤 H A W .typed r _ isr .0)) $
         returns ! (look ! 14 refl) $ forget ! 4 refl $ forget ! 6 refl $ forget ! 8 refl $ forget ! 10 refl $ forget ! 12 refl $ forget ! 14 refl $
         move ! (14 ∷ 15 ∷ []) $ free1 ! $ move ! (12 ∷ 13 ∷ []) $ free1 ! $ move ! (10 ∷ 11 ∷ []) $ free1 ! $ move ! (8 ∷ 9 ∷ []) $ free1 ! $ move ! (6 ∷ 7 ∷ []) $ free1 ! $ move ! (4 ∷ 5 ∷ []) $ free1 ! $ free0 ! $
-        keep ! (2 ∷ 3 ∷ 0 ∷ []) $ by ! (exits r w (e ∙ blocks-tell .same-verdict (typeInColumns hi ou la (c .firsts) (c .seconds) (c .gates) (c .count)) ∙ ap isComplementary (type-told (s .now) (g .places) hi ou la c sp)))))))))))
+        keep ! (2 ∷ 3 ∷ 0 ∷ []) $ by ! (exits r w (e ∙ blocks-tell .same-verdict (typeInColumns hi ou la (c .firsts) (c .seconds) (c .gates) (c .count)) ∙ ap isComplementary (type-told (s .now) (g .places) hi ou la c sp) ∙ tags-conduct-nothing .same-verdict (typeWith hi ou la (s .now))))))))))))
 
 module _ {M : Type 1} (𝓤 : URA M) (H : Heap 𝓤) (A : Atoms 𝓤) (W : Model 𝓤 H A) (mem : Memory → SProp 𝓤) (run : Routine → Fun 𝓤) where
   walks : (𝓣 : Tables 𝓤 H) → Triple 𝓤 (𝓣 .C #spread) (Spreads 𝓤 H A mem run) → Triple 𝓤 (𝓣 .C #complementary-of) (Work 𝓤 H A mem run) → Walks 𝓤 H A f.ended stayed (WpFn 𝓤 H (𝓣 .C) (𝓣 .Λ) code.function) (f.clauses 𝓤 H A mem run)

@@ -1,15 +1,18 @@
--- `print_circuit::lines::edge_line` meets its contract: each call adds its piece to the text, which has room for it. Assumes nothing.
+-- `print_circuit::lines::edge_line` meets its contract: each call adds its piece to the text, which has room for it, or `pass_line` puts the
+-- whole line. Assumes nothing.
 use mathlib.Core.Path.{refl}
+use mathlib.Core.Bool.{true, false}
 use native.Mathlib.Omega.{arith}
 use borrow.Author.Needs.{needs}
 use Rattle.print_lines.specs.Ascii.{bytesOf}
 use Rattle.switch.specs.Records.{edgeOf}
-use Rattle.print_circuit.specs.Lines.{edgeLine}
-use Rattle.print_circuit.proofs.Putting.{SoFar, start, piece, byte, next-number, whole}
+use Rattle.print_circuit.specs.Lines.{edgeLineBy}
+use Rattle.print_circuit.proofs.Putting.{SoFar, start, piece, byte, next-number, puts-same, whole}
+use Rattle.print_circuit.proofs.TextLaws.{edge-line-is}
 use Rattle.print_circuit.proofs.lines.edge_line.Statement.{statement}
 use Rattle.print_circuit.proofs.lines.edge_line.Tie as tie
 
--- where each piece was put, seen from where the next is, and the three numbers and the start, seen from where the first is
+-- where each piece was put, seen from where the next is, and the three numbers and the tag, seen from where the first is
 abbrev told : tie.After-put-bytes-arg → tie.After-label-of
 told c = c .before
 
@@ -19,8 +22,8 @@ second-told c = c .before
 abbrev first-told : tie.After-second-of → tie.After-first-of
 first-told c = c .before
 
-abbrev began : tie.After-first-of → tie.Start
-began c = c .before .before
+abbrev tag-told : tie.After-first-of → tie.After-is-stated
+tag-told c = c .before .before
 
 abbrev word-put : tie.After-put-spaced-arg → tie.After-put-bytes
 word-put c = c .before .before .before
@@ -50,9 +53,12 @@ told-4 c = told-3 (second-put (c .before))
 abbrev told-5 : tie.After-put-byte → tie.After-label-of
 told-5 c = told-4 (label-put (c .before))
 
--- where the function began
+-- where the tag was told, and where the function began
+abbrev tag-of : tie.After-label-of → tie.After-is-stated
+tag-of c = tag-told (first-told (second-told c))
+
 abbrev start-of : tie.After-label-of → tie.Start
-start-of c = began (first-told (second-told c))
+start-of c = tag-of c .before .before
 
 -- the text after each piece: what the calls have added, one by one, and how many bytes that is at most
 line-1 : (c : tie.After-put-bytes) → SoFar (start-of (told-1 c) .args .out .now) (start-of (told-1 c) .args .at) 512 4 (c .put-bytes .last .0) (c .put-bytes .result)
@@ -69,6 +75,22 @@ line-4 c = next-number (line-3 (second-put (c .before))) _ (omega arith) (c .put
 
 line-5 : (c : tie.After-put-byte) → SoFar (start-of (told-5 c) .args .out .now) (start-of (told-5 c) .args .at) 512 71 (c .put-byte .last .0) (c .put-byte .result)
 line-5 c = byte (line-4 (label-put (c .before))) 10 (omega arith) (c .put-byte .ensures)
+
+is-stated-requires : tie.Need-is-stated-requires
+is-stated-requires c κs = search needs
+
+pass-line-requires : tie.Need-pass-line-requires
+pass-line-requires c κs = search needs
+
+same-length : tie.Need-same-length
+same-length c = search needs
+
+returns : tie.Need-returns
+returns c =
+    let put = c .before .before in
+    let then = put .before .before in
+    let tested = then .before in
+    puts-same _ _ (edge-line-is (tested .before .before .args .e) _ true (then .if1 .taken) (tested .is-stated .ensures)) (put .pass-line .ensures)
 
 first-of-requires : tie.Need-first-of-requires
 first-of-requires c κs = search needs
@@ -106,22 +128,27 @@ put-spaced-requires-3 c κs = let l = line-3 (second-put c) in omega arith
 put-byte-requires : tie.Need-put-byte-requires
 put-byte-requires c κs = let l = line-4 (label-put c) in omega arith
 
-same-length : tie.Need-same-length
-same-length c = search needs
+same-length-2 : tie.Need-same-length-2
+same-length-2 c = search needs
 
-returns : tie.Need-returns
-unfolding start piece byte next-number edgeLine edgeOf line-1 line-2 line-3 line-4 line-5
-returns c =
+returns-2 : tie.Need-returns-2
+unfolding start piece byte next-number edgeLineBy edgeOf line-1 line-2 line-3 line-4 line-5
+returns-2 c =
     let l = line-5 (c .before .before) in
     let t = told-5 (c .before .before) in
     let second = second-told t in
     let first = first-told second in
-    rw (← first .first-of .ensures, ← second .second-of .ensures, ← t .label-of .ensures) (whole l refl)
+    puts-same _ _ (edge-line-is (start-of t .args .e) _ false (first .before .if1 .left) (tag-of t .is-stated .ensures))
+    (rw (← first .first-of .ensures, ← second .second-of .ensures, ← t .label-of .ensures) (whole l refl))
 
 pub edge-line-spec : {M : Type 1} → statement M
 edge-line-spec =
     tie.close
     (tie.spec
+    is-stated-requires
+    pass-line-requires
+    same-length
+    returns
     first-of-requires
     cast-first
     second-of-requires
@@ -134,5 +161,5 @@ edge-line-spec =
     put-spaced-requires-2
     put-spaced-requires-3
     put-byte-requires
-    same-length
-    returns)
+    same-length-2
+    returns-2)

@@ -8,7 +8,7 @@ use native.Mathlib.Omega.{arith}
 use borrow.Author.Needs.{needs}
 use lib.ListN.{length}
 use Rattle.circuit.specs.Fields.{cutFrom, twoBytes}
-use Rattle.circuit.specs.Order.{inputs-tag, tagOf}
+use Rattle.circuit.specs.Order.{inputs-tag, tagOf, isKind}
 use Rattle.circuit.specs.Refusals.{verdictOf, refusalNumber, refusalPlace, numberedVerdict}
 use Rattle.circuit.specs.Verdicts.{isRefused}
 use Rattle.circuit.specs.Stages.{afterInputs, gatheredFrom, gatheredOf}
@@ -59,7 +59,7 @@ returns-2 c =
     let a = m .before .before .before .args in
     let file = a .file .now in
     let wanted = a .vector-wanted in
-    let other : NextIs file 0 inputs-tag Other = rw (x .before .enum-told .given .1) at (m .field-of .ensures) in
+    let other : NextIs file 0 (isKind inputs-tag) Other = rw (x .before .enum-told .given .1) at (m .field-of .ensures) in
     refused-start wanted file (accepted emptyCircuit) (x .ending .result) (c .refused-at-start2 .result)
     (sym (staged-is-reading wanted file) ∙ staged-short wanted file (m .before .if1 .left) ∙ start-other wanted file other ∙ rw (x .ending .ensures))
     (gathered-other file (m .before .if1 .left) other)
@@ -77,7 +77,7 @@ wanted-at c = c .before .before .before .before .before .args .vector-wanted
 abbrev field-at : tie.After-f → FieldRecord
 field-at c = c .f .given .0 .0
 
-here : (c : tie.After-f) → FieldAt (file-at c) 0 (field-at c) × (tagOf (field-at c .tag) ≡ inputs-tag)
+here : (c : tie.After-f) → FieldAt (file-at c) 0 (field-at c) × (isKind inputs-tag (tagOf (field-at c .tag)) ≡ true)
 unfolding NextIs
 here c = rw (c .f .given .1) at (c .before .before .field-of .ensures)
 

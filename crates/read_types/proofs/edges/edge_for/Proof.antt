@@ -1,74 +1,53 @@
--- `read_types::edges::edge_for` meets its contract: the edges of a field differ in their labels alone, which stand in order behind the nodes. Assumes nothing.
-use Prim.Native.Nat.{ℕ, zero, suc, _+_, _-_, _<_}
-use mathlib.Core.Path.{_≡_, refl, sym, _∙_}
-use mathlib.Core.List.{List, [], _∷_, map}
-use native.Mathlib.Nat.{not-suc-le-zero, le-of-suc-le-suc}
+-- `read_types::edges::edge_for` meets its contract: by the field's tag. Assumes nothing.
+use Prim.Native.Nat.{ℕ, _<_}
+use mathlib.Core.Path.{_≡_, sym, ap, subst, _∙_}
 use native.Mathlib.Omega.{arith}
 use borrow.Author.Needs.{needs}
-use lib.ListN.{length, getD, drop, length-drop}
-use lib.Seq.{getD-drop}
-use Rattle.switch.specs.Conduction.{Channel, edgesFor, channelOf}
-use Rattle.switch.specs.Records.{noEdge, edgeRecord}
-use Rattle.circuit.specs.Known.{edgesIn}
-use Rattle.read_fields.specs.Steps.{bodyOf}
-use Rattle.read_fields.proofs.Bodies.{length-body}
-use Rattle.read_types.specs.EdgeTurns.{edgesKept}
+use lib.ListN.{getD}
+use Rattle.switch.specs.Conduction.{EdgeTag}
+use Rattle.switch.specs.Records.{noEdge}
+use Rattle.circuit.specs.Known.{edgesTold}
+use Rattle.read_types.specs.EdgeTurns.{edgeTag, edgesAs, EdgeCodesFit}
+use Rattle.read_types.proofs.TagTold.{its-stated, its-position}
 use Rattle.read_types.proofs.edges.edge_for.Statement.{statement}
 use Rattle.read_types.proofs.edges.edge_for.Tie as tie
 
-edge-at : (a b : ℕ) (c : Channel) (ls : List ℕ) (j : ℕ) → j < length ls
-    → getD (map edgeRecord (edgesFor a b c ls)) j noEdge ≡ edgeRecord (record { first = a; second = b; channel = c; label = getD ls j 0 })
-unfolding edgesFor
-edge-at a b c [] j h = absurd (not-suc-le-zero h)
-edge-at a b c (l ∷ ls) zero h = refl
-edge-at a b c (l ∷ ls) (suc j) h = edge-at a b c ls j (le-of-suc-le-suc h)
+states-channel-requires : tie.Need-states-channel-requires
+states-channel-requires c κs = search needs
 
-kept-at : (o : ℕ) (body : List ℕ) (j : ℕ) → j < length body - 2 → let a = getD body 0 0 in let b = getD body 1 0 in
-    edgeRecord (record { first = a; second = b; channel = channelOf o a b; label = getD body (2 + j) 0 }) ≡ getD (map edgeRecord (edgesIn o body)) j noEdge
-unfolding edgesIn
-kept-at o body j h =
-    let a = getD body 0 0 in
-    let b = getD body 1 0 in
-    rw (← getD-drop 2 body j 0) (sym (edge-at a b (channelOf o a b) (drop 2 body) j (omega (arith, length-drop 2 body))))
-
-byte-requires : tie.Need-byte-requires
-byte-requires c κs = search needs
-
-byte-requires-2 : tie.Need-byte-requires-2
-byte-requires-2 c κs = search needs
-
-add-byte : tie.Need-add-byte
-add-byte c = search needs
-
-byte-requires-3 : tie.Need-byte-requires-3
-byte-requires-3 c κs = search needs
-
-p-ends-requires : tie.Need-p-ends-requires
-p-ends-requires c κs = search needs
-
-edge-with-requires : tie.Need-edge-with-requires
-edge-with-requires c κs =
-    let start = c .before .before .before .before .before in
-    let fit = start .pre .0 in
-    let first = c .before .before .before .byte .ensures in
-    let second = c .before .before .byte2 .ensures in
-    let label = c .before .byte3 .ensures in
-    (omega (arith, fit .first, first), omega (arith, fit .second, second), omega (arith, fit .labels (start .args .j), label))
+pass-edge-requires : tie.Need-pass-edge-requires
+pass-edge-requires c κs =
+    let start = c .before .before .before in
+    let a = start .args in
+    let tag = its-stated _ (edgeTag (a .f)) (c .before .states-channel .ensures) (c .if1 .taken) in
+    subst (λ (t : EdgeTag). EdgeCodesFit t (a .file .now) (a .f)) tag (start .pre .0)
 
 returns : tie.Need-returns
-unfolding edgesKept channelOf
+unfolding edgesTold
 returns c =
-    let start = c .before .before .before .before .before .before in
+    let asked = c .before .before in
+    let start = asked .before .before in
     let a = start .args in
-    let body = bodyOf (a .file .now) (a .f) in
-    let long = length-body (a .file .now) (a .f) (start .pre .0 .inside) in
-    c .edge-with .ensures
-    ∙ rw (
-      c .before .p-ends .ensures,
-      c .before .before .before .before .byte .ensures,
-      c .before .before .before .byte2 .ensures,
-      c .before .before .byte3 .ensures,
-    ) (kept-at (a .o) body (a .j) (omega (arith, long, start .pre .1)))
+    let tag = its-stated _ (edgeTag (a .f)) (asked .states-channel .ensures) (c .before .if1 .taken) in
+    let one : a .j < 1 = subst (λ (t : EdgeTag). a .j < edgesTold t (a .f .len)) tag (start .pre .1) in
+    let first : a .j ≡ 0 = omega (arith, one) in
+    c .pass-edge .ensures
+    ∙ rw first (ap (λ (t : EdgeTag). getD (edgesAs t (a .file .now) (a .o) (a .f)) 0 noEdge) (sym tag))
+
+label-edge-requires : tie.Need-label-edge-requires
+unfolding edgesTold
+label-edge-requires c κs =
+    let start = c .before .before .before in
+    let a = start .args in
+    let tag = its-position _ (edgeTag (a .f)) (c .before .states-channel .ensures) (c .if1 .left) in
+    (subst (λ (t : EdgeTag). EdgeCodesFit t (a .file .now) (a .f)) tag (start .pre .0), subst (λ (t : EdgeTag). a .j < edgesTold t (a .f .len)) tag (start .pre .1))
+
+returns-2 : tie.Need-returns-2
+returns-2 c =
+    let asked = c .before .before in
+    let a = asked .before .before .args in
+    let tag = its-position _ (edgeTag (a .f)) (asked .states-channel .ensures) (c .before .if1 .left) in
+    c .label-edge .ensures ∙ ap (λ (t : EdgeTag). getD (edgesAs t (a .file .now) (a .o) (a .f)) (a .j) noEdge) (sym tag)
 
 pub edge-for-spec : {M : Type 1} → statement M
-edge-for-spec = tie.close (tie.spec byte-requires byte-requires-2 add-byte byte-requires-3 p-ends-requires edge-with-requires returns)
+edge-for-spec = tie.close (tie.spec states-channel-requires pass-edge-requires returns label-edge-requires returns-2)

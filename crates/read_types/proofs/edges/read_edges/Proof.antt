@@ -58,7 +58,7 @@ use Rattle.read_types.proofs.edges.OneType.Laws as R′
 use Rattle.read_types.proofs.edges.Shape as Sh
 use Rattle.read_types.proofs.edges.Shape.Laws as Sh′
 use Rattle.read_types.proofs.ReadingTypes.{EdgesSoFar, edges-start, edges-few, edges-end, edges-next, edges-more}
-use Rattle.circuit.specs.Order.{edge-tag}
+use Rattle.circuit.specs.Order.{isEdge}
 use Rattle.circuit.specs.declared.order.Kind.the-variants.{Edge}
 use Rattle.circuit.proofs.order.Kind as Kd
 use Rattle.circuit.proofs.order.Kind.Laws as Kd′
@@ -281,10 +281,10 @@ module _ {M : Type 1} (𝓤 : URA M) (H : Heap 𝓤) (A : Atoms 𝓤) (W : Given
     After i = afterTurn 𝓤 H (Below 𝓤 H A Nearer At i) (afterBlock 𝓤 H (afterSeq 𝓤 H (Wp 𝓤 H C Λ En return (atReturn 𝓤 H En Post)) (atReturn 𝓤 H En Post)))
 
     -- the stage ends: the answer is made of the list
-    leaves : (i : Upto) (t : Next) (u : Val) (m : ℕ) → Turned (now s) (i .1) edge-tag t m → Is N.the-row t (u ∷ []) → endsBy (edgeVerdict (now s) shape (i .0 .count)) t ≡ true → Sq W (Told i u m true) (runs C Λ En left (anyQ (afterSeq 𝓤 H (Wp 𝓤 H C Λ En more (After i)) (After i))))
+    leaves : (i : Upto) (t : Next) (u : Val) (m : ℕ) → Turned (now s) (i .1) isEdge t m → Is N.the-row t (u ∷ []) → endsBy (edgeVerdict (now s) shape (i .0 .count)) t ≡ true → Sq W (Told i u m true) (runs C Λ En left (anyQ (afterSeq 𝓤 H (Wp 𝓤 H C Λ En more (After i)) (After i))))
     unfolding afterTurn
     leaves i t u m turn is ends =
-        use2 W (raw (Ended 𝓤 H A mem run .pre (to-ended t u (i .1) (i .0))) ⊛ ‵ Own) (goes-ended t u (i .1) (i .0) is (there-of i) (i .2) (next-in (now s) (i .1) edge-tag t (turn .own), edges-few (i .3))) $ split ! $
+        use2 W (raw (Ended 𝓤 H A mem run .pre (to-ended t u (i .1) (i .0))) ⊛ ‵ Own) (goes-ended t u (i .1) (i .0) is (there-of i) (i .2) (next-in (now s) (i .1) isEdge t (turn .own), edges-few (i .3))) $ split ! $
         called W ended.ended (ended.clauses 𝓤 H A mem run) (to-ended t u (i .1) (i .0) .0) tt ! fm known-ended (λ r ws. EdgesEnded (now s) t shape (i .1) (i .0) r) (λ r ws. id⊢ 𝓤 _) (and-then ! (load ! (from ! (stop !)) (look ! 24 refl)) (and-then ! (load ! (from ! (stop !)) (look ! 12 refl)) (and-then ! (load ! (from ! (stop !)) (look ! 20 refl)) (and-then ! (load ! (from ! (stop !)) (look ! 14 refl)) (and-then ! (load ! (from ! (stop !)) (look ! 16 refl)) (no-more !)))))) (λ r ws w e told.
         land ! (from ! (stop !)) (init ! 28 refl (LL.lawful R.the-type R′.the-laws 𝓤 H A W .typed r _ told .0)) $ returns-within ! Post refl (look ! 28 refl) $
         forget ! 4 refl $ forget ! 14 refl $ forget ! 16 refl $ forget ! 18 refl $ forget ! 20 refl $ forget ! 22 refl $ forget ! 24 refl $ forget ! 26 refl $ forget ! 28 refl $
@@ -292,7 +292,7 @@ module _ {M : Type 1} (𝓤 : URA M) (H : Heap 𝓤) (A : Atoms 𝓤) (W : Given
         keep ! (0 ∷ 1 ∷ 4 ∷ []) $ by ! (exits r w (edges-end (i .3) turn ends r e)))
 
     -- the stage goes on, with the edges that were found
-    keeps : (i : Upto) (t : Next) (u : Val) (m : ℕ) → Turned (now s) (i .1) edge-tag t m → Is N.the-row t (u ∷ []) → endsBy (edgeVerdict (now s) shape (i .0 .count)) t ≡ false → Sq W (Told i u m false) (runs C Λ En more (anyQ (After i)))
+    keeps : (i : Upto) (t : Next) (u : Val) (m : ℕ) → Turned (now s) (i .1) isEdge t m → Is N.the-row t (u ∷ []) → endsBy (edgeVerdict (now s) shape (i .0 .count)) t ≡ false → Sq W (Told i u m false) (runs C Λ En more (anyQ (After i)))
     unfolding afterTurn
     keeps i t u m turn is goes =
         let read = edges-more (i .3) turn goes in
@@ -305,7 +305,7 @@ module _ {M : Type 1} (𝓤 : URA M) (H : Heap 𝓤) (A : Atoms 𝓤) (W : Given
         again ! Nearer At i (r, m, subst (λ (z : Val). Is E.the-row r (z ∷ [])) (list-told r w told) told, subst (λ (l : EdgeList). EdgesSoFar (now s) n shape l m) (sym e) (read .0)) (omega (arith, read .1, turn .within)))
 
     -- what was told decides
-    by-told : (i : Upto) (t : Next) (u : Val) (m : ℕ) → Turned (now s) (i .1) edge-tag t m → Is N.the-row t (u ∷ []) → (b : Bool) → endsBy (edgeVerdict (now s) shape (i .0 .count)) t ≡ b → Sq W (Told i u m b) (runs C Λ En (seq (cond (copy (place 12 [])) left skipᴹ) more) (anyQ (After i)))
+    by-told : (i : Upto) (t : Next) (u : Val) (m : ℕ) → Turned (now s) (i .1) isEdge t m → Is N.the-row t (u ∷ []) → (b : Bool) → endsBy (edgeVerdict (now s) shape (i .0 .count)) t ≡ b → Sq W (Told i u m b) (runs C Λ En (seq (cond (copy (place 12 [])) left skipᴹ) more) (anyQ (After i)))
     unfolding afterTurn
     by-told i t u m turn is true e = first ! $ branches ! (load ! (from ! (stop !)) (look ! 2 refl)) (λ yes. leaves i t u m turn is e) (λ no. absurd no)
     by-told i t u m turn is false e = first ! $ branches ! (load ! (from ! (stop !)) (look ! 2 refl)) (λ yes. absurd yes) (λ no. skips ! $ exec ! C Λ En more (anyQ (After i)) $ keeps i t u m turn is e)
@@ -317,7 +317,7 @@ module _ {M : Type 1} (𝓤 : URA M) (H : Heap 𝓤) (A : Atoms 𝓤) (W : Given
         move ! (16 ∷ 4 ∷ 6 ∷ 2 ∷ 27 ∷ 26 ∷ []) $ Lo.finds 𝓤 H A W mem run κ q s fm ! known-next known-own (λ Δ. from ! (stop !)) (λ Δ. from ! (stop !)) (tt, tt) (λ Δ. from ! (stop !)) (λ Δ. from ! (stop !)) Edge tt (EL.owes Kd.the-type Kd′.the-laws Edge tt) (i .1) (there-of i) (place-of i) (λ t u m turn is.
         land ! (from ! (stop !)) (init ! 14 refl (EL.lawful N.the-type N′.the-laws 𝓤 H A W tt .typed t _ is .0)) $ drop ! $
         keep ! (4 ∷ 5 ∷ 6 ∷ 7 ∷ 3 ∷ 8 ∷ 1 ∷ 9 ∷ 2 ∷ 10 ∷ 11 ∷ 12 ∷ 13 ∷ 14 ∷ 15 ∷ 16 ∷ 17 ∷ 18 ∷ 0 ∷ 19 ∷ 20 ∷ 21 ∷ 22 ∷ 23 ∷ 24 ∷ 25 ∷ 26 ∷ 27 ∷ 28 ∷ []) $
-        use2 W (raw (Ends 𝓤 H A mem run .pre (to-ends t u (i .0 .count))) ⊛ ‵ Own) (goes-ends t u (i .0 .count) is (count-fits (i .0) (i .2)) (next-in (now s) (i .1) edge-tag t (turn .own), edges-few (i .3))) $ split ! $
+        use2 W (raw (Ends 𝓤 H A mem run .pre (to-ends t u (i .0 .count))) ⊛ ‵ Own) (goes-ends t u (i .0 .count) is (count-fits (i .0) (i .2)) (next-in (now s) (i .1) isEdge t (turn .own), edges-few (i .3))) $ split ! $
         called W ends.ended (ends.clauses 𝓤 H A mem run) (to-ends t u (i .0 .count) .0) tt ! fm known-ends (λ b ws. b ≡ endsBy (edgeVerdict (now s) shape (i .0 .count)) t) (λ b ws. id⊢ 𝓤 _) (and-then ! (load ! (from ! (stop !)) (look ! 24 refl)) (and-then ! (load ! (from ! (stop !)) (look ! 12 refl)) (and-then ! (load ! (from ! (stop !)) (look ! 20 refl)) (and-then ! (load ! (from ! (fld ! refl (stop !))) (look-in ! 16 (sub ! 0 refl (whole !)))) (no-more !))))) (λ b ws w e is′.
         land ! (from ! (stop !)) (init ! 4 refl (bool-lawful 𝓤 H A W .typed b _ is′ .0)) $ rewrite ! 4 (λ (z : Val). ‵ (fat fullShare tyBool m₂ 0 z)) (ap only is′) refl $
         move ! (1 ∷ []) $ use1 W Token (id⊢ 𝓤 _) $

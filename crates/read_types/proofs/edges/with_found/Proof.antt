@@ -1,4 +1,4 @@
--- `read_types::edges::with_found` meets its contract. The loop's invariant: all edges stored is those stored so far, with the edges from label `j` on stored behind them. Assumes nothing.
+-- `read_types::edges::with_found` meets its contract. The loop's invariant: all edges stored is those stored so far, with the edges from number `j` on stored behind them. Assumes nothing.
 use Prim.Native.Nat.{ℕ, suc, _+_, _-_, _≤_, _<_}
 use mathlib.Core.Path.{_≡_, sym, ap, _∙_}
 use mathlib.Core.List.{List, []}
@@ -11,7 +11,7 @@ use lib.Seq.{drop-cons}
 use Rattle.switch.specs.Modules.{mostEdges}
 use Rattle.switch.specs.Records.{noEdge, edgeRecord}
 use Rattle.switch.specs.declared.Edge.{Edge as EdgeRecord}
-use Rattle.circuit.specs.Known.{edgesIn}
+use Rattle.circuit.specs.Known.{edgesTold, edgesIn}
 use Rattle.circuit.proofs.TypeLaws.{length-edges-in}
 use Rattle.read_fields.specs.Steps.{bodyOf}
 use Rattle.read_fields.specs.declared.Field.{Field as FieldRecord}
@@ -19,16 +19,18 @@ use Rattle.read_fields.specs.declared.Next.{Next}
 use Rattle.read_fields.specs.declared.Next.the-variants.{Found}
 use Rattle.read_fields.proofs.Bodies.{length-body}
 use Rattle.read_fields.proofs.Turns.{kept-found, kept-other}
-use Rattle.read_types.specs.EdgeTurns.{edgesKept, placed, listWith, EdgeCodesFit, EdgesNext}
+use Rattle.read_types.specs.EdgeTurns.{edgeTag, edgesAs, edgesKept, placed, listWith, EdgeCodesFit, EdgesNext}
 use Rattle.read_types.proofs.edges.EdgeList as E
 use Rattle.read_types.proofs.edges.EdgeList.Laws as E′
 use Rattle.read_types.proofs.edges.with_found.Statement.{statement}
 use Rattle.read_types.proofs.edges.with_found.Tie as tie
 
-length-kept : (file : List ℕ) (o : ℕ) (f : FieldRecord) → f .body + f .len ≤ length file → length (edgesKept file o f) ≡ f .len - 2
-unfolding edgesKept
+length-kept : (file : List ℕ) (o : ℕ) (f : FieldRecord) → f .body + f .len ≤ length file → length (edgesKept file o f) ≡ edgesTold (edgeTag f) (f .len)
+unfolding edgesAs
 length-kept file o f h =
-    let body = bodyOf file f in omega (arith, length-map (edgesIn o body) edgeRecord, length-edges-in o body, length-body file f h)
+    let body = bodyOf file f in
+    let tag = edgeTag f in
+    length-map (edgesIn tag o body) edgeRecord ∙ length-edges-in tag o body ∙ ap (edgesTold tag) (length-body file f h)
 
 -- an edge more is stored
 one-more : (edges es : List EdgeRecord) (count j : ℕ) (e : EdgeRecord) → j < length es → e ≡ getD es j noEdge
@@ -37,21 +39,21 @@ unfolding placed
 one-more edges es count j e h is =
     let next : count + (j + 1) ≡ suc (count + j) = omega arith in rw (drop-cons es j noEdge h, next, add-one j, is)
 
-fits : (file : List ℕ) (count : ℕ) (n : Next) (f : FieldRecord) → n ≡ Found f → EdgesNext file count n → EdgeCodesFit file f × (count + (f .len - 2) ≤ mostEdges)
+fits : (file : List ℕ) (count : ℕ) (n : Next) (f : FieldRecord) → n ≡ Found f → EdgesNext file count n → EdgeCodesFit (edgeTag f) file f × (count + edgesTold (edgeTag f) (f .len) ≤ mostEdges)
 unfolding EdgesNext
 fits file count n f e is = rw e at is
 
 abbrev Inv-loop : tie.InvT-loop
-Inv-loop file shape f labels count list₀ j₀ list j =
-    (count + labels ≤ mostEdges) × (length (list .edges) ≡ mostEdges) × (length (edgesKept file (shape .output) f) ≡ labels) × (j ≤ labels)
+Inv-loop file shape f added count list₀ j₀ list j =
+    (count + added ≤ mostEdges) × (length (list .edges) ≡ mostEdges) × (length (edgesKept file (shape .output) f) ≡ added) × (j ≤ added)
     × (placed (list₀ .edges) count (edgesKept file (shape .output) f) ≡ placed (list .edges) (count + j) (drop j (edgesKept file (shape .output) f)))
 
 abbrev μ-loop : tie.MeasureT-loop
-μ-loop file shape f labels count list₀ j₀ list j = labels - j
+μ-loop file shape f added count list₀ j₀ list j = added - j
 
 -- the field that was found, and what holds of it
 here : (c : tie.After-found Inv-loop μ-loop) → let a = c .before .before .before .args in let f = c .found .given .0 .0 in
-    EdgeCodesFit (a .file .now) f × (a .list .count + (f .len - 2) ≤ mostEdges)
+    EdgeCodesFit (edgeTag f) (a .file .now) f × (a .list .count + edgesTold (edgeTag f) (f .len) ≤ mostEdges)
 here c =
     let start = c .before .before .before in
     let f = c .found .given in
@@ -68,8 +70,8 @@ returns c =
     let a = c .before .before .before .args in
     kept-other (a .found) (listWith (a .file .now) (a .shape .output) (a .list)) (a .list) (c .enum-told .given .1)
 
-labels-in-requires : tie.Need-labels-in-requires Inv-loop μ-loop
-labels-in-requires c κs = search needs
+edges-in-requires : tie.Need-edges-in-requires Inv-loop μ-loop
+edges-in-requires c κs = search needs
 
 loop-holds : tie.Need-loop-holds Inv-loop μ-loop
 loop-holds c =
@@ -77,19 +79,19 @@ loop-holds c =
     let start = found .before .before .before in
     let a = start .args in
     let f = found .found .given .0 .0 in
-    let labels = c .labels-in .ensures in
+    let told = c .edges-in .ensures in
     let kept = length-kept (a .file .now) (a .shape .output) f (here found .0 .inside) in
     let places = LL.owed E.the-type E′.the-laws (a .list) _ (start .good .1 .1 .1 .0) .1 .0 .1 .0 .1 in
     let first : a .list .count ≡ a .list .count + 0 = omega arith in (
-      omega (arith, labels, here found .1),
+      omega (arith, told, here found .1),
       sym (length-map (a .list .edges) _) ∙ places,
-      omega (arith, kept, labels),
+      kept ∙ sym told,
       omega arith,
       ap (λ (n : ℕ). placed (a .list .edges) n (edgesKept (a .file .now) (a .shape .output) f)) first,
     )
 
 edge-for-requires : tie.Need-edge-for-requires Inv-loop μ-loop
-edge-for-requires c κs = (here (c .before .before .before .before) .0, omega (arith, c .before .before .labels-in .ensures))
+edge-for-requires c κs = (here (c .before .before .before .before) .0, omega (arith, c .before .before .edges-in .ensures))
 
 add-t12 : tie.Need-add-t12 Inv-loop μ-loop
 add-t12 c = omega arith
@@ -131,7 +133,7 @@ returns-2 c =
     let turn = c .before .loop in
     let kept = edgesKept (a .file .now) (a .shape .output) (f .0 .0) in
     let none : drop (turn .j) kept ≡ [] = drop-of-length-le kept {i = turn .j} (omega arith) in
-    let count = ap (λ (n : ℕ). a .list .count + n) (c .before .before .labels-in .ensures) in
+    let count = ap (λ (n : ℕ). a .list .count + n) (c .before .before .edges-in .ensures) in
     let edges : turn .list .edges ≡ placed (a .list .edges) (a .list .count) kept = sym (turn .inv .4 ∙ rw none) in
     (λ i. record { count = count i; edges = edges i })
     ∙ kept-found (a .found) (listWith (a .file .now) (a .shape .output) (a .list)) (a .list) (f .0 .0) (f .1)
@@ -145,7 +147,7 @@ with-found-spec =
     enum-known-found
     enum-told
     returns
-    labels-in-requires
+    edges-in-requires
     loop-holds
     edge-for-requires
     add-t12

@@ -49,7 +49,7 @@ use Rattle.switch.specs.declared.ModuleType.{ModuleType as TypeRecord}
 use Rattle.switch.proofs.ModuleType as T
 use Rattle.switch.proofs.ModuleType.Laws as T′
 use Rattle.circuit.specs.Limits.{mostTypes}
-use Rattle.circuit.specs.Order.{type-tag}
+use Rattle.circuit.specs.Order.{type-tag, isKind}
 use Rattle.circuit.specs.Records.{unusedType}
 use Rattle.circuit.specs.declared.order.Kind.the-variants.{Module}
 use Rattle.circuit.proofs.order.Kind as Kd
@@ -289,7 +289,7 @@ module _ {M : Type 1} (𝓤 : URA M) (H : Heap 𝓤) (A : Atoms 𝓤) (W : Given
     abbrev After : Upto → Out → SProp 𝓤
     After i = afterTurn 𝓤 H (Below 𝓤 H A Fuller At i) (afterBlock 𝓤 H (afterSeq 𝓤 H (Wp 𝓤 H C Λ En return (atReturn 𝓤 H En Post)) (atReturn 𝓤 H En Post)))
 
-    module _ (i : Upto) (t : Next) (u : Val) (m : ℕ) (turned : Turned (now s) (i .2) type-tag t m) (is : Is N.the-row t (u ∷ [])) (one : OneType) (made : TypeTold (now s) (i .1) t one) (is-one : Is O.the-row one (oneVal one ∷ [])) where
+    module _ (i : Upto) (t : Next) (u : Val) (m : ℕ) (turned : Turned (now s) (i .2) (isKind type-tag) t m) (is : Is N.the-row t (u ∷ [])) (one : OneType) (made : TypeTold (now s) (i .1) t one) (is-one : Is O.the-row one (oneVal one ∷ [])) where
       -- the stage ends: the array is whole again, and the answer is made of it
       leaves : endsAt t (one .refusal) ≡ true → Sq W (Told i u m one true) (runs C Λ En left (anyQ (afterSeq 𝓤 H (Wp 𝓤 H C Λ En more (After i)) (After i))))
       unfolding afterTurn

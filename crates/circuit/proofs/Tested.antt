@@ -1,15 +1,15 @@
 -- What a field that has passed its tests gives: a type, an edge, a bridge, an instance or a vector of which specs/Laws says that it is sound or good.
 -- And what the tests of a field can refuse with: a number of the table, and the field's place.
 use Prim.Native.Nat.{ℕ, zero, suc, _+_, _-_, _*_, _≤_, _<_}
-use mathlib.Core.Path.{_≡_, refl, sym, ap, subst, _∙_}
-use mathlib.Core.Bool.{Bool, true, false, cond, not, _&&_}
+use mathlib.Core.Path.{_≡_, refl, sym, subst, _∙_}
+use mathlib.Core.Bool.{Bool, true, false, cond, _&&_}
 use mathlib.Core.List.{List, [], _∷_, _++_}
 use native.Mathlib.Nat.{not-suc-le-zero, le-of-suc-le-suc}
 use native.Mathlib.Decide.{decLt}
 use native.Mathlib.Omega.{arith}
 use borrow.Author.Tests.{ltb-true, ltb-false, leb-false}
 use lib.Dec.{T, eqb, leb, ltb, leb→le, le→leb, eqb→eq, eqb·suc-zero}
-use lib.ListN.{length, getD, drop, length-append, length-map, List·getD-append}
+use lib.ListN.{length, getD, length-append, length-map, List·getD-append}
 use lib.Seq.{getD-append-seam}
 use Rattle.switch.specs.Conduction.{EdgeTag, by-position, stated, between}
 use Rattle.switch.specs.Modules.{ModuleType, allOf, typeInRange, inRange}

@@ -1,9 +1,10 @@
 -- The verdict of a grading: it is that of the table's first test that refuses, and that of an answer that keeps the promise.
-use Prim.Native.Nat.{ℕ, _*_}
+use Prim.Native.Nat.{ℕ, _*_, _≤_}
 use mathlib.Core.Path.{_≡_, refl, sym, ap₂, _∙_}
 use mathlib.Core.Bool.{Bool, true, false, cond, true≢false}
 use mathlib.Core.Logic.{_↔_}
 use mathlib.Core.List.{List}
+use native.Mathlib.Omega.{arith}
 use lib.Dec.{T, ltb}
 use lib.ListN.{length}
 use Rattle.circuit.specs.Limits.{mostBytes}
@@ -108,3 +109,22 @@ refuses-is (ShortClasses faults) number place = (λ p. ap₂ refusedAt (p .0) (p
 -- an answer that keeps the promise has the verdict of the grading
 pub answer-is : (call : Call) → Kept call → answered (call .answer) ≡ verdictIn (gradingOf (call .file) (roomOf (call .before)))
 answer-is call kept = answer-tells (gradingOf (call .file) (roomOf (call .before))) (call .answer) (call .before) (call .after) kept
+
+-- ---- the reading behind a number
+
+-- the number that a grading is refused with is that of the reading, or past the table's
+pub graded-number : (c : Circuit) (room : Room) (n : ℕ) → 1 ≤ n → n ≤ 14 → n ≡ numberIn (gradingOfCircuit c room) → ⊥
+unfolding gradingOfCircuit numberIn
+graded-number c room n low high = go (ltb (room .words) (4 * length (rowsOf c))) (ltb (room .entries) (length (rowsOf c)))
+  where
+    go : (a b : Bool) → n ≡ numberIn (cond a (refused 15 (4 * length (rowsOf c))) (cond b (refused 22 (length (rowsOf c))) (graded c))) → ⊥
+    go true b e = absurd (omega arith)
+    go false true e = absurd (omega arith)
+    go false false e = absurd (omega arith)
+
+-- so a number of the table, with its place, is that of the reading
+pub refused-there : (m : ℕ) → 1 ≤ m → m ≤ 14 → (r : Reading) (room : Room) (p : ℕ)
+    → m ≡ numberIn (afterReading r room) → p ≡ placeIn (afterReading r room) → r ≡ refusal m p
+unfolding afterReading numberIn placeIn
+refused-there m low high (accepted c) room p e at = absurd (graded-number c room m low high e)
+refused-there m low high (refusal n q) room p e at = rw (e, at)

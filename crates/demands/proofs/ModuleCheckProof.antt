@@ -1,7 +1,7 @@
 -- Number 9 by blocks of settings is number 9 of the table, at every field and at the end, so a grader that checks by blocks is the right one; the wrong checks
 -- accept a file that the table refuses, which is computed. Assumes nothing.
 use Prim.Native.Nat.{ℕ, _+_}
-use mathlib.Core.Path.{_≡_, refl, subst}
+use mathlib.Core.Path.{_≡_, refl}
 use mathlib.Core.Bool.{Bool, true, false, cond, not, _&&_}
 use mathlib.Core.List.{List, [], _∷_, _++_, map}
 use lib.ListN.{length}
@@ -19,13 +19,12 @@ use Rattle.circuit.specs.Table.{inputsTests, typeTests, edgeTests, edgeTestsOf,
 use Rattle.circuit.specs.Reading.{readFrom, readingWith}
 use Rattle.grading.specs.Buffers.{Buffers}
 use Rattle.grading.specs.Grading.{gradingOf}
-use Rattle.demands.specs.Calls.{Kept}
-use Rattle.demands.specs.Graders.{Outcome, gradesBy, rightly, readTaking, takingAndTesting}
+use Rattle.demands.specs.Graders.{gradesBy, rightly, readTaking, takingAndTesting}
 use Rattle.demands.specs.Files.{inputsField, typeField, edgeField, instanceField, vectorField, oneUnder}
 use Rattle.demands.specs.ModuleCheck.{rejudged, fieldTestsBy, endTestsBy, checksBy, NineAsBefore}
 use Rattle.demands.specs.ModuleCheck.{stopsAtAGoodBlock, leavesTheLastOut, keepsTheLastBlock, WrongChecksAreWrong}
 use Rattle.demands.proofs.Computing.{grader-computing}
-use Rattle.demands.proofs.RightProof.{rightly-is-right}
+use Rattle.demands.proofs.RightProof.{as-rightly}
 use Rattle.demands.proofs.WrongProof.{NumberDiffers, by-number}
 
 -- ---- the tests
@@ -69,7 +68,7 @@ nine-as-before = record {
   at-a-field = at-a-field;
   at-the-end = at-the-end;
   on-files = λ file before.
-      subst (λ (o : Outcome). Kept (record { file = file; before = before; answer = o .answer; after = o .after })) (same-outcome file before) (rightly-is-right file before);
+      as-rightly (checksBy byBlocks) file before (same-outcome file before);
 }
 
 -- ---- wrong checks

@@ -10,8 +10,7 @@ use borrow.Author.Needs.{needs}
 use borrow.Author.Tests.{eqb-false, not-true, not-false}
 use lib.Dec.{T, eqb, ltb}
 use lib.Ieee.Bits.{is-true}
-use lib.ListN.{length, getD, take, drop, length-append}
-use lib.Seq.{set-append-seam}
+use lib.ListN.{length, getD, take, drop}
 use Rattle.switch.specs.Conduction.{Channel, p-channel, n-channel, channelBit, channelOf, EdgeTag, by-position, stated, Edge, badEnds}
 use Rattle.switch.specs.Modules.{ModuleType, allOf}
 use Rattle.switch.proofs.Apart.{rails-apart}
@@ -29,7 +28,7 @@ use Rattle.circuit.specs.Laws.{Each, endsGood, endsGoodBy, TypeGood}
 use Rattle.circuit.proofs.CircuitLaws.{accepted-is-good}
 use Rattle.circuit.proofs.OrderLaws.{kind-is, edge-no-type}
 use Rattle.circuit.proofs.Verdicts.{first-passes}
-use Rattle.read_types.proofs.TypeStages.{latest-snoc}
+use Rattle.read_types.proofs.TypeStages.{latest-snoc, edges-added-snoc}
 use Rattle.grading.proofs.ValueLaws.{type-accepted}
 use Rattle.demands.specs.Calls.{Accepts}
 use Rattle.demands.specs.SingleTransistors.{FieldOf, EdgeFieldOf}
@@ -37,12 +36,6 @@ use Rattle.demands.specs.PassTransistors.{edgesBehind, typesIn, TypesAre
 use Rattle.demands.proofs.WholeFields.{after-verdict, read-from-start}
 
 -- ---- types
-
-edges-added-snoc : (types : List ModuleType) (t : ModuleType) (es : List Edge) → edgesAdded (types ++ (t ∷ [])) es ≡ types ++ (withEdges t es ∷ [])
-unfolding edgesAdded
-edges-added-snoc types t es =
-    let last : length (types ++ (t ∷ [])) - 1 ≡ length types = omega (arith, length-append types (t ∷ [])) in
-    rw (latest-snoc types t, last) (set-append-seam types t [] (withEdges t es))
 
 with-no-edges : (t : ModuleType) → withEdges t [] ≡ t
 unfolding withEdges

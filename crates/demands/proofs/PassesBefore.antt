@@ -1,8 +1,8 @@
 -- Files without tag 7 are answered as they were (specs/PassTransistors, "files of before"): the grader of then reads as today's until it meets a field with tag 7,
 -- which it refuses by 3, as today's never does. Assumes nothing.
-use Prim.Native.Nat.{ℕ, _*_}
-use mathlib.Core.Path.{_≡_, refl, sym, ap, subst, _∙_}
-use mathlib.Core.Bool.{Bool, true, false, cond, or-false}
+use Prim.Native.Nat.{ℕ}
+use mathlib.Core.Path.{_≡_, refl, sym, ap, _∙_}
+use mathlib.Core.Bool.{Bool, true, false, or-false}
 use mathlib.Core.Logic.{_⊎_, inl, inr}
 use mathlib.Core.List.{List, map}
 use native.Mathlib.Omega.{arith}
@@ -17,19 +17,19 @@ use Rattle.circuit.specs.Order.{Tag, inputs-tag, type-tag, edge-tag, bridge-tag
 use Rattle.circuit.specs.Known.{Known, start, knownAfter}
 use Rattle.circuit.specs.Table.{Verdict, passes, refusedAt, firstOf, bodyTests, fieldTests, endTests}
 use Rattle.circuit.specs.Table.{inputsTests, typeTests, edgeTests, edgeTestsOf, bridgeTests, instanceTests, instanceTestsOf, vectorTests}
-use Rattle.circuit.specs.Reading.{Reading, accepted, refusal, unless, readFrom, readingWith, readingOf}
+use Rattle.circuit.specs.Reading.{Reading, refusal, unless, readFrom, readingWith, readingOf}
 use Rattle.circuit.specs.Refusals.{refusalNumber, refusalPlace}
 use Rattle.circuit.proofs.OrderLaws.{kind-is}
-use Rattle.grading.specs.Buffers.{Buffers, Room, roomOf}
-use Rattle.grading.specs.Rows.{rowsOf}
-use Rattle.grading.specs.Grading.{graded, refused, gradingOf, gradingOfCircuit, afterReading, numberIn, placeIn}
+use Rattle.grading.specs.Buffers.{Buffers, roomOf}
+use Rattle.grading.specs.Grading.{refused, gradingOf, afterReading}
 use Rattle.grading.specs.Promise.{numberOf, placeOf}
 use Rattle.demands.specs.Calls.{Kept}
-use Rattle.demands.specs.Graders.{Outcome, called, refusalOf, refusing, outcomeOf, rightly, gradesBy, readTaking, takingAndTesting}
+use Rattle.demands.specs.Graders.{called, refusalOf, refusing, outcomeOf, rightly, gradesBy, readTaking, takingAndTesting}
 use Rattle.demands.specs.SingleTransistors.{FieldOf}
 use Rattle.demands.specs.PassTransistors.{sevenUnknown, testsWithoutPasses, withoutPasses, readingWithoutPasses, PassMet, OnlyPassesChange}
 use Rattle.demands.proofs.PassTransistorsProof.{numbers-of-edges}
-use Rattle.demands.proofs.RightProof.{rightly-is-right}
+use Rattle.demands.proofs.GradingVerdicts.{refused-there}
+use Rattle.demands.proofs.RightProof.{as-rightly}
 
 -- ---- a field
 
@@ -93,11 +93,6 @@ read-alike size known (field f rest) = go (isKind (edge-tag stated) (tagOf (f .t
 
 -- ---- as before
 
--- what answers as the right grader keeps the promise
-kept : (file : List ℕ) (before : Buffers) → rightly file before ≡ withoutPasses file before → Kept (called withoutPasses file before)
-kept file before same =
-    subst (λ (o : Outcome). Kept (record { file = file; before = before; answer = o .answer; after = o .after })) same (rightly-is-right file before)
-
 as-before : (file : List ℕ) (before : Buffers) → Kept (called withoutPasses file before) ⊎ PassMet file
 unfolding rightly gradesBy gradingOf readingWith takingAndTesting
 as-before file before = go (ltb mostBytes (length file)) refl (read-alike (length file) start (cutFrom file 0))
@@ -108,8 +103,8 @@ as-before file before = go (ltb mostBytes (length file)) refl (read-alike (lengt
     -- of both only number 1 is looked at where the file is too long
     go : (b : Bool) → ltb mostBytes (length file) ≡ b → (readingWithoutPasses file ≡ now) ⊎ MetIn (cutFrom file 0) (readingWithoutPasses file)
         → Kept (called withoutPasses file before) ⊎ PassMet file
-    go true long alike = inl (kept file before (rw long))
-    go false short (inl same) = inl (kept file before (rw (short, same)))
+    go true long alike = inl (as-rightly withoutPasses file before (rw long))
+    go false short (inl same) = inl (as-rightly withoutPasses file before (rw (short, same)))
     go false short (inr met) = inr (record {
       short = ltb-false mostBytes (length file) short;
       met = met .0;
@@ -118,21 +113,6 @@ as-before file before = go (ltb mostBytes (length file)) refl (read-alike (lengt
     })
 
 -- ---- what is answered otherwise
-
--- a grading has number 3 only where reading refused by it
-graded-not-three : (c : Circuit) (room : Room) → 3 ≡ numberIn (gradingOfCircuit c room) → ⊥
-unfolding gradingOfCircuit numberIn
-graded-not-three c room = go (ltb (room .words) (4 * length (rowsOf c))) (ltb (room .entries) (length (rowsOf c)))
-  where
-    go : (a b : Bool) → 3 ≡ numberIn (cond a (refused 15 (4 * length (rowsOf c))) (cond b (refused 22 (length (rowsOf c))) (graded c))) → ⊥
-    go true b e = omega arith
-    go false true e = omega arith
-    go false false e = omega arith
-
-three-there : (r : Reading) (room : Room) (p : ℕ) → 3 ≡ numberIn (afterReading r room) → p ≡ placeIn (afterReading r room) → r ≡ refusal 3 p
-unfolding afterReading numberIn placeIn
-three-there (accepted c) room p e at = absurd (graded-not-three c room e)
-three-there (refusal n q) room p e at = rw (e, at)
 
 module _ (file : List ℕ) (before : Buffers) (met : PassMet file) where
   answer-was : withoutPasses file before .answer ≡ refusing 3 (met .met .at)
@@ -143,7 +123,7 @@ module _ (file : List ℕ) (before : Buffers) (met : PassMet file) where
   unfolding refusing refusalOf numberOf placeOf refusalNumber refusalPlace gradingOf
   changed keeps =
       numbers-of-edges .three file (met .met) (met .its)
-      (three-there (readingOf file) (roomOf before) (met .met .at) (sym (ap numberOf answer-was) ∙ keeps .number) (sym (ap placeOf answer-was) ∙ keeps .place))
+      (refused-there 3 (omega arith) (omega arith) (readingOf file) (roomOf before) (met .met .at) (sym (ap numberOf answer-was) ∙ keeps .number) (sym (ap placeOf answer-was) ∙ keeps .place))
 
 pub only-passes-change : OnlyPassesChange
 only-passes-change = record { as-before = as-before; changed = changed }

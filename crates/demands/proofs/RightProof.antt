@@ -6,10 +6,10 @@ use mathlib.Core.Bool.{Bool, true, false, cond}
 use mathlib.Core.List.{List, [], _∷_, _++_}
 use lib.Dec.{eqb}
 use lib.ListN.{length}
+use Rattle.switch.specs.Conduction.{by-position, stated}
 use Rattle.circuit.specs.Fields.{Field, Cut, clean, broken, field, cutFrom}
 use Rattle.circuit.specs.Circuit.{Circuit}
 use Rattle.circuit.specs.Known.{Known, start, knownAfter}
-use Rattle.switch.specs.Conduction.{by-position, stated}
 use Rattle.circuit.specs.Order.{Tag, inputs-tag, type-tag, edge-tag, bridge-tag, instance-tag, vector-tag, no-tag, tagOf}
 use Rattle.circuit.specs.Table.{Test, Verdict, passes, refusedAt, firstOf, bodyTests, fieldTests, endTests}
 use Rattle.circuit.specs.Table.{inputsTests, typeTests, edgeTests, edgeTestsOf, bridgeTests, instanceTests, instanceTestsOf, vectorTests}
@@ -23,7 +23,8 @@ use Rattle.grading.specs.Grading as grading
 use Rattle.grading.specs.Promise.{isGraded, numberOf, placeOf, countsOf, AnswersAs}
 use Rattle.grading.specs.declared.Answer.the-variants.{Refused, ShortMatrix, ShortClasses}
 use Rattle.demands.specs.One.{bufferTests, testsFrom, tableOf, PromiseCanBeMet}
-use Rattle.demands.specs.Graders.{Outcome, called, refusalOf, refusing, outcomeOf, gradesBy}
+use Rattle.demands.specs.Calls.{Kept}
+use Rattle.demands.specs.Graders.{Outcome, Grader, called, refusalOf, refusing, outcomeOf, gradesBy}
 use Rattle.demands.specs.Graders.{workBy, rightWork, rightly, RightlyIsRight}
 use Rattle.demands.proofs.GradingVerdicts.{verdictIn, table-tells}
 
@@ -123,6 +124,11 @@ outcome-answers (refused number place) told before =
 pub rightly-is-right : RightlyIsRight
 unfolding rightly gradesBy
 rightly-is-right file before = outcome-answers (gradingOf file (roomOf before)) (told-grading file (roomOf before)) before
+
+-- and so does whatever answers as it does
+pub as-rightly : (grader : Grader) (file : List ℕ) (before : Buffers) → rightly file before ≡ grader file before → Kept (called grader file before)
+as-rightly grader file before same =
+    subst (λ (o : Outcome). Kept (record { file = file; before = before; answer = o .answer; after = o .after })) same (rightly-is-right file before)
 
 pub promise-can-be-met : PromiseCanBeMet
 promise-can-be-met file before =

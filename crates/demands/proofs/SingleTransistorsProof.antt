@@ -26,13 +26,14 @@ use Rattle.grading.specs.Grading.{graded, refused, gradingOf, gradingOfCircuit,
 use Rattle.grading.specs.Promise.{numberOf, placeOf}
 use Rattle.circuit.specs.Refusals.{refusalNumber, refusalPlace}
 use Rattle.demands.specs.Calls.{Kept}
-use Rattle.demands.specs.Graders.{Outcome, called, refusalOf, refusing, outcomeOf, rightWork, rightly, gradesBy}
+use Rattle.demands.specs.Graders.{called, refusalOf, refusing, outcomeOf, rightWork, rightly, gradesBy}
 use Rattle.demands.specs.SingleTransistors.{bytesBefore, latestGroups, groupsStart, GroupsReading, accepted-with, refused-with, groupsReadFrom, groupsReading, groupsWork}
 use Rattle.demands.specs.SingleTransistors.{groupsOutcome, groupwise, EdgeFieldOf, Changed, longer, more-edges, pass-field, AnsweredAsBefore, AcceptedAsBefore}
 use Rattle.demands.proofs.GroupsGrade.{Aligned, work-alike}
 use Rattle.demands.proofs.GroupsRead.{numberThen, Along, ReadAlike, RefusedThen, read-alike}
 use Rattle.demands.proofs.PassTransistorsProof.{numbers-of-edges}
-use Rattle.demands.proofs.RightProof.{rightly-is-right}
+use Rattle.demands.proofs.GradingVerdicts.{graded-number, refused-there}
+use Rattle.demands.proofs.RightProof.{as-rightly}
 
 -- ---- what is read alike is answered alike
 
@@ -83,11 +84,6 @@ within file short = omega (arith, ltb-false bytesBefore (length file) short)
 
 -- ---- as before
 
--- what answers as the right grader keeps the promise
-kept : (file : List ℕ) (before : Buffers) → rightly file before ≡ groupwise file before → Kept (called groupwise file before)
-kept file before same =
-    subst (λ (o : Outcome). Kept (record { file = file; before = before; answer = o .answer; after = o .after })) same (rightly-is-right file before)
-
 -- the number and the place of a reading, 0 and 0 where it is accepted
 number : Reading → ℕ
 number (accepted c) = 0
@@ -117,7 +113,7 @@ module _ (file : List ℕ) (before : Buffers) where
     read-kept : ReadAlike (today file) (then file) → Kept (called groupwise file before)
     unfolding rightly gradesBy gradingOf groupwise
     read-kept alike =
-        kept file before
+        as-rightly groupwise file before
         (ap (λ (r : Reading). outcomeOf rightWork (afterReading r (roomOf before)) before) (today-is file (within file short))
         ∙ answered-alike (today file) (then file) alike before
         ∙ ap (λ (g : GroupsReading). groupsOutcome g before) (sym (then-is file short)))
@@ -139,7 +135,7 @@ module _ (file : List ℕ) (before : Buffers) where
 
   long-file : ltb bytesBefore (length file) ≡ true → (b : Bool) → ltb mostBytes (length file) ≡ b → AsBefore
   unfolding rightly gradesBy gradingOf afterReading outcomeOf readingWith groupwise groupsReading groupsOutcome
-  long-file long true e = inl (kept file before (rw (e, long)))
+  long-file long true e = inl (as-rightly groupwise file before (rw (e, long)))
   long-file long false e = inr (longer (ltb-true bytesBefore (length file) long) (ltb-false mostBytes (length file) e))
 
 as-before : (file : List ℕ) (before : Buffers) → AsBefore file before
@@ -228,26 +224,10 @@ past-one size known clean = by-tests (endTests true known size) (two-end known s
 past-one size known (broken at) = omega arith
 past-one size known (field f rest) = by-tests (fieldTests known f) (two-field known f) _ (past-one size (knownAfter known f) rest)
 
--- the number that a grading is refused with is that of the reading, or past the table's
-graded-number : (c : Circuit) (room : Room) (n : ℕ) → 1 ≤ n → n ≤ 14 → n ≡ numberIn (gradingOfCircuit c room) → ⊥
-unfolding gradingOfCircuit numberIn
-graded-number c room n low high = go (ltb (room .words) (4 * length (rowsOf c))) (ltb (room .entries) (length (rowsOf c)))
-  where
-    go : (a b : Bool) → n ≡ numberIn (cond a (refused 15 (4 * length (rowsOf c))) (cond b (refused 22 (length (rowsOf c))) (graded c))) → ⊥
-    go true b e = absurd (omega arith)
-    go false true e = absurd (omega arith)
-    go false false e = absurd (omega arith)
-
 not-one : (r : Reading) (room : Room) → Past r → 1 ≡ numberIn (afterReading r room) → ⊥
 unfolding Past afterReading numberIn
 not-one (accepted c) room past e = graded-number c room 1 (omega arith) (omega arith) e
 not-one (refusal n p) room past e = absurd (omega arith)
-
-refused-there : (m : ℕ) → 1 ≤ m → m ≤ 14 → (r : Reading) (room : Room) (p : ℕ)
-    → m ≡ numberIn (afterReading r room) → p ≡ placeIn (afterReading r room) → r ≡ refusal m p
-unfolding afterReading numberIn placeIn
-refused-there m low high (accepted c) room p e at = absurd (graded-number c room m low high e)
-refused-there m low high (refusal n q) room p e at = rw (e, at)
 
 module _ (file : List ℕ) (before : Buffers) (keeps : Kept (called groupwise file before)) where
   -- the refusal of before, told by today's grading

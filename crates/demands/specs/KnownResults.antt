@@ -24,6 +24,20 @@ all-four = "00" ∷ "01" ∷ "10" ∷ "11" ∷ []
 abbrev pub nine : List String
 nine = "00" ∷ "01" ∷ "10" ∷ "11" ∷ "0X" ∷ "1X" ∷ "X0" ∷ "X1" ∷ "XX" ∷ []
 
+-- ---- a report
+
+-- 01, "The report": one inverter, vectors 0, 1, X; output in full
+abbrev pub inverterLines : List String
+inverterLines =
+    "vectors 3 faults 6 classes 6 found 6"
+    ∷ "1 n 0 1 1 111 3 1"
+    ∷ "1 n 0 2 2 100 1 1"
+    ∷ "1 n 1 2 3 010 1 2"
+    ∷ "1 i 0 0 4 010 1 2"
+    ∷ "1 i 1 0 5 100 1 1"
+    ∷ "1 i 2 0 6 110 2 1"
+    ∷ []
+
 -- ---- the table: 01's sentences, each with its lines, then more
 
 abbrev pub knownResults : List Claim
@@ -79,15 +93,7 @@ knownResults =
     ∷ grades inverter 42 (record { vectors = 3; faults = 6; classes = 6; found = 6 })
     ("111" ∷ "100" ∷ "010" ∷ "010" ∷ "100" ∷ "110" ∷ []) (1 ∷ 2 ∷ 3 ∷ 4 ∷ 5 ∷ 6 ∷ [])
     -- its output in full
-    ∷ reports inverter
-    ("vectors 3 faults 6 classes 6 found 6"
-    ∷ "1 n 0 1 1 111 3 1"
-    ∷ "1 n 0 2 2 100 1 1"
-    ∷ "1 n 1 2 3 010 1 2"
-    ∷ "1 i 0 0 4 010 1 2"
-    ∷ "1 i 1 0 5 100 1 1"
-    ∷ "1 i 2 0 6 110 2 1"
-    ∷ [])
+    ∷ reports inverter inverterLines
     -- beyond 01's results: whole reports. NAND with both references 1: labels 0 and 1 are one class with each node
     ∷ reports (nandOfOne ("0" ∷ "1" ∷ "X" ∷ []))
     ("vectors 3 faults 14 classes 10 found 8"
@@ -336,8 +342,7 @@ passResults =
     ∷ reads (oneUnder 2 gatesFields ("00" ∷ "01" ∷ "10" ∷ "11" ∷ "0X" ∷ [])) 1 (nodes 0 3) "11000"
     ∷ reads (oneUnder 2 gatesFields ("00" ∷ "01" ∷ "10" ∷ "11" ∷ "0X" ∷ [])) 1 (nodes 1 4) "00110"
     ∷ floats (oneUnder 2 gatesFields ("0X" ∷ [])) 1 3 1
-    -- an edge 0-2 over the output 4: by tag 3 it is 8, by tag 7 of either channel it is not; nor is one 1-3 of n-channel, which tag 3 takes as
-    -- p-channel
+    -- an edge 0-2, with the output at 4: by tag 3 it is 8; by tag 7, of either channel, it is taken, and the type is judged
     ∷ refuses (ofMux (edgeField 0 2 oneLabel)) 8 17
     ∷ refuses (ofMux (passField 0 2 0 0)) 9 5
     ∷ refuses (ofMux (passField 0 2 1 0)) 9 5
@@ -347,15 +352,7 @@ passResults =
     ∷ reads (oneUnder 1 (besideFields 0 1) ("0" ∷ "1" ∷ "X" ∷ [])) 1 (nodes 0 3) "010"
     ∷ reads (oneUnder 1 (besideFields 1 0) ("0" ∷ "1" ∷ "X" ∷ [])) 1 (nodes 0 3) "100"
     -- the inverter by tag 7 is 01's inverter; with its channels exchanged the output follows the input
-    ∷ reports (oneUnder 1 (typeField 2 2 1 ++ passInverter) ("0" ∷ "1" ∷ "X" ∷ []))
-    ("vectors 3 faults 6 classes 6 found 6"
-    ∷ "1 n 0 1 1 111 3 1"
-    ∷ "1 n 0 2 2 100 1 1"
-    ∷ "1 n 1 2 3 010 1 2"
-    ∷ "1 i 0 0 4 010 1 2"
-    ∷ "1 i 1 0 5 100 1 1"
-    ∷ "1 i 2 0 6 110 2 1"
-    ∷ [])
+    ∷ reports (oneUnder 1 (typeField 2 2 1 ++ passInverter) ("0" ∷ "1" ∷ "X" ∷ [])) inverterLines
     ∷ reports (oneUnder 1 followerFields ("0" ∷ "1" ∷ "X" ∷ []))
     ("vectors 3 faults 6 classes 6 found 5"
     ∷ "1 n 0 1 1 111 3 1"

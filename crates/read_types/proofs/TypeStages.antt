@@ -34,7 +34,7 @@ pub latest-snoc : (types : List ModuleType) (t : ModuleType) → latest (types +
 unfolding latest
 latest-snoc types t = rw (last-place types t) (getD-append-seam types t [] noType)
 
-edges-added-snoc : (types : List ModuleType) (t : ModuleType) (es : List Edge) → edgesAdded (types ++ (t ∷ [])) es ≡ types ++ (withEdges t es ∷ [])
+pub edges-added-snoc : (types : List ModuleType) (t : ModuleType) (es : List Edge) → edgesAdded (types ++ (t ∷ [])) es ≡ types ++ (withEdges t es ∷ [])
 unfolding edgesAdded
 edges-added-snoc types t es = rw (latest-snoc types t, last-place types t) (set-append-seam types t [] (withEdges t es))
 

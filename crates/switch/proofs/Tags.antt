@@ -1,7 +1,7 @@
 -- The tag that an edge came with conducts nothing (specs/Tags). Assumes nothing.
-use Prim.Native.Nat.{ℕ, _^_}
+use Prim.Native.Nat.{_^_}
 use mathlib.Core.Path.{_≡_, refl, ap, fun-ext}
-use mathlib.Core.Bool.{Bool, true, false, cond}
+use mathlib.Core.Bool.{cond}
 use mathlib.Core.List.{List, [], _∷_, map}
 use Rattle.switch.specs.Conduction.{Edge, Switching, byValues, edgeOn, Link, links}
 use Rattle.switch.specs.Modules.{ModuleType, linksOf, settingOf}

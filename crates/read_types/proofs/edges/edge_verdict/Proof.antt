@@ -1,5 +1,5 @@
 -- `read_types::edges::edge_verdict` meets its contract: by the field's tag. Assumes nothing.
-use mathlib.Core.Path.{_≡_, sym, ap, _∙_}
+use mathlib.Core.Path.{sym, ap, _∙_}
 use borrow.Author.Needs.{needs}
 use Rattle.switch.specs.Conduction.{EdgeTag}
 use Rattle.read_types.specs.EdgeTurns.{edgeTag, verdictAs}

@@ -1,6 +1,6 @@
 -- `read_types::edges::edges_in` meets its contract: by the tag, and by the length where that counts. Assumes nothing.
-use Prim.Native.Nat.{ℕ, _-_}
-use mathlib.Core.Path.{_≡_, refl, sym, ap, _∙_}
+use Prim.Native.Nat.{_-_}
+use mathlib.Core.Path.{_≡_, sym, ap, _∙_}
 use native.Mathlib.Omega.{arith}
 use borrow.Author.Needs.{needs}
 use Rattle.switch.specs.Conduction.{EdgeTag}

@@ -1,5 +1,5 @@
 -- `read_types::passes::in_range` meets its contract: the ranges one after the other. Assumes nothing.
-use mathlib.Core.Path.{_≡_, refl}
+use mathlib.Core.Path.{refl}
 use borrow.Author.Tests.{eq-eqb, ne-eqb, le-leb, lt-leb}
 use Rattle.circuit.specs.Table.{passInRange}
 use Rattle.read_types.proofs.passes.in_range.Statement.{statement}

@@ -12,7 +12,8 @@ use Rattle.demands.specs.Files.{fieldBytes, inputsField, typeField, edge
 use Rattle.demands.specs.Files.{inverter, inverterUnder}
 use Rattle.demands.specs.Files.{inverterListed, inverterChoosing, nandUnder, norUnder, branches, inverterThenNand}
 use Rattle.demands.specs.Files.{nandOfOne, oneType, splitRails, invertersOf, fourInstances, twoInverters, driverAndInput, twoNands}
-use Rattle.demands.specs.Files.{twinNands, manyFaults, passField, muxFields, gatedMuxFields, gatesFields, besideFields, followerFields}
+use Rattle.demands.specs.Files.{twinNands, manyFaults, passField, muxFields, gatedMuxFields, gatesFields, besideFields}
+use Rattle.demands.specs.Files.{followerFields}
 use Rattle.demands.specs.Claims.{Claim, reads, floats, refuses, short, sizes, leaves, grades, turns, reports, AllHold}
 
 -- ---- vectors
@@ -304,8 +305,8 @@ ofMux fields = inputsField 1 ++ typeField 4 4 1 ++ edgeField 1 2 oneLabel ++ fie
 
 abbrev pub passResults : List Claim
 passResults =
-    -- the multiplexer of four pass transistors and an inverter, which mixes both tags: its output is not a where the select is 1, b where it
-    -- is 0, and X where the select is
+    -- the multiplexer of four pass transistors and an inverter, which mixes both tags: its output is not a where the select is 1, b where
+    -- it is 0, and X where the select is X
     reports (oneUnder 3 muxFields muxVectors)
     ("vectors 10 faults 25 classes 25 found 24"
     ∷ "1 n 0 1 1 1111111111 10 1"

@@ -11,7 +11,8 @@ use lib.Dec.{eqb, leb, ltb}
 use lib.ListN.{length, getD, drop, set}
 use Rattle.words.specs.Bits.{ofBool}
 use Rattle.words.specs.Rows.{rowOf}
-use Rattle.switch.specs.Conduction.{Value, at0, n-channel, EdgeTag, by-position, stated, between, badEnds, channelOf, byValues, Link, ground, supply}
+use Rattle.switch.specs.Conduction.{Value, at0, n-channel, EdgeTag, by-position, stated, between, badEnds, channelOf, byValues, Link}
+use Rattle.switch.specs.Conduction.{ground, supply}
 use Rattle.switch.specs.Modules.{ModuleType, settingOf}
 use Rattle.switch.specs.Bridges.{closing}
 use Rattle.switch.specs.Deciding.{joins, allBelow, levelIn}

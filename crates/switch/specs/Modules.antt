@@ -1,4 +1,4 @@
--- 01, "The circuit file" (tags 2 and 3; tag 7 is 02's) and "Conduction": a module type, its ranges, when it is complementary, and its output.
+-- 01, "The circuit file" (tags 2 and 3; 02 has tag 7) and "Conduction": a module type, its ranges, when it is complementary, its output.
 use Prim.Native.Nat.{ℕ, zero, suc, _-_, _^_, _<_}
 use mathlib.Core.Bool.{Bool, true, _&&_}
 use mathlib.Core.List.{List, [], _∷_}

@@ -249,6 +249,10 @@ fn rules_of_pass_transistors() {
             inverter().pass(2, 2, N, 0),
             "rule: a pass transistor has two different nodes and a label of its type, and a channel of 0 (n) or 1 (p); type 1 has nodes 0 to 2 and label 0.",
         ),
+        (
+            inverter().field(3, &[0, 1, 0]),
+            "rule: an edge of tag 3 joins two different nodes, both p nodes or both n nodes (in type 1 the p nodes are 1 to 2 and the n nodes 0 and 2); one that states its channel (tag 7) may join any two.",
+        ),
     ];
     for (file, rule) in rules {
         let explanation = explain(&file.bytes).expect(rule);

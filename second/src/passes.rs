@@ -236,16 +236,16 @@ pub fn renumbered(random: &mut Random, mut drawn: Drawn) -> Drawn {
 }
 
 /// The same type with its edges under tag 7, but for groups that tag 3 can say too: of
-/// these all keep it, or some, or none.
+/// these all keep it, or about half, or none.
 pub fn with_passes(random: &mut Random, mut drawn: Drawn) -> Drawn {
-    let kept_one_in = random.pick(&[1, 2, 1_000_000]);
+    let kept_of_two = random.pick(&[2, 1, 0]);
     let output = drawn.module.output;
     let mut rest = drawn.module.edges.as_mut_slice();
     let mut sizes = Vec::new();
     for size in drawn.sizes {
         let (group, after) = rest.split_at_mut(size);
         let is_told_by_place = channel(output, group[0].ends) == Some(group[0].channel);
-        let is_kept = is_told_by_place && random.one_in(kept_one_in);
+        let is_kept = is_told_by_place && random.below(2) < kept_of_two;
         sizes.extend(is_kept.then_some(size));
         for edge in group {
             edge.is_pass = !is_kept;

@@ -149,8 +149,8 @@ fn fillings() -> FileBuilder {
 
 /// Not a where s is 1 and b where s is 0, by an inverter and four pass transistors. Node 2
 /// carries not a, node 3 carries b. Both are joined to supply by one channel and to ground
-/// by the other, so they are on neither side of the output, and all edges but one say
-/// their channel.
+/// by the other, so they are on neither side of the output. The inverter's n-channel
+/// transistor says its channel too, since its ends 0 and 2 tell none.
 pub fn mux() -> FileBuilder {
     FileBuilder::inputs(3)
         .field(2, &[4, 4, 3])

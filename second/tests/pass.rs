@@ -208,7 +208,7 @@ fn a_multiplexer_needs_both_channels() {
 
 /// Two gates of both channels each, with the select as label 2 and its complement as label
 /// 3, are refused: nothing says that the labels differ, and where they are equal both
-/// gates are open.
+/// gates conduct.
 #[test]
 fn a_complement_is_no_label_of_its_own() {
     let file = mux_start(4)

@@ -12,7 +12,7 @@ use Rattle.circuit.specs.Fields.{twoBytes, cutIn, cutFrom}
 use Rattle.circuit.specs.Circuit.{primary, outputOf, exhaustive, no-faults, numbered, exhaustiveSize, chosenSize, faultCount, userList}
 use Rattle.circuit.specs.Numbers.{signed, choiceOf, choiceInRange, referenceOf, referenceGood}
 use Rattle.circuit.specs.Order.{tagOf, isKind, isEdge, mayFollow}
-use Rattle.circuit.specs.Known.{typeIn, edgesIn, referencesIn, instanceIn, letterOf, vectorIn, latest, withEdges, edgesAdded, taken, typeAtAfter, knownAfter, bridgeOf}
+use Rattle.circuit.specs.Known.{typeIn, edgesTold, edgesIn, referencesIn, instanceIn, letterOf, vectorIn, latest, withEdges, edgesAdded, taken, typeAtAfter, knownAfter, bridgeOf}
 use Rattle.circuit.specs.Table.{firstOf, unjudged, notComplementary, isEmpty, listUnsuited, listEmpty, isLetter, bridgeGood, listedGood, bridgeInRange, edgesInRange, inputsTests, typeTests, edgeTests, edgeTestsOf, bridgeTests, instanceTests, instanceTestsOf, vectorTests, bodyTests, fieldTests, endTests}
 use Rattle.circuit.specs.Reading.{accepted, refusal, unless, readFrom, readingWith, readingOf}
 
@@ -30,7 +30,7 @@ read-inverter : readingOf inverter ≡ accepted (record {
   instances = record { type = 1; choice = exhaustive; references = primary 1 ∷ [] } ∷ [];
   vectors = (at0 ∷ []) ∷ (at1 ∷ []) ∷ (atX ∷ []) ∷ [];
 })
-unfolding inverter nEnd nEnds badEnds readingWith readFrom unless fieldTests endTests firstOf bodyTests inputsTests typeTests edgeTests edgeTestsOf bridgeTests instanceTests instanceTestsOf vectorTests isKind isEdge mayFollow unjudged notComplementary isEmpty listUnsuited listEmpty isLetter tagOf typeIn edgesIn referencesIn instanceIn letterOf vectorIn latest withEdges edgesAdded taken typeAtAfter knownAfter signed choiceOf choiceInRange referenceOf referenceGood twoBytes cutIn cutFrom numbered exhaustiveSize chosenSize faultCount userList bit table joins renamings partIn rename allBelow oneRail isComplementary allOf inRange typeInRange edgeInRange linksOf settingOf valueOfBit transistorOn channelOf pEnds edgeOn edgesFor edgesInRange between links
+unfolding inverter nEnd nEnds badEnds readingWith readFrom unless fieldTests endTests firstOf bodyTests inputsTests typeTests edgeTests edgeTestsOf bridgeTests instanceTests instanceTestsOf vectorTests isKind isEdge mayFollow unjudged notComplementary isEmpty listUnsuited listEmpty isLetter tagOf typeIn edgesTold edgesIn referencesIn instanceIn letterOf vectorIn latest withEdges edgesAdded taken typeAtAfter knownAfter signed choiceOf choiceInRange referenceOf referenceGood twoBytes cutIn cutFrom numbered exhaustiveSize chosenSize faultCount userList bit table joins renamings partIn rename allBelow oneRail isComplementary allOf inRange typeInRange edgeInRange linksOf settingOf valueOfBit transistorOn channelOf pEnds edgeOn edgesFor edgesInRange between links
 read-inverter = refl
 
 read-empty : readingOf [] ≡ refusal 14 0
@@ -69,7 +69,7 @@ read-references : (readingOf (withSecond 255 255) ≡ accepted (record {
     × ((readingOf (withSecond 255 254) ≡ refusal 10 30)
     × ((readingOf (withSecond 0 0) ≡ refusal 10 30)
     × (readingOf (begin ++ instanceWith 255 255 ++ vector) ≡ refusal 10 23)))
-unfolding begin instanceWith vector withSecond nEnd nEnds badEnds readingWith readFrom unless fieldTests endTests firstOf bodyTests inputsTests typeTests edgeTests edgeTestsOf bridgeTests instanceTests instanceTestsOf vectorTests isKind isEdge mayFollow unjudged notComplementary isEmpty listUnsuited listEmpty isLetter tagOf typeIn edgesIn referencesIn instanceIn letterOf vectorIn latest withEdges edgesAdded taken typeAtAfter knownAfter signed choiceOf choiceInRange referenceOf referenceGood twoBytes cutIn cutFrom numbered exhaustiveSize chosenSize faultCount userList bit table joins renamings partIn rename allBelow oneRail isComplementary allOf inRange typeInRange edgeInRange linksOf settingOf valueOfBit transistorOn channelOf pEnds edgeOn edgesFor edgesInRange between links
+unfolding begin instanceWith vector withSecond nEnd nEnds badEnds readingWith readFrom unless fieldTests endTests firstOf bodyTests inputsTests typeTests edgeTests edgeTestsOf bridgeTests instanceTests instanceTestsOf vectorTests isKind isEdge mayFollow unjudged notComplementary isEmpty listUnsuited listEmpty isLetter tagOf typeIn edgesTold edgesIn referencesIn instanceIn letterOf vectorIn latest withEdges edgesAdded taken typeAtAfter knownAfter signed choiceOf choiceInRange referenceOf referenceGood twoBytes cutIn cutFrom numbered exhaustiveSize chosenSize faultCount userList bit table joins renamings partIn rename allBelow oneRail isComplementary allOf inRange typeInRange edgeInRange linksOf settingOf valueOfBit transistorOn channelOf pEnds edgeOn edgesFor edgesInRange between links
 read-references = (refl, (refl, (refl, refl)))
 
 -- ---- bridges
@@ -77,5 +77,5 @@ read-references = (refl, (refl, (refl, refl)))
 -- a kind 0 bridge with equal ends is 7, and so is one of a third kind
 read-bridges : (readingOf (begin ++ (4 ∷ 0 ∷ 4 ∷ 1 ∷ 0 ∷ 2 ∷ 2 ∷ [])) ≡ refusal 7 23)
     × (readingOf (begin ++ (4 ∷ 0 ∷ 4 ∷ 1 ∷ 2 ∷ 2 ∷ 0 ∷ [])) ≡ refusal 7 23)
-unfolding begin nEnd nEnds badEnds readingWith readFrom unless fieldTests endTests firstOf bodyTests inputsTests typeTests edgeTests edgeTestsOf bridgeTests bridgeInRange listedGood bridgeGood bridgeOf instanceTests instanceTestsOf vectorTests isKind isEdge mayFollow unjudged notComplementary isEmpty listUnsuited listEmpty isLetter tagOf typeIn edgesIn referencesIn instanceIn letterOf vectorIn latest withEdges edgesAdded taken typeAtAfter knownAfter signed choiceOf choiceInRange referenceOf referenceGood twoBytes cutIn cutFrom numbered exhaustiveSize chosenSize faultCount userList bit table joins renamings partIn rename allBelow oneRail isComplementary allOf inRange typeInRange edgeInRange linksOf settingOf valueOfBit transistorOn channelOf pEnds edgeOn edgesFor edgesInRange between links
+unfolding begin nEnd nEnds badEnds readingWith readFrom unless fieldTests endTests firstOf bodyTests inputsTests typeTests edgeTests edgeTestsOf bridgeTests bridgeInRange listedGood bridgeGood bridgeOf instanceTests instanceTestsOf vectorTests isKind isEdge mayFollow unjudged notComplementary isEmpty listUnsuited listEmpty isLetter tagOf typeIn edgesTold edgesIn referencesIn instanceIn letterOf vectorIn latest withEdges edgesAdded taken typeAtAfter knownAfter signed choiceOf choiceInRange referenceOf referenceGood twoBytes cutIn cutFrom numbered exhaustiveSize chosenSize faultCount userList bit table joins renamings partIn rename allBelow oneRail isComplementary allOf inRange typeInRange edgeInRange linksOf settingOf valueOfBit transistorOn channelOf pEnds edgeOn edgesFor edgesInRange between links
 read-bridges = (refl, refl)

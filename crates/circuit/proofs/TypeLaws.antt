@@ -6,7 +6,7 @@ use mathlib.Core.Bool.{Bool, true, false, not, _&&_}
 use mathlib.Core.List.{List, [], _∷_, _++_, map, map-append}
 use native.Mathlib.Numerals.{add-one}
 use native.Mathlib.Omega.{arith}
-use borrow.Author.Tests.{ltb-false, leb-false, not-false}
+use borrow.Author.Tests.{ltb-false, not-false}
 use lib.Dec.{T, eqb, leb, ltb, eqb→eq}
 use lib.ListN.{length, getD, take, drop, length-append, length-take, length-drop, length-map}
 use lib.Seq.{drop-cons, ext-getD, getD-take}
@@ -207,7 +207,7 @@ module _ (h o k : ℕ) (body : List ℕ) where
   pass-ends t = and-both (not (eqb (getD body 0 0) (getD body 1 0))) true (body-parts h k body t .apart) tt
 
 pub edges-pass : (tag : EdgeTag) (t : ModuleType) (at : ℕ) (body : List ℕ) → firstOf (edgeTests tag t at body) ≡ passes → EdgesPass tag t body
-unfolding edgeTests edgeTestsOf BytesPass edgesTold
+unfolding edgeTests edgeTestsOf BytesPass
 edges-pass by-position t at body e =
     let a = first-passes _ _ e in
     let b = first-passes _ _ (a .1) in
@@ -217,7 +217,7 @@ edges-pass by-position t at body e =
     let ranges = accepts (edgesInRange (t .highest) (t .labels) body) (c .0) in
     record {
       bytes = (size .0, size .1, ranges);
-      few = omega (arith, ltb-false mostEdges (length (t .edges) + (length body - 2)) (b .0), length-edges-in by-position (t .output) body);
+      few = rw (length-edges-in by-position (t .output) body) (ltb-false mostEdges (length (t .edges) + edgesTold by-position (length body)) (b .0));
       ranges = labels-range (t .highest) (t .output) (t .labels) body ranges;
       ends = labels-ends (t .highest) (t .output) (t .labels) body (d .0);
     }
@@ -228,7 +228,7 @@ edges-pass stated t at body e =
     let ranges = accepts (bodyInRange (t .highest) (t .labels) body) (c .0) in
     record {
       bytes = (eqb→eq (length body) 4 (accepts (eqb (length body) 4) (a .0)), ranges);
-      few = omega (arith, leb-false mostEdges (length (t .edges)) (b .0), length-edges-in stated (t .output) body);
+      few = rw (length-edges-in stated (t .output) body) (ltb-false mostEdges (length (t .edges) + edgesTold stated (length body)) (b .0));
       ranges = pass-range (t .highest) (t .output) (t .labels) body ranges;
       ends = pass-ends (t .highest) (t .output) (t .labels) body ranges;
     }

@@ -1,6 +1,6 @@
 -- 01, "Refusal numbers": the table. For each field a list of numbered tests in the order in which they are looked at, and one list for the
 -- end of the file. In one field by number, except that 9 comes right after 4. A place is the offset of the field's tag byte.
-use Prim.Native.Nat.{ℕ, _+_, _-_, _%_}
+use Prim.Native.Nat.{ℕ, _+_, _%_}
 use mathlib.Core.Bool.{Bool, true, false, cond, not, _&&_, _||_}
 use mathlib.Core.List.{List, [], _∷_}
 use lib.Dec.{eqb, leb, ltb}
@@ -16,7 +16,7 @@ use Rattle.circuit.specs.Circuit.{faultCount}
 use Rattle.circuit.specs.Numbers.{signed, choiceInRange, referenceGood}
 use Rattle.circuit.specs.Order.{Tag, inputs-tag, type-tag, edge-tag, bridge-tag, instance-tag, vector-tag, no-tag, tagOf, isEdge}
 use Rattle.circuit.specs.Order.{isUnknown, Previous, atStart, inType, mayFollow}
-use Rattle.circuit.specs.Known.{Known, bridgeOf, instanceIn, latest}
+use Rattle.circuit.specs.Known.{Known, edgesTold, bridgeOf, instanceIn, latest}
 
 -- a test of the table: its number, whether it refuses, and the place that it gives
 pub record Test : Type 0 where
@@ -117,13 +117,13 @@ passInRange h k a b channel label = leb a h && leb b h && not (eqb a b) && leb c
 unfoldable pub edgeTestsOf : EdgeTag → ℕ → ℕ → ℕ → ℕ → ℕ → List ℕ → List Test
 edgeTestsOf by-position h o k count at body =
     test 5 (not (between 3 6 (length body))) at
-    ∷ test 6 (ltb mostEdges (count + (length body - 2))) at
+    ∷ test 6 (ltb mostEdges (count + edgesTold by-position (length body))) at
     ∷ test 7 (not (edgesInRange h k body)) at
     ∷ test 8 (badEnds h o (getD body 0 0) (getD body 1 0)) at
     ∷ []
 edgeTestsOf stated h o k count at body =
     test 5 (not (eqb (length body) 4)) at
-    ∷ test 6 (leb mostEdges count) at
+    ∷ test 6 (ltb mostEdges (count + edgesTold stated (length body))) at
     ∷ test 7 (not (passInRange h k (getD body 0 0) (getD body 1 0) (getD body 2 0) (getD body 3 0))) at
     ∷ []
 

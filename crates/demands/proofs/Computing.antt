@@ -15,7 +15,7 @@ use Rattle.circuit.specs.Fields.{twoBytes, cutIn, cutFrom}
 use Rattle.circuit.specs.Circuit.{Circuit, numbered, joinLists, nodePairs, nodeInputs, exhaustiveList, exhaustiveSize, userList, chosen, chosenSize, faultsOf, faultCount}
 use Rattle.circuit.specs.Numbers.{signed, choiceOf, choiceInRange, referenceOf, referenceGood}
 use Rattle.circuit.specs.Order.{tagOf, isKind, isEdge, mayFollow}
-use Rattle.circuit.specs.Known.{typeIn, edgesIn, bridgeOf, listedIn, referencesIn, instanceIn, letterOf, vectorIn, latest, withEdges, edgesAdded, taken, typeAtAfter, knownAfter}
+use Rattle.circuit.specs.Known.{typeIn, edgesTold, edgesIn, bridgeOf, listedIn, referencesIn, instanceIn, letterOf, vectorIn, latest, withEdges, edgesAdded, taken, typeAtAfter, knownAfter}
 use Rattle.circuit.specs.Records.{choiceByte, emptyCircuit}
 use Rattle.circuit.specs.Table.{firstOf, unjudged, notComplementary, bridgeGood, listedGood, bridgeInRange, bridgeSuits, isEmpty, listUnsuited, listEmpty, isLetter, edgesInRange, passInRange, inputsTests, typeTests, edgeTestsOf, edgeTests, bridgeTests, instanceTests, instanceTestsOf, vectorTests, bodyTests, fieldTests, endTests}
 use Rattle.circuit.specs.Reading.{Reading, accepted, refusal, unless, readFrom, readingWith, readingOf}
@@ -36,7 +36,7 @@ unfolding bit pack word sumTo table upTo rowOf choiceByte
     toLabel closing rename partIn renamings joins allBelow oneRail isComplementary levelIn isMarked
     twoBytes cutIn cutFrom numbered joinLists nodePairs nodeInputs exhaustiveList exhaustiveSize userList chosen chosenSize faultsOf faultCount
     signed choiceOf choiceInRange referenceOf referenceGood
-    tagOf isKind isEdge mayFollow typeIn edgesIn bridgeOf listedIn referencesIn instanceIn letterOf vectorIn latest withEdges edgesAdded taken typeAtAfter knownAfter
+    tagOf isKind isEdge mayFollow typeIn edgesTold edgesIn bridgeOf listedIn referencesIn instanceIn letterOf vectorIn latest withEdges edgesAdded taken typeAtAfter knownAfter
     firstOf unjudged notComplementary bridgeGood listedGood bridgeInRange bridgeSuits isEmpty listUnsuited listEmpty isLetter edgesInRange passInRange
     inputsTests typeTests edgeTestsOf edgeTests bridgeTests instanceTests instanceTestsOf vectorTests bodyTests fieldTests endTests
     unless readFrom readingWith valueAt labelValues outputsAfter outputsOf rowsOfInstance rowsFrom rowsOf rowValues cell markOf rowWords matrixOf

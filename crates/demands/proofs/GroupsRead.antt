@@ -202,7 +202,7 @@ module _ (k : GroupsKnown) (along : Along (k .known .circuit .types) (k .groups)
   pass-refused e = rw e refl
 
   edge-alike : tagOf (f .tag) ≡ edge-tag by-position → Alike
-  unfolding fieldTests groupsFieldTests groupTests bodyTests edgeTests edgeTestsOf isKind isEdge firstOf
+  unfolding fieldTests groupsFieldTests groupTests bodyTests edgeTests edgeTestsOf edgesTold isKind isEdge firstOf
   edge-alike e =
       let t = latest (before .circuit .types) in
       rw e

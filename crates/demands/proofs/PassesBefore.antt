@@ -34,22 +34,22 @@ use Rattle.demands.proofs.RightProof.{as-rightly}
 -- ---- a field
 
 -- no test of a body has number 3
-body-kept : (known : Known) (f : Field) (tag : Tag) (c : Circuit) (at : ℕ) (body : List ℕ) → map (sevenUnknown known f) (bodyTests tag c at body) ≡ bodyTests tag c at body
+body-kept : (f : Field) (tag : Tag) (c : Circuit) (at : ℕ) (body : List ℕ) → map (sevenUnknown f) (bodyTests tag c at body) ≡ bodyTests tag c at body
 unfolding sevenUnknown bodyTests inputsTests typeTests edgeTests edgeTestsOf bridgeTests instanceTests instanceTestsOf vectorTests
-body-kept known f inputs-tag c at body = refl
-body-kept known f type-tag c at body = refl
-body-kept known f (edge-tag by-position) c at body = refl
-body-kept known f (edge-tag stated) c at body = refl
-body-kept known f bridge-tag c at body = refl
-body-kept known f instance-tag c at body = refl
-body-kept known f vector-tag c at body = refl
-body-kept known f no-tag c at body = refl
+body-kept f inputs-tag c at body = refl
+body-kept f type-tag c at body = refl
+body-kept f (edge-tag by-position) c at body = refl
+body-kept f (edge-tag stated) c at body = refl
+body-kept f bridge-tag c at body = refl
+body-kept f instance-tag c at body = refl
+body-kept f vector-tag c at body = refl
+body-kept f no-tag c at body = refl
 
 module _ (known : Known) (f : Field) where
   -- another field than one with tag 7 is tested alike
   tested-alike : isKind (edge-tag stated) (tagOf (f .tag)) ≡ false → testsWithoutPasses known f ≡ fieldTests known f
   unfolding fieldTests sevenUnknown
-  tested-alike other = rw (other, or-false (isUnknown (tagOf (f .tag))), body-kept known f (tagOf (f .tag)) (known .circuit) (f .at) (f .body))
+  tested-alike other = rw (other, or-false (isUnknown (tagOf (f .tag))), body-kept f (tagOf (f .tag)) (known .circuit) (f .at) (f .body))
 
   -- one with tag 7 was refused by 3
   seven-refused : tagOf (f .tag) ≡ edge-tag stated → firstOf (testsWithoutPasses known f) ≡ refusedAt 3 (f .at)

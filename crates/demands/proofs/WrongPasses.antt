@@ -3,16 +3,21 @@ use Prim.Native.Nat.{ℕ}
 use mathlib.Core.Path.{refl}
 use mathlib.Core.List.{List, [], _∷_, _++_}
 use Rattle.switch.specs.Records.{tagBit}
+use Rattle.switch.specs.Tags.{untagged, untaggedType}
 use Rattle.switch.specs.Examples.{edge}
-use Rattle.demands.specs.Files.{fieldBytes, inputsField, typeField, edgeField, passField, times, inverterFields, followerFields, oneUnder}
-use Rattle.demands.specs.PassTransistors.{PassFieldsRead, passesTaken, retestedPass, statedCount, positionForAll, channelsExchanged, judgesAtPass}
+use Rattle.demands.specs.Files.{fieldBytes, inputsField, typeField, edgeField, passField, times, inverterFields, followerFields, oneUnder, inverter}
+use Rattle.demands.specs.PassTransistors.{untaggedCircuit, passedInverter, PassFieldsRead, passesTaken, retestedPass, statedCount, positionForAll, channelsExchanged, judgesAtPass}
 use Rattle.demands.specs.PassTransistors.{countsItsOwn, takesEqualEnds, takesMoreLabels, keepsTheRule, WrongPassesAreWrong}
-use Rattle.demands.proofs.Computing.{computing, grader-computing, blank}
+use Rattle.demands.proofs.Computing.{computing, grader-computing, toldBy, circuitOf, blank}
 use Rattle.demands.proofs.WrongProof.{NumberDiffers, WordDiffers, by-number, by-word}
 
 pub pass-fields-read : PassFieldsRead
-unfolding computing edge
-pass-fields-read = record { both-tags = refl; against-position = refl }
+unfolding computing edge toldBy untagged untaggedType untaggedCircuit
+pass-fields-read = record {
+  both-tags = refl;
+  against-position = refl;
+  but-for-tags = (circuitOf inverter, circuitOf passedInverter, refl, refl, refl);
+}
 
 -- the output follows the input, so that 0-2, whose words are from the fifth on, is not marked under 0
 abbrev follower : List ℕ

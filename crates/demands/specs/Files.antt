@@ -88,7 +88,7 @@ muxFields =
     ++ passField 2 4 0 2 ++ passField 3 4 1 2
 
 -- that multiplexer with a transmission gate in place of each of the last two transistors, and the select's complement as label 3: h=4, o=4,
--- k=4. Nothing says that label 3 is the complement: where it equals label 2 both gates are open, and join supply to ground where a = b
+-- k=4. Nothing says that label 3 is the complement: where it equals label 2 both gates conduct, and join supply to ground where a = b
 abbrev pub gatedMuxFields : List ℕ
 gatedMuxFields =
     typeField 4 4 4 ++ edgeField 1 2 (0 ∷ []) ++ passField 0 2 0 0 ++ passField 1 3 0 1 ++ passField 0 3 1 1
@@ -106,6 +106,10 @@ gatesFields =
 abbrev pub besideFields : ℕ → ℕ → List ℕ
 besideFields upper lower =
     typeField 3 2 1 ++ edgeField 1 2 (0 ∷ []) ++ edgeField 0 2 (0 ∷ []) ++ passField 1 3 upper 0 ++ passField 3 0 lower 0
+
+-- the edges of an inverter, by tag 7
+abbrev pub passInverterFields : List ℕ
+passInverterFields = passField 1 2 1 0 ++ passField 0 2 0 0
 
 -- the output follows label 0: n-channel from supply, p-channel from ground
 abbrev pub followerFields : List ℕ

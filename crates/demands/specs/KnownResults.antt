@@ -1,6 +1,6 @@
 -- 01, "Known results": all of them, those marked P first, then the whole example of "The report" and more of both kinds; and the classes of
--- 02, "One wire, one short". They stand in one table under one statement, `AllKnown`. What a line says is in specs/Claims; the proof, by
--- computation, is in proofs/KnownProof.
+-- 02, "One wire, one short". They stand in one table under one statement, `AllKnown`; those of 02 on edges and on pass transistors have
+-- tables of their own. What a line says is in specs/Claims; the proof, by computation, is in proofs/KnownProof.
 use Prim.Native.Nat.{ℕ, _-_, _^_}
 use Prim.Native.String.{String}
 use mathlib.Core.List.{List, [], _∷_, _++_}
@@ -13,7 +13,7 @@ use Rattle.demands.specs.Files.{inverter, inverterUnder}
 use Rattle.demands.specs.Files.{inverterListed, inverterChoosing, nandUnder, norUnder, branches, inverterThenNand}
 use Rattle.demands.specs.Files.{nandOfOne, oneType, splitRails, invertersOf, fourInstances, twoInverters, driverAndInput, twoNands}
 use Rattle.demands.specs.Files.{twinNands, manyFaults, passField, muxFields, gatedMuxFields, gatesFields, besideFields}
-use Rattle.demands.specs.Files.{followerFields}
+use Rattle.demands.specs.Files.{passInverterFields, followerFields}
 use Rattle.demands.specs.Claims.{Claim, reads, floats, refuses, short, sizes, leaves, grades, turns, reports, AllHold}
 
 -- ---- vectors
@@ -291,10 +291,6 @@ EdgesKnown = AllHold edgeResults
 abbrev pub muxVectors : List String
 muxVectors = "000" ∷ "001" ∷ "010" ∷ "011" ∷ "100" ∷ "101" ∷ "110" ∷ "111" ∷ "0X1" ∷ "00X" ∷ []
 
--- an inverter by tag 7 alone
-abbrev pub passInverter : List ℕ
-passInverter = passField 1 2 1 0 ++ passField 0 2 0 0
-
 -- an edge of either tag
 abbrev pub edgeAndPass : List ℕ
 edgeAndPass = edgeField 1 2 oneLabel ++ passField 1 2 1 0
@@ -353,7 +349,7 @@ passResults =
     ∷ reads (oneUnder 1 (besideFields 0 1) ("0" ∷ "1" ∷ "X" ∷ [])) 1 (nodes 0 3) "010"
     ∷ reads (oneUnder 1 (besideFields 1 0) ("0" ∷ "1" ∷ "X" ∷ [])) 1 (nodes 0 3) "100"
     -- the inverter by tag 7 is 01's inverter; with its channels exchanged the output follows the input
-    ∷ reports (oneUnder 1 (typeField 2 2 1 ++ passInverter) ("0" ∷ "1" ∷ "X" ∷ [])) inverterLines
+    ∷ reports (oneUnder 1 (typeField 2 2 1 ++ passInverterFields) ("0" ∷ "1" ∷ "X" ∷ [])) inverterLines
     ∷ reports (oneUnder 1 followerFields ("0" ∷ "1" ∷ "X" ∷ []))
     ("vectors 3 faults 6 classes 6 found 5"
     ∷ "1 n 0 1 1 111 3 1"
@@ -376,13 +372,15 @@ passRefusals =
     ∷ refuses (ofEdges (passField 1 2 2 0)) 7 11
     ∷ refuses (ofEdges (passField 1 2 1 1)) 7 11
     ∷ refuses (ofEdges (passField 2 2 1 0)) 7 11
+    -- one between the rails is taken, and its type is never complementary
+    ∷ refuses (ofEdges (passField 0 1 1 0)) 9 5
     -- out of place: first, with no type before it, behind an instance; and tag 8 is none
     ∷ refuses (passField 1 2 1 0) 4 0
     ∷ refuses (inputsField 1 ++ passField 1 2 1 0) 4 5
     ∷ refuses (inputsField 1 ++ inverterFields ++ instanceField 1 exhaustive (primary 1 ∷ []) ++ passField 1 2 1 0) 4 30
     ∷ refuses (ofEdges (fieldBytes 8 (1 ∷ 2 ∷ 1 ∷ 0 ∷ []))) 3 11
     -- 256 edges of both tags pass; one more of either is 6, after 5 and before 7
-    ∷ sizes (inverterOf (times 64 (edgeField 1 2 oneLabel ++ passInverter ++ edgeField 0 2 oneLabel))) 6 6
+    ∷ sizes (inverterOf (times 64 (edgeField 1 2 oneLabel ++ passInverterFields ++ edgeField 0 2 oneLabel))) 6 6
     ∷ refuses (ofEdges (times 128 edgeAndPass ++ passField 1 2 1 0)) 6 1675
     ∷ refuses (ofEdges (times 128 edgeAndPass ++ edgeField 1 2 oneLabel)) 6 1675
     ∷ refuses (ofEdges (times 128 edgeAndPass ++ passField 3 3 2 1)) 6 1675

@@ -26,7 +26,7 @@ use Rattle.demands.specs.Calls.{Call, Kept, Accepts}
 use Rattle.demands.specs.One.{SameOutcome}
 use Rattle.demands.specs.Graders.{Grader, called, MeetsPromise, readTaking, testing, taking}
 use Rattle.demands.specs.SingleTransistors.{EdgeFieldOf}
-use Rattle.demands.specs.Files.{oneUnder, typeField, edgeField, passField}
+use Rattle.demands.specs.Files.{oneUnder, typeField, edgeField, passField, passInverterFields, inverter}
 
 -- ---- channels
 
@@ -92,14 +92,15 @@ TagsChangeNoAnswer =
 
 -- ---- files of before
 
--- before, tag 7 was none of the tags
-unfoldable pub sevenUnknown : Known → Field → Test → Test
-sevenUnknown known f t =
+-- before, tag 7 was none of the tags. All else is today's: of files with tag 3 alone, by tests and limits of their own, SingleTransistors
+-- speaks
+unfoldable pub sevenUnknown : Field → Test → Test
+sevenUnknown f t =
     let tag = tagOf (f .tag) in
     cond (eqb (t .number) 3) (test 3 (isUnknown tag || isKind (edge-tag stated) tag) (t .place)) t
 
 abbrev pub testsWithoutPasses : Known → Field → List Test
-testsWithoutPasses known f = map (sevenUnknown known f) (fieldTests known f)
+testsWithoutPasses known f = map (sevenUnknown f) (fieldTests known f)
 
 -- the grader of then
 abbrev pub withoutPasses : Grader
@@ -137,6 +138,10 @@ abbrev pub bothTags : List ℕ
 bothTags =
     oneUnder 1 (typeField 3 2 1 ++ edgeField 1 2 (0 ∷ []) ++ passField 0 2 0 0 ++ passField 3 1 1 0 ++ passField 2 3 1 0) ("0" ∷ [])
 
+-- 01's inverter by tag 7
+abbrev pub passedInverter : List ℕ
+passedInverter = oneUnder 1 (typeField 2 2 1 ++ passInverterFields) ("0" ∷ "1" ∷ "X" ∷ [])
+
 pub record PassFieldsRead : Type 0 where
   pub both-tags : readingOf bothTags ≡ accepted (record {
     inputs = 1;
@@ -151,6 +156,8 @@ pub record PassFieldsRead : Type 0 where
     vectors = (at0 ∷ []) ∷ [];
   })
   pub against-position : edgesIn stated 2 (1 ∷ 2 ∷ 0 ∷ 3 ∷ []) ≡ pass 1 2 n-channel 3 ∷ []
+  -- `TagsChangeNoAnswer` speaks of some files: 01's inverter, and the same by tag 7
+  pub but-for-tags : (c : Circuit) × (d : Circuit) × Accepts inverter c × Accepts passedInverter d × (untaggedCircuit c ≡ untaggedCircuit d)
 
 -- ---- wrong ways to take tag 7
 
@@ -212,7 +219,7 @@ takesEqualEnds = passesBy 7 λ known body.
     let t = latest (known .circuit .types) in
     not (leb (getD body 0 0) (t .highest) && leb (getD body 1 0) (t .highest) && leb (getD body 2 0) 1 && ltb (getD body 3 0) (t .labels))
 
--- several labels, as old fields with tag 3 have them
+-- a longer body, of which it takes the first label
 unfoldable pub takesMoreLabels : Grader
 takesMoreLabels = passesBy 5 λ known body. ltb (length body) 4
 

@@ -15,7 +15,7 @@ use Rattle.circuit.specs.Fields.{twoBytes, cutIn, cutFrom}
 use Rattle.circuit.specs.Circuit.{Circuit, primary, outputOf, exhaustive, no-faults, list, joinLists, numbered, exhaustiveSize, chosenSize, faultCount, userList}
 use Rattle.circuit.specs.Numbers.{signed, choiceOf, choiceInRange, referenceOf, referenceGood}
 use Rattle.circuit.specs.Order.{tagOf, isKind, isEdge, mayFollow}
-use Rattle.circuit.specs.Known.{typeIn, edgesIn, referencesIn, instanceIn, letterOf, vectorIn, latest, withEdges, edgesAdded, taken, typeAtAfter, knownAfter}
+use Rattle.circuit.specs.Known.{typeIn, edgesTold, edgesIn, referencesIn, instanceIn, letterOf, vectorIn, latest, withEdges, edgesAdded, taken, typeAtAfter, knownAfter}
 use Rattle.circuit.specs.Table.{firstOf, unjudged, notComplementary, isEmpty, listUnsuited, listEmpty, isLetter, edgesInRange, passInRange, inputsTests, typeTests, edgeTests, edgeTestsOf, bridgeTests, instanceTests, instanceTestsOf, vectorTests, bodyTests, fieldTests, endTests}
 use Rattle.circuit.specs.Reading.{accepted, unless, readFrom, readingWith}
 use Rattle.circuit.specs.Verdicts.{isRefused}
@@ -75,5 +75,5 @@ file-listings :
     ≡ linesOf ("inputs 1\n" ∷ "type 1 2 2 1\n" ∷ "edge 1 2 0\n" ∷ "edge 0 2 0\n" ∷ "refused 10 at 23\n" ∷ []))
     × (listingOfFile (begin ++ edges ++ (3 ∷ 0 ∷ 3 ∷ 0 ∷ 2 ∷ 1 ∷ [])) ≡ linesOf ("inputs 1\n" ∷ "refused 7 at 23\n" ∷ []))
     × (listingOfFile [] ≡ linesOf ("refused 14 at 0\n" ∷ []))
-unfolding begin edges mixed-edges linesOf listingOf refusalLines circuitLines inputsLines groupedLines typeLines numberedLines inputsLine typeLine channelText edgeLineBy edgeLine instanceLine vectorLine choiceText referenceText valueLetter refusalLine spaced joinLists decimal digitsOf lengthIn isRefused typesBefore finished beforeFrom readBefore nEnd nEnds badEnds readingWith readFrom unless fieldTests endTests firstOf bodyTests inputsTests typeTests edgeTests edgeTestsOf bridgeTests instanceTests instanceTestsOf vectorTests isKind isEdge mayFollow unjudged notComplementary isEmpty listUnsuited listEmpty isLetter tagOf typeIn edgesIn referencesIn instanceIn letterOf vectorIn latest withEdges edgesAdded taken typeAtAfter knownAfter signed choiceOf choiceInRange referenceOf referenceGood twoBytes cutIn cutFrom numbered exhaustiveSize chosenSize faultCount userList bit table joins renamings partIn rename allBelow oneRail isComplementary allOf inRange typeInRange edgeInRange linksOf settingOf valueOfBit transistorOn channelOf pEnds edgeOn edgesFor channelBy edgesInRange passInRange between links
+unfolding begin edges mixed-edges linesOf listingOf refusalLines circuitLines inputsLines groupedLines typeLines numberedLines inputsLine typeLine channelText edgeLineBy edgeLine instanceLine vectorLine choiceText referenceText valueLetter refusalLine spaced joinLists decimal digitsOf lengthIn isRefused typesBefore finished beforeFrom readBefore nEnd nEnds badEnds readingWith readFrom unless fieldTests endTests firstOf bodyTests inputsTests typeTests edgeTests edgeTestsOf bridgeTests instanceTests instanceTestsOf vectorTests isKind isEdge mayFollow unjudged notComplementary isEmpty listUnsuited listEmpty isLetter tagOf typeIn edgesTold edgesIn referencesIn instanceIn letterOf vectorIn latest withEdges edgesAdded taken typeAtAfter knownAfter signed choiceOf choiceInRange referenceOf referenceGood twoBytes cutIn cutFrom numbered exhaustiveSize chosenSize faultCount userList bit table joins renamings partIn rename allBelow oneRail isComplementary allOf inRange typeInRange edgeInRange linksOf settingOf valueOfBit transistorOn channelOf pEnds edgeOn edgesFor channelBy edgesInRange passInRange between links
 file-listings = (refl, refl, refl, refl)

@@ -5,13 +5,14 @@ use mathlib.Core.List.{List, [], _∷_, map}
 use lib.ListN.{length, getD, set}
 use Rattle.switch.specs.Conduction.{EdgeTag, by-position, stated}
 use Rattle.switch.specs.Modules.{mostEdges}
-use Rattle.switch.specs.Records.{edgeRecord}
+use Rattle.switch.specs.Records.{noEdge, edgeRecord}
 use Rattle.switch.specs.declared.Edge.{Edge as EdgeRecord}
 use Rattle.switch.specs.declared.ModuleType.{ModuleType as TypeRecord}
 use Rattle.circuit.specs.Order.{tagOf, edgeTagOf}
 use Rattle.circuit.specs.Known.{edgesTold, edgesIn}
 use Rattle.circuit.specs.Table.{Verdict, firstOf, edgeTestsOf}
 use Rattle.circuit.specs.Refusals.{verdictOf}
+use Rattle.circuit.specs.declared.refusal.Refusal.{Refusal}
 use Rattle.read_fields.specs.Steps.{bodyOf, verdictBy}
 use Rattle.read_fields.specs.declared.Field.{Field as FieldRecord}
 use Rattle.read_fields.specs.declared.Next.{Next}
@@ -24,7 +25,7 @@ use Rattle.read_types.specs.declared.edges.Shape.{Shape}
 abbrev pub edgeTag : FieldRecord → EdgeTag
 edgeTag f = edgeTagOf (tagOf (f .tag))
 
--- the verdict on an edge field, in a type of this shape after `count` edges: as if it had a tag, and with its own
+-- the verdict on a field with this tag, in a type of this shape after `count` edges; and on an edge field by its own tag
 unfoldable pub verdictAs : EdgeTag → List ℕ → Shape → ℕ → FieldRecord → Verdict
 verdictAs tag file shape count f =
     firstOf (edgeTestsOf tag (shape .highest) (shape .output) (shape .labels) count (f .at) (bodyOf file f))
@@ -60,6 +61,14 @@ pub record EdgeCodesFit (tag : EdgeTag) (file : List ℕ) (f : FieldRecord) : Ty
   pub first : getD (bodyOf file f) 0 0 < 32
   pub second : getD (bodyOf file f) 1 0 < 32
   pub labels : LabelsFit tag (bodyOf file f)
+
+-- of a pass transistor: the verdict on it, in a type with highest node h and k labels after `count` edges, and its edge. Both are the same
+-- whichever node is the output
+abbrev pub PassTested : List ℕ → ℕ → ℕ → ℕ → FieldRecord → Refusal → Type 0
+PassTested file h k count f r = (o : ℕ) → verdictOf r ≡ firstOf (edgeTestsOf stated h o k count (f .at) (bodyOf file f))
+
+abbrev pub PassKept : List ℕ → FieldRecord → EdgeRecord → Type 0
+PassKept file f e = (o : ℕ) → e ≡ getD (edgesAs stated file o f) 0 noEdge
 
 -- of the field that was found so, and behind `count` edges there is a place for each of its own
 unfoldable pub EdgesNext : List ℕ → ℕ → Next → Type 0

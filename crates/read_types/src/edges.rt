@@ -137,7 +137,7 @@ fn edge_verdict(file: &[u8], f: Field, shape: Shape, count: usize) -> Refusal
     ensures { λ r. ⌜ verdictOf r ≡ edgeVerdict (now (file .entry)) shape count f ⌝ }
 {
     if states_channel(f.tag) {
-        return pass_verdict(file, f, shape.highest, shape.output, shape.labels, count);
+        return pass_verdict(file, f, shape.highest, shape.labels, count);
     }
     labels_verdict(file, f, shape, count)
 }
@@ -160,7 +160,7 @@ fn edge_for(file: &[u8], f: Field, o: u8, j: usize) -> Edge
     ensures { λ r. ⌜ r ≡ getD (edgesKept (now (file .entry)) o f) j noEdge ⌝ }
 {
     if states_channel(f.tag) {
-        return pass_edge(file, f, o);
+        return pass_edge(file, f);
     }
     label_edge(file, f, o, j)
 }

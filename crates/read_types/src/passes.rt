@@ -7,17 +7,14 @@ use switch::Edge;
 use switch::MOST_EDGES;
 use switch::edges::edge_with;
 ghost use mathlib.Core.Path.{_≡_};
-ghost use Prim.Native.Nat.{_+_, _<_, _≤_};
-ghost use lib.ListN.{length, getD};
+ghost use Prim.Native.Nat.{_+_, _≤_};
+ghost use lib.ListN.{length};
 ghost use Rattle.switch.specs.Conduction.{stated};
-ghost use Rattle.switch.specs.Records.{noEdge};
-ghost use Rattle.circuit.specs.Refusals.{verdictOf};
-ghost use Rattle.circuit.specs.Table.{firstOf, passInRange, edgeTestsOf};
-ghost use Rattle.read_fields.specs.Steps.{bodyOf};
-ghost use Rattle.read_types.specs.EdgeTurns.{edgesAs, EdgeCodesFit};
+ghost use Rattle.circuit.specs.Table.{passInRange};
+ghost use Rattle.read_types.specs.EdgeTurns.{EdgeCodesFit, PassTested, PassKept};
 
 // Whether the nodes are two different ones up to h, the channel is one of the two, and the label is below k.
-fn in_range(h: u8, k: u8, a: u8, b: u8, channel: u8, label: u8) -> bool
+fn pass_in_range(h: u8, k: u8, a: u8, b: u8, channel: u8, label: u8) -> bool
     ensures { λ r. ⌜ r ≡ passInRange h k a b channel label ⌝ }
 {
     if h < a {
@@ -35,24 +32,24 @@ fn in_range(h: u8, k: u8, a: u8, b: u8, channel: u8, label: u8) -> bool
     label < k
 }
 
-// The first test that refuses, in a type with these three numbers and `count` edges so far.
-pub fn pass_verdict(file: &[u8], f: Field, h: u8, o: u8, k: u8, count: usize) -> Refusal
+// The first test that refuses, in a type with highest node h, k labels and `count` edges so far, whichever node is its output.
+pub fn pass_verdict(file: &[u8], f: Field, h: u8, k: u8, count: usize) -> Refusal
     requires { ⌜ f .body + f .len ≤ length (now file) ⌝ }
-    ensures { λ r. ⌜ verdictOf r ≡ firstOf (edgeTestsOf stated h o k count (f .at) (bodyOf (now (file .entry)) f)) ⌝ }
+    ensures { λ r. ⌜ PassTested (now (file .entry)) h k count f r ⌝ }
 {
     let a = byte(file, f, 0);
     let b = byte(file, f, 1);
     let channel = byte(file, f, 2);
-    let in_range = in_range(h, k, a, b, channel, byte(file, f, 3));
+    let in_range = pass_in_range(h, k, a, b, channel, byte(file, f, 3));
     let v = or_if(Refusal::Nothing, f.len != 4, Refusal::WrongLength(f.at));
     let v = or_if(v, MOST_EDGES <= count, Refusal::TooMany(f.at));
     or_if(v, !in_range, Refusal::OutOfRange(f.at))
 }
 
-// Its edge, whose place tells nothing.
-pub fn pass_edge(file: &[u8], f: Field, o: u8) -> Edge
+// Its edge, whichever node is its type's output.
+pub fn pass_edge(file: &[u8], f: Field) -> Edge
     requires { ⌜ EdgeCodesFit stated (now file) f ⌝ }
-    ensures { λ r. ⌜ r ≡ getD (edgesAs stated (now (file .entry)) o f) 0 noEdge ⌝ }
+    ensures { λ r. ⌜ PassKept (now (file .entry)) f r ⌝ }
 {
     let a = byte(file, f, 0);
     let b = byte(file, f, 1);

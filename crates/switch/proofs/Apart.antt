@@ -87,17 +87,14 @@ keeps-apart : (ws : List Link) (o a b : ℕ) → ExactlyOne (Joined ws o a) (Joi
 keeps-apart ws o a b (only-first p n) j = n (through p (turned j))
 keeps-apart ws o a b (only-second n p) j = n (through p j)
 
-rails : (t : ModuleType) → Accepted t → (values : ℕ → Value) → Joined (linksOf t values) supply ground → ⊥
+settings : (t : ModuleType) → Complementary t → (s : ℕ) → s < 2 ^ (t .labels) → Joined (linksOf t (settingOf s)) supply ground → ⊥
 unfolding Complementary
+settings t one-rail s h = keeps-apart (linksOf t (settingOf s)) (t .output) ground supply (one-rail s h)
+
+rails : (t : ModuleType) → Accepted t → (values : ℕ → Value) → Joined (linksOf t values) supply ground → ⊥
 rails t acc values j =
-    let s : ℕ = filling (t .labels) values in
-    keeps-apart
-    (linksOf t (settingOf s))
-    (t .output)
-    ground
-    supply
-    (acc .complementary s (filling-lt (t .labels) values))
+    settings t (acc .complementary) (filling (t .labels) values) (filling-lt (t .labels) values)
     (joined-when-filled t (acc .ranges) values supply ground j)
 
 pub rails-apart : RailsApart
-rails-apart = record { rails = rails; output = λ t acc values p q. rails t acc values (through (turned p) q) }
+rails-apart = record { settings = settings; rails = rails; output = λ t acc values p q. rails t acc values (through (turned p) q) }

@@ -9,7 +9,7 @@ use lib.ListN.{length, getD}
 use Rattle.words.specs.Bits.{bit}
 use Rattle.switch.specs.Conduction.{Value, atX, Channel, p-channel, n-channel, Edge, Switching, byValues, edgeOn, links}
 use Rattle.switch.specs.Conduction.{Link, Among, Joined, pEnds, nEnds, badEnds, ground, supply}
-use Rattle.switch.specs.Modules.{ModuleType, mostNodes, inRange, linksOf, Complementary, LevelIs}
+use Rattle.switch.specs.Modules.{ModuleType, mostNodes, inRange, linksOf, settingOf, Complementary, LevelIs}
 use Rattle.switch.specs.Bridges.{Bridge, Marked, MarkedByEnds}
 use Rattle.switch.specs.Deciding.{joins, isComplementary, levelIn, outputValue, isMarked}
 use Rattle.switch.specs.Records.{valueOf, complement, byPlanes}
@@ -43,8 +43,12 @@ pub record Accepted (t : ModuleType) : Type 0 where
   pub ranges : T (inRange t)
   pub complementary : Complementary t
 
--- the rails are apart, so the output is never joined to both, under any values, X among them
+-- the rails are apart under every setting, since the output is joined to exactly one of them: nothing else is asked of the type, no rule
+-- for its channels either. Where its labels are in range they are apart under any values, X among them, and the output is never joined to
+-- both
 pub record RailsApart : Type 0 where
+  pub settings : (t : ModuleType) → Complementary t → (s : ℕ) → s < 2 ^ (t .labels)
+      → Joined (linksOf t (settingOf s)) supply ground → ⊥
   pub rails : (t : ModuleType) → Accepted t → (values : ℕ → Value) → Joined (linksOf t values) supply ground → ⊥
   pub output : (t : ModuleType) → Accepted t → (values : ℕ → Value)
       → Joined (linksOf t values) (t .output) supply → Joined (linksOf t values) (t .output) ground → ⊥

@@ -18,8 +18,9 @@ pub fn no_channel(scene: &Scene) -> Told {
         _ => format!("0 and {output} to {highest}"),
     };
     let rule = format!(
-        "an edge joins two different nodes, both p nodes or both n nodes; in type {number} the p \
-         nodes are 1 to {output} and the n nodes {n_nodes}."
+        "an edge of tag 3 joins two different nodes, both p nodes or both n nodes (in type {number} \
+         the p nodes are 1 to {output} and the n nodes {n_nodes}); one that states its channel \
+         (tag 7) may join any two."
     );
     let (first, second) = (scene.field.body[0], scene.field.body[1]);
     let side = |node: u8| match (1..output).contains(&node) {

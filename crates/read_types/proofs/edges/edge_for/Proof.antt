@@ -31,7 +31,7 @@ returns c =
     let tag = its-stated _ (edgeTag (a .f)) (asked .states-channel .ensures) (c .before .if1 .taken) in
     let one : a .j < 1 = subst (λ (t : EdgeTag). a .j < edgesTold t (a .f .len)) tag (start .pre .1) in
     let first : a .j ≡ 0 = omega (arith, one) in
-    c .pass-edge .ensures
+    c .pass-edge .ensures (a .o)
     ∙ rw first (ap (λ (t : EdgeTag). getD (edgesAs t (a .file .now) (a .o) (a .f)) 0 noEdge) (sym tag))
 
 label-edge-requires : tie.Need-label-edge-requires

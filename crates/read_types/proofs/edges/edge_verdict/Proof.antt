@@ -19,7 +19,7 @@ returns c =
     let asked = c .before .before in
     let a = asked .before .before .args in
     let tag = its-stated _ (edgeTag (a .f)) (asked .states-channel .ensures) (c .before .if1 .taken) in
-    c .pass-verdict .ensures ∙ ap (λ (t : EdgeTag). verdictAs t (a .file .now) (a .shape) (a .count) (a .f)) (sym tag)
+    c .pass-verdict .ensures (a .shape .output) ∙ ap (λ (t : EdgeTag). verdictAs t (a .file .now) (a .shape) (a .count) (a .f)) (sym tag)
 
 labels-verdict-requires : tie.Need-labels-verdict-requires
 labels-verdict-requires c κs = search needs

@@ -11,6 +11,7 @@ use lib.Dec.{leb, ltb}
 use lib.ListN.{length, getD, drop}
 use Rattle.switch.specs.Conduction.{by-position, between, badEnds}
 use Rattle.switch.specs.Modules.{mostEdges, allOf}
+use Rattle.circuit.specs.Known.{edgesTold}
 use Rattle.circuit.specs.Table.{passes, refusedAt, firstOf, edgesInRange, edgeTestsOf}
 use Rattle.circuit.specs.Refusals.{refusalNumber, refusalPlace, numberedVerdict, verdictOf}
 use Rattle.circuit.specs.Verdicts.{orIf}
@@ -25,14 +26,15 @@ use Rattle.read_types.proofs.edges.labels_verdict.Tie as tie
 
 -- the tests one after the other, from their flags
 in-turn : (h o k count at : ℕ) (body : List ℕ) (length-bad many range ends-bad : Bool) → length-bad ≡ not (between 3 6 (length body))
-    → many ≡ ltb mostEdges (count + (length body - 2)) → range ≡ edgesInRange h k body → ends-bad ≡ badEnds h o (getD body 0 0) (getD body 1 0)
+    → many ≡ ltb mostEdges (count + edgesTold by-position (length body)) → range ≡ edgesInRange h k body → ends-bad ≡ badEnds h o (getD body 0 0) (getD body 1 0)
     → orIf (orIf (orIf (orIf passes length-bad (refusedAt 5 at)) many (refusedAt 6 at)) (not range) (refusedAt 7 at)) ends-bad (refusedAt 8 at)
     ≡ firstOf (edgeTestsOf by-position h o k count at body)
 unfolding edgeTestsOf firstAfter
 in-turn h o k count at body length-bad many range ends-bad p q r s = rw (p, q, r, s) (sym (chain (edgeTestsOf by-position h o k count at body)))
 
 -- more labels than the places that are left, or more edges in all than there are places
-no-room : (count n : ℕ) → count ≤ mostEdges → ltb (mostEdges - count + 2) n ≡ ltb mostEdges (count + (n - 2))
+no-room : (count n : ℕ) → count ≤ mostEdges → ltb (mostEdges - count + 2) n ≡ ltb mostEdges (count + edgesTold by-position n)
+unfolding edgesTold
 no-room count n few = go (ltb mostEdges (count + (n - 2))) refl
   where
     go : (b : Bool) → ltb mostEdges (count + (n - 2)) ≡ b → ltb (mostEdges - count + 2) n ≡ b
@@ -105,7 +107,7 @@ returns c =
     let size = c .before .before .before .before .before .if3 in
     let length-bad : size .or-if ≡ not (between 3 6 (a .f .len)) =
     ⊎-elim (λ w. below (a .f .len) (size .or-if) (w .0 .taken) (w .1)) (λ w. above (a .f .len) (size .or-if) (w .0 .left) (w .1)) (size .came) in
-    let many : ltb (mostEdges - a .count + 2) (a .f .len) ≡ ltb mostEdges (a .count + (length body - 2)) =
+    let many : ltb (mostEdges - a .count + 2) (a .f .len) ≡ ltb mostEdges (a .count + edgesTold by-position (length body)) =
     rw long (no-room (a .count) (a .f .len) (start .pre .1)) in
     c .or-if4 .ensures
     ∙ rw (c .before .before .or-if3 .ensures, c .before .before .before .or-if2 .ensures, c .before .before .before .before .or-if .ensures)

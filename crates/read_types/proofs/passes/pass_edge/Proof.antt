@@ -42,7 +42,7 @@ edge-with-requires c κs =
 
 returns : tie.Need-returns
 unfolding edgesAs edgesIn
-returns c =
+returns c = λ o.
     let last = c .before in
     let second = last .before .before in
     c .edge-with .ensures

@@ -1,9 +1,9 @@
--- `read_types::passes::in_range` meets its contract: the ranges one after the other. Assumes nothing.
+-- `read_types::passes::pass_in_range` meets its contract: the ranges one after the other. Assumes nothing.
 use mathlib.Core.Path.{refl}
 use borrow.Author.Tests.{eq-eqb, ne-eqb, le-leb, lt-leb}
 use Rattle.circuit.specs.Table.{passInRange}
-use Rattle.read_types.proofs.passes.in_range.Statement.{statement}
-use Rattle.read_types.proofs.passes.in_range.Tie as tie
+use Rattle.read_types.proofs.passes.pass_in_range.Statement.{statement}
+use Rattle.read_types.proofs.passes.pass_in_range.Tie as tie
 
 returns : tie.Need-returns
 unfolding passInRange
@@ -48,5 +48,5 @@ returns-5 c =
     )
     refl
 
-pub in-range-spec : {M : Type 1} → statement M
-in-range-spec = tie.close (tie.spec returns returns-2 returns-3 returns-4 returns-5)
+pub pass-in-range-spec : {M : Type 1} → statement M
+pass-in-range-spec = tie.close (tie.spec returns returns-2 returns-3 returns-4 returns-5)

@@ -34,7 +34,8 @@ use Rattle.demands.proofs.CircuitCallsProof.{circuit-is-graded-as-file,
 use Rattle.demands.proofs.CircuitCallsProof.{circuits-meet-two, circuit-column-is-of-its-vector, circuits-meet-three}
 use Rattle.demands.proofs.UniqueProof.{unique}
 use Rattle.demands.proofs.MetProof.{met-by-every-file}
-use Rattle.demands.proofs.KnownProof.{all-known, edges-known, passes-known}
+use Rattle.demands.proofs.KnownProof.{all-known, edges-known}
+use Rattle.demands.proofs.PassKnownProof.{passes-known}
 use Rattle.demands.proofs.PassTransistorsProof.{types-are-fields, ends-keep-the-rules, rails-apart-in-files, numbers-of-edges}
 use Rattle.demands.proofs.TagsGraded.{tags-change-no-answer}
 use Rattle.demands.proofs.PassesBefore.{only-passes-change}

@@ -233,3 +233,32 @@ manyFaults more =
     ++ joinLists (replicate 16 (instanceField 1 (list 1) (primary 1 ∷ [])))
     ++ joinLists (replicate more (instanceField 1 (list 2) (primary 1 ∷ [])))
     ++ vectorField "0"
+
+-- ---- 01's report
+
+-- 01, "The report": of `inverter`, in full
+abbrev pub inverterLines : List String
+inverterLines =
+    "vectors 3 faults 6 classes 6 found 6"
+    ∷ "1 n 0 1 1 111 3 1"
+    ∷ "1 n 0 2 2 100 1 1"
+    ∷ "1 n 1 2 3 010 1 2"
+    ∷ "1 i 0 0 4 010 1 2"
+    ∷ "1 i 1 0 5 100 1 1"
+    ∷ "1 i 2 0 6 110 2 1"
+    ∷ []
+
+-- ---- types with many edges
+
+-- a file with one input, up to the type that these edge fields follow; and the whole file of an inverter with them
+abbrev pub ofEdges : List ℕ → List ℕ
+ofEdges fields = inputsField 1 ++ typeField 2 2 1 ++ fields
+
+abbrev pub inverterOf : List ℕ → List ℕ
+inverterOf fields = oneUnder 1 (typeField 2 2 1 ++ fields) ("0" ∷ [])
+
+abbrev pub oneLabel : List ℕ
+oneLabel = 0 ∷ []
+
+abbrev pub fourLabels : List ℕ
+fourLabels = 0 ∷ 0 ∷ 0 ∷ 0 ∷ []

@@ -1,7 +1,7 @@
 -- The three demands on the grader. Calls says what they speak of; One, Two and Three state them; their proofs are in proofs/.
 --   OneWire                 what a wire is, and that rows of one class are equal; the counts are of the shorts listed
 --   Files                   small circuit files, put together field by field
---   Claims, KnownResults    the table of known results, and what its lines claim
+--   Claims, KnownResults    the table of known results, and what its lines claim; PassResults those on pass transistors
 --   AlikeFiles, SplitFiles  demand 3 and the column clause of two files, byte by byte; why files are split as they are there
 --   NoConverse              demand 3 has no converse
 --   Determined              the demands leave one outcome only, which is the promise's
@@ -22,6 +22,7 @@ pub mod Three
 pub mod Files
 pub mod Claims
 pub mod KnownResults
+pub mod PassResults
 pub mod AlikeFiles
 pub mod SplitFiles
 pub mod NoConverse

@@ -1,7 +1,7 @@
 -- 02, "Pass transistors", on files. Each edge of an accepted file has its own channel: that of its node numbers where it came with tag 3,
 -- the one that its field states where it came with tag 7. Supply and ground are apart in every accepted type, whatever its channels are.
 -- Demands 2 and 3 read the recorded channel; which tag told it changes no answer. Files without tag 7 are answered as they were. The proofs
--- are in proofs/PassTransistorsProof, TagsGraded, PassesBefore and WrongPasses; computed results are `PassesKnown` (KnownResults).
+-- are in proofs/PassTransistorsProof, TagsGraded, PassesBefore and WrongPasses; computed results are `PassesKnown` (PassResults).
 use Prim.Native.Nat.{ℕ, _+_, _-_, _≤_}
 use mathlib.Core.Path.{_≡_}
 use mathlib.Core.Bool.{Bool, true, false, cond, not, _&&_, _||_}

@@ -30,7 +30,8 @@ use Rattle.demands.specs.CircuitCalls.{CircuitIsGradedAsFile, CircuitAns
 use Rattle.demands.specs.CircuitCalls.{CircuitsMeetTwo, CircuitColumnIsOfItsVector, CircuitsMeetThree}
 use Rattle.demands.specs.Unique.{Unique}
 use Rattle.demands.specs.Met.{MetByEveryFile}
-use Rattle.demands.specs.KnownResults.{AllKnown, EdgesKnown, PassesKnown}
+use Rattle.demands.specs.KnownResults.{AllKnown, EdgesKnown}
+use Rattle.demands.specs.PassResults.{PassesKnown}
 use Rattle.demands.specs.Graders.{RightlyIsRight}
 use Rattle.demands.specs.Wrong.{RefusesEveryIsWrong, SkipsNineIsWrong, SkipsFourteenIsWrong, MarksAllIsWrong, MarksNeverIsWrong}
 use Rattle.demands.specs.Wrong.{LeavesMatrixIsWrong, FirstWordOnlyIsWrong, InventsFoundIsWrong, SweepsOnceIsWrong, OnePlaneIsWrong}

@@ -5,7 +5,8 @@ use Prim.Native.String.{String}
 use mathlib.Core.List.{List, [], _∷_, _++_}
 use Rattle.switch.specs.Bridges.{nodes}
 use Rattle.circuit.specs.Circuit.{primary, exhaustive}
-use Rattle.demands.specs.Files.{fieldBytes, inputsField, typeField, edgeField, passField, instanceField, times, oneUnder, inverterFields}
+use Rattle.demands.specs.Files.{fieldBytes, inputsField, typeField, edgeField, passField, instanceField, times, oneUnder}
+use Rattle.demands.specs.Files.{inverterFields}
 use Rattle.demands.specs.Files.{muxFields, gatedMuxFields, gatesFields, besideFields, passInverterFields, followerFields}
 use Rattle.demands.specs.Files.{inverterLines, ofEdges, inverterOf, oneLabel}
 use Rattle.demands.specs.Claims.{Claim, reads, floats, refuses, sizes, reports, AllHold}

@@ -22,7 +22,7 @@ pass-results =
 pass-refusals : AllHold passRefusals
 unfolding computing Holds
 pass-refusals =
-    refl and refl and refl and refl and refl and refl and refl and refl and refl and refl and refl and refl and refl and refl and refl and refl and refl and refl and no-more
+    refl and refl and refl and refl and refl and refl and refl and refl and refl and refl and refl and refl and refl and refl and refl and refl and refl and no-more
 
 pub passes-known : PassesKnown
 passes-known = record { results = pass-results; refusals = pass-refusals }

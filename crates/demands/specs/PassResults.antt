@@ -8,16 +8,16 @@ use Rattle.circuit.specs.Circuit.{primary, exhaustive}
 use Rattle.demands.specs.Files.{fieldBytes, inputsField, typeField, edgeField, passField, instanceField, times, oneUnder}
 use Rattle.demands.specs.Files.{inverterFields}
 use Rattle.demands.specs.Files.{muxFields, gatedMuxFields, gatesFields, besideFields, passInverterFields, followerFields}
-use Rattle.demands.specs.Files.{inverterLines, ofEdges, inverterOf, oneLabel}
+use Rattle.demands.specs.Files.{inverterLines, ofEdges, inverterOf, oneLabel, fourLabels}
 use Rattle.demands.specs.Claims.{Claim, reads, floats, refuses, sizes, reports, AllHold}
 
 -- every vector of three inputs without X, one with an X that the select leaves out, and one with the select at X
 abbrev pub muxVectors : List String
 muxVectors = "000" ∷ "001" ∷ "010" ∷ "011" ∷ "100" ∷ "101" ∷ "110" ∷ "111" ∷ "0X1" ∷ "00X" ∷ []
 
--- an edge of either tag
-abbrev pub edgeAndPass : List ℕ
-edgeAndPass = edgeField 1 2 oneLabel ++ passField 1 2 1 0
+-- 252 edges with tag 3, four in a field, and four with tag 7
+abbrev pub fullOfBoth : List ℕ
+fullOfBoth = times 63 (edgeField 1 2 fourLabels) ++ times 4 (passField 1 2 1 0)
 
 -- a file with one input and a type of the multiplexer's numbers, up to these edge fields
 abbrev pub ofMux : List ℕ → List ℕ
@@ -104,12 +104,11 @@ passRefusals =
     ∷ refuses (inputsField 1 ++ inverterFields ++ instanceField 1 exhaustive (primary 1 ∷ []) ++ passField 1 2 1 0) 4 30
     ∷ refuses (ofEdges (fieldBytes 8 (1 ∷ 2 ∷ 1 ∷ 0 ∷ []))) 3 11
     -- 256 edges of both tags pass; one more of either is 6, after 5 and before 7
-    ∷ sizes (inverterOf (times 64 (edgeField 1 2 oneLabel ++ passInverterFields ++ edgeField 0 2 oneLabel))) 6 6
-    ∷ refuses (ofEdges (times 128 edgeAndPass ++ passField 1 2 1 0)) 6 1675
-    ∷ refuses (ofEdges (times 128 edgeAndPass ++ edgeField 1 2 oneLabel)) 6 1675
-    ∷ refuses (ofEdges (times 128 edgeAndPass ++ passField 3 3 2 1)) 6 1675
-    ∷ refuses (ofEdges (times 128 edgeAndPass ++ fieldBytes 7 [])) 5 1675
-    ∷ refuses (ofEdges (times 127 edgeAndPass ++ edgeField 1 2 oneLabel ++ edgeField 1 2 (0 ∷ 0 ∷ []))) 6 1668
+    ∷ sizes (inverterOf (times 31 (edgeField 1 2 fourLabels ++ edgeField 0 2 fourLabels) ++ times 4 passInverterFields)) 6 6
+    ∷ refuses (ofEdges (fullOfBoth ++ passField 1 2 1 0)) 6 606
+    ∷ refuses (ofEdges (fullOfBoth ++ edgeField 1 2 oneLabel)) 6 606
+    ∷ refuses (ofEdges (fullOfBoth ++ passField 3 3 2 1)) 6 606
+    ∷ refuses (ofEdges (fullOfBoth ++ fieldBytes 7 [])) 5 606
     ∷ []
 
 pub record PassesKnown : Type 0 where

@@ -8,7 +8,8 @@ use mathlib.Core.List.{List, [], _∷_, _++_, Memᴰ·append-left, Memᴰ·appen
 use mathlib.Core.List.{List·Memᴰ·head, List·Memᴰ·tail, List·Memᴰ·cases-cons, List·Memᴰ·not-nil}
 use lib.Dec.{T}
 use Rattle.switch.specs.Conduction.{Channel, Edge, edgesFor, Switching, edgeOn, links, Link, Among, here, forth, back}
-use Rattle.switch.specs.Grouped.{Group, anyOf, groupOn, groupLinks, ofGroups, pathLength, PathsAlike, GroupsLinkAlike}
+use Rattle.switch.specs.Grouped.{Group, anyOf, groupOn, groupLinks, ofGroups, PathsAlike, GroupsLinkAlike}
+use Rattle.switch.specs.Distances.{pathLength}
 
 module _ (on : Switching) where
   links-append : (xs ys : List Edge) → links on (xs ++ ys) ≡ links on xs ++ links on ys
@@ -92,7 +93,7 @@ beside closed ws us kept w m =
     ⊎-elim (λ (k : Among w closed). Memᴰ·append-left us k) (λ (k : Among w ws). Memᴰ·append-right closed (kept w k)) (List·Memᴰ·append-cases closed m)
 
 -- a path over links that stay is a path step by step
-paths-alike : (ws us : List Link) → ((w : Link) → Among w ws → Among w us) → PathsAlike ws us
+pub paths-alike : (ws us : List Link) → ((w : Link) → Among w ws → Among w us) → PathsAlike ws us
 unfolding pathLength
 paths-alike ws us kept a b here = (here, refl)
 paths-alike ws us kept a b (forth m p) = let q = paths-alike ws us kept a _ p in (forth (kept _ m) (q .0), ap suc (q .1))

@@ -1,11 +1,12 @@
 -- 01, "Conduction", as it was before 02, "No more grouped transistors": an edge of 1 to 4 parallel transistors with a label each, here
 -- called a group. It is kept for the files of that time: that one edge for each label conducts as the group did is `GroupsLinkAlike`.
-use Prim.Native.Nat.{ℕ, suc}
+use Prim.Native.Nat.{ℕ}
 use mathlib.Core.Path.{_≡_}
 use mathlib.Core.Bool.{Bool, false, cond, _||_}
 use mathlib.Core.Logic.{_↔_}
 use mathlib.Core.List.{List, [], _∷_, _++_}
-use Rattle.switch.specs.Conduction.{Channel, Edge, edgesFor, Switching, links, Link, Among, LinkPath, here, forth, back}
+use Rattle.switch.specs.Conduction.{Channel, Edge, edgesFor, Switching, links, Link, Among, LinkPath}
+use Rattle.switch.specs.Distances.{pathLength}
 
 -- two nodes, a channel, and the labels of the parallel transistors
 pub record Group : Type 0 where
@@ -31,12 +32,6 @@ groupLinks on (g ∷ gs) = let rest = groupLinks on gs in cond (groupOn on g) ((
 unfoldable pub ofGroups : List Group → List Edge
 ofGroups [] = []
 ofGroups (g ∷ gs) = edgesFor (g .first) (g .second) (g .channel) (g .labels) ++ ofGroups gs
-
--- the number of links along a path
-unfoldable pub pathLength : {ws : List Link} {a b : ℕ} → LinkPath ws a b → ℕ
-pathLength here = 0
-pathLength (forth m p) = suc (pathLength p)
-pathLength (back m p) = suc (pathLength p)
 
 -- each path over the one has a path over the other, between the same nodes and as long
 abbrev pub PathsAlike : List Link → List Link → Type 0

@@ -4,12 +4,13 @@ use Prim.Native.Nat.{ℕ}
 use mathlib.Core.Path.{_≡_}
 use mathlib.Core.List.{List}
 use lib.ListN.{getD}
-use Rattle.words.specs.Bits.{bit, ofBool, word}
+use Rattle.words.specs.Bits.{bit, ofBool, word, greatestTo}
 use Rattle.words.specs.Each.{wordOfEach, fourEach}
 use Rattle.words.specs.Tables.{table}
 use Rattle.switch.specs.Conduction.{Value, at0, at1, atX, links, ground, supply}
 use Rattle.switch.specs.Modules.{ModuleType, mostNodes, mostLabels}
 use Rattle.switch.specs.Deciding.{joins}
+use Rattle.switch.specs.Depth.{deepest}
 use Rattle.switch.specs.Records.{valueOf, byPlanes}
 use Rattle.switch.specs.declared.Rails.{Rails}
 use Rattle.switch.specs.declared.Planes.{Planes}
@@ -26,8 +27,21 @@ unfoldable pub fourRailWords : ModuleType → List ℕ → List ℕ → ℕ → 
 fourRailWords t ones zeros rail =
     fourEach mostNodes (λ (w : ℕ). railWords t (wordOfEach 4 w mostLabels ones) (wordOfEach 4 w mostLabels zeros) rail)
 
+-- 02, "How many rounds joining takes": the greatest distance of a joined node from its rail, over the 64 positions, and over the 256 that
+-- joining handles together. The positions are alike here too: one where both planes hold nothing switches nothing on and adds 0, as one past
+-- the last vector does
+unfoldable pub roundsUnder : ModuleType → List ℕ → List ℕ → ℕ
+roundsUnder t ones zeros = greatestTo 64 (λ (v : ℕ). deepest (links (byPlanes ones zeros v) (t .edges)))
+
+unfoldable pub fourRounds : ModuleType → List ℕ → List ℕ → ℕ
+fourRounds t ones zeros = greatestTo 4 (λ (w : ℕ). roundsUnder t (wordOfEach 4 w mostLabels ones) (wordOfEach 4 w mostLabels zeros))
+
 abbrev pub railsOf : ModuleType → List ℕ → List ℕ → Rails
-railsOf t ones zeros = record { supply = fourRailWords t ones zeros supply; ground = fourRailWords t ones zeros ground }
+railsOf t ones zeros = record {
+  supply = fourRailWords t ones zeros supply;
+  ground = fourRailWords t ones zeros ground;
+  rounds = fourRounds t ones zeros;
+}
 
 -- a value's bit in the known-1 plane, and in the known-0 plane
 unfoldable pub isAt1 : Value → ℕ

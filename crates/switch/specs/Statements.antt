@@ -1,5 +1,5 @@
 -- The theorems on paths, and on what the code's words and planes tell of them, that all later crates rest on. Their proofs are in proofs/.
-use Prim.Native.Nat.{ℕ, _^_, _<_}
+use Prim.Native.Nat.{ℕ, _-_, _^_, _≤_, _<_}
 use mathlib.Core.Path.{_≡_}
 use mathlib.Core.Bool.{false, not}
 use mathlib.Core.Logic.{_⊎_, _↔_}
@@ -7,13 +7,16 @@ use mathlib.Core.List.{List, _++_, map}
 use lib.Dec.{T}
 use lib.ListN.{length, getD}
 use Rattle.words.specs.Bits.{bit}
+use Rattle.words.specs.Each.{wordOfEach}
 use Rattle.switch.specs.Conduction.{Value, atX, Channel, p-channel, n-channel, Edge, Switching, byValues, edgeOn, links}
 use Rattle.switch.specs.Conduction.{Link, Among, Joined, pEnds, nEnds, badEnds, ground, supply}
-use Rattle.switch.specs.Modules.{ModuleType, mostNodes, inRange, linksOf, settingOf, Complementary, LevelIs}
+use Rattle.switch.specs.Modules.{ModuleType, mostNodes, mostLabels, inRange, linksOf, settingOf, Complementary, LevelIs}
 use Rattle.switch.specs.Bridges.{Bridge, Marked, MarkedByEnds}
 use Rattle.switch.specs.Deciding.{joins, isComplementary, levelIn, outputValue, isMarked}
 use Rattle.switch.specs.Records.{valueOf, complement, byPlanes}
-use Rattle.switch.specs.Promises.{railWords, PlanesHold, planes, planesOf}
+use Rattle.switch.specs.Distances.{DistanceFrom, IsRail, GreatestIs, LinksBelow}
+use Rattle.switch.specs.Depth.{depth}
+use Rattle.switch.specs.Promises.{railWords, fourRounds, PlanesHold, planes, planesOf}
 
 -- 01, "Conduction": an edge of tag 3 that is not refused is p-channel or n-channel, and not both
 abbrev pub OneChannel : Type 0
@@ -134,3 +137,38 @@ OutputPlanes = (t : ModuleType) (ones zeros : List ℕ) (values : ℕ → ℕ �
     → ((v : ℕ) → v < 64 → PlanesHold ones zeros v (values v))
     → planesOf (getD (railWords t ones zeros supply) (t .output) 0) (getD (railWords t ones zeros ground) (t .output) 0)
     ≡ planes (λ (v : ℕ). outputValue t (values v))
+
+-- ---- 02, "How many rounds joining takes"
+
+-- of any numbers there is one greatest
+abbrev pub OneGreatest : Type 1
+OneGreatest = (P : ℕ → Type 0) (d e : ℕ) → GreatestIs P d → GreatestIs P e → d ≡ e
+
+pub record DepthIsDistance : Type 0 where
+  -- over links between the nodes of a module
+  pub greatest : (ws : List Link) → LinksBelow mostNodes ws → (a : ℕ) → a < mostNodes → GreatestIs (DistanceFrom ws a) (depth ws a)
+  -- it is below the number of nodes
+  pub below-nodes : (n : ℕ) → n ≤ mostNodes → (ws : List Link) → LinksBelow n ws → (a : ℕ) → a < n → depth ws a < n
+  -- it tells no more than which links there are
+  pub same-links : (ws others : List Link) → ((w : Link) → Among w ws ↔ Among w others) → (a : ℕ) → depth ws a ≡ depth others a
+
+-- d is the distance of some joined node from its rail, by what four words of each plane switch on at one of 256 positions
+pub record DistanceUnder (t : ModuleType) (ones zeros : List ℕ) (d : ℕ) : Type 0 where
+  pub word : ℕ
+  pub position : ℕ
+  pub rail : ℕ
+  pub is-word : word < 4
+  pub is-position : position < 64
+  pub is-rail : IsRail rail
+  pub from : DistanceFrom (links (byPlanes (wordOfEach 4 word mostLabels ones) (wordOfEach 4 word mostLabels zeros) position) (t .edges)) rail d
+
+-- what the joining step promises of its rounds is the greatest distance over the vectors that it handles together
+abbrev pub RoundsAreDistances : Type 0
+RoundsAreDistances = (t : ModuleType) → T (inRange t) → (ones zeros : List ℕ) → GreatestIs (DistanceUnder t ones zeros) (fourRounds t ones zeros)
+
+-- at most h - 1 in a type with the highest node h: of its h + 1 nodes a path from one rail does not reach the other, and a shortest path
+-- does not come to a node twice
+abbrev pub AtMostBelowHighest : Type 0
+AtMostBelowHighest =
+    (t : ModuleType) → Accepted t → (values : ℕ → Value) (rail : ℕ) → IsRail rail → (d : ℕ)
+    → DistanceFrom (linksOf t values) rail d → d ≤ t .highest - 1

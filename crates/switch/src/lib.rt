@@ -25,10 +25,11 @@ pub struct ModuleType {
     pub edges: [Edge; MOST_EDGES],
 }
 
-// Four words for each node and each rail: under which of 256 vectors the node is joined to it.
+// Four words for each node and each rail: under which of 256 vectors the node is joined to it. And the most rounds that joining took: the greatest distance of a joined node from its rail, under any of them.
 pub struct Rails {
     pub supply: [u64; 128],
     pub ground: [u64; 128],
+    pub rounds: usize,
 }
 
 // The known-1 plane and the known-0 plane of one value under 64 vectors.

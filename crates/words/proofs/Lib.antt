@@ -4,6 +4,7 @@ pub mod Laws
 pub mod FirstOnes
 pub mod Counting
 pub mod Sums
+pub mod Greatest
 pub mod Rows
 pub mod AnyMark
 pub mod Tables

@@ -1,6 +1,6 @@
 -- A word as 64 bits: the bit at a position, and the word packed from a function on positions.
 -- 01, "Faults, marks and classes": vector v, from 1, is bit (v - 1) mod 64. Positions here count from 0.
-use Prim.Native.Nat.{ℕ, zero, suc, _+_, _*_, _/_, _%_, _^_}
+use Prim.Native.Nat.{ℕ, zero, suc, _+_, _*_, _/_, _%_, _^_, max}
 use mathlib.Core.Bool.{Bool, true, false}
 use lib.Dec.{ltb}
 
@@ -30,6 +30,11 @@ firstOnes n = word (λ (v : ℕ). ofBool (ltb v n))
 unfoldable pub sumTo : ℕ → (ℕ → ℕ) → ℕ
 sumTo zero f = 0
 sumTo (suc n) f = f 0 + sumTo n (λ (v : ℕ). f (suc v))
+
+-- the greatest of f over the positions below n, 0 where there is none
+unfoldable pub greatestTo : ℕ → (ℕ → ℕ) → ℕ
+greatestTo zero f = 0
+greatestTo (suc n) f = max (f 0) (greatestTo n (λ (v : ℕ). f (suc v)))
 
 -- one more than the place of the first bit that is set: 1 where this one is, else one more than among the later ones, and 0 where none is
 abbrev pub firstOr : ℕ → ℕ → ℕ

@@ -1,4 +1,5 @@
-// Words of 64 vectors: how many marks a row of four has, which vector marks first, and a word of ones for some vectors.
+// Words of 64 vectors: how many marks a row of four has, which vector marks first, and a word of ones for some vectors. And the greater of two counts.
+ghost use Prim.Native.Nat.{max};
 ghost use mathlib.Core.Path.{_≡_};
 ghost use Rattle.words.specs.Bits.{firstOnes};
 ghost use Rattle.words.specs.Rows.{marksOf, firstMarkOf};
@@ -40,4 +41,14 @@ pub fn first_ones(n: usize) -> u64
         return !0u64;
     }
     (1u64 << n) - 1
+}
+
+// The greater of two numbers.
+pub fn greater(a: usize, b: usize) -> usize
+    ensures { λ r. ⌜ r ≡ max a b ⌝ }
+{
+    if a < b {
+        return b;
+    }
+    a
 }

@@ -9,7 +9,7 @@ use Rattle.words.specs.Rows.{rowOf}
 use Rattle.switch.specs.Conduction.{channelBit, channelBy, between, pEnds, nEnd, nEnds, badEnds, channelOf, transistorOn, edgesFor, edgeOn, links}
 use Rattle.switch.specs.Modules.{allOf, typeInRange, edgeInRange, linksOf, valueOfBit, settingOf}
 use Rattle.switch.specs.Bridges.{toLabel, closing}
-use Rattle.switch.specs.Grouped.{anyOf}
+use Rattle.switch.specs.Modules.{anyOf}
 use Rattle.switch.specs.Deciding.{rename, partIn, renamings, joins, allBelow, oneRail, isComplementary, levelIn, isMarked}
 use Rattle.circuit.specs.Fields.{twoBytes, cutIn, cutFrom}
 use Rattle.circuit.specs.Circuit.{Circuit, numbered, joinLists, nodePairs, nodeInputs, exhaustiveList, exhaustiveSize, userList, chosen, chosenSize, faultsOf, faultCount}

@@ -22,6 +22,7 @@ use Rattle.demands.specs.Calls.{Call, Kept, Accepts}
 use Rattle.demands.specs.One.{RestKept}
 use Rattle.demands.specs.Two.{MatrixCell, vectorOfCell, markIn, CellsTell, ClassesTell, AlikeButVectors}
 use Rattle.demands.specs.Three.{Refined, Three}
+use Rattle.demands.specs.Rounds.{RoundsTold}
 
 -- a call of `grade_circuit`: the circuit's record and the buffers that it was given; the answer, and the buffers as they are then
 pub record CircuitCall : Type 0 where
@@ -67,10 +68,11 @@ pub record CircuitGraded (call : CircuitCall) (c : Circuit) : Type 0 where
   pub kept : CircuitKept call
   pub graded : T (isGraded (call .answer))
 
--- demand 2, and that the rest of the buffers is kept. They do not look at the file of a call, for which none stands
+-- demand 2, the rounds, and that the rest of the buffers is kept. They do not look at the file of a call, for which none stands
 pub record CircuitTold (call : CircuitCall) (c : Circuit) : Type 0 where
   pub cells : CellsTell (onFile [] call) c
   pub classes : ClassesTell (onFile [] call) c
+  pub rounds : RoundsTold (onFile [] call) c
   pub rest : RestKept (onFile [] call) c
 
 abbrev pub CircuitsMeetTwo : Type 0

@@ -73,6 +73,10 @@ refusalIn grading = (numberIn grading, placeIn grading)
 abbrev pub sizesIn : Grading → ℕ × ℕ × ℕ
 sizesIn grading = (numberIn grading, countsIn grading .faults, countsIn grading .classes)
 
+-- a refusal's number, 0 where there is none, and the rounds
+abbrev pub roundsIn : Grading → ℕ × ℕ
+roundsIn grading = (numberIn grading, countsIn grading .rounds)
+
 -- a refusal's number, and what is written into the matrix
 abbrev pub wordsIn : Grading → ℕ × List ℕ
 wordsIn grading = (numberIn grading, buffersAfter grading noBuffers .matrix)
@@ -115,8 +119,10 @@ pub data Claim : Type 0 where
   sizes : List ℕ → ℕ → ℕ → Claim
   -- a file is graded, not refused, and its rows' words are these
   leaves : List ℕ → List ℕ → Claim
-  -- a file of so many bytes is graded, not refused: the four counts, the marks of each row, the class of each row
+  -- a file of so many bytes is graded, not refused: the counts, the marks of each row, the class of each row
   grades : List ℕ → ℕ → Counts → List String → List ℕ → Claim
+  -- a file is graded, not refused, and joining takes so many rounds
+  takes : List ℕ → ℕ → Claim
   -- a file's grading turns these buffers into those
   turns : List ℕ → Buffers → Buffers → Claim
   -- a file's whole report, line by line
@@ -137,6 +143,7 @@ Holds (grades file size counts marks classes) =
       counts = counts;
       written = buffersOf (joinLists (map (λ (text : String). four (wordOf text)) marks)) classes;
     }
+Holds (takes file rounds) = roundsIn (gradingInFull file) ≡ (0, rounds)
 Holds (turns file before after) = buffersAfter (gradingOf file (roomOf before)) before ≡ after
 Holds (reports file lines) = reportOf (gradingInFull file) ≡ bytesOfLines lines
 

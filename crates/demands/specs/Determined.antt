@@ -11,12 +11,14 @@ use Rattle.grading.specs.Promise.{isGraded}
 use Rattle.demands.specs.Calls.{Call, Kept, Accepts}
 use Rattle.demands.specs.One.{One, SameOutcome, RestKept}
 use Rattle.demands.specs.Two.{CellsTell, ClassesTell}
+use Rattle.demands.specs.Rounds.{RoundsTold}
 
--- what is demanded of one call: demand 1 and, where it graded, the cells and the classes of demand 2 and that the rest is kept
+-- what is demanded of one call: demand 1 and, where it graded, the cells and the classes of demand 2, the rounds, and that the rest is kept
 pub record MeetsDemands (call : Call) : Type 0 where
   pub one : One call
   pub cells : (c : Circuit) → Accepts (call .file) c → T (isGraded (call .answer)) → CellsTell call c
   pub classes : (c : Circuit) → Accepts (call .file) c → T (isGraded (call .answer)) → ClassesTell call c
+  pub rounds : (c : Circuit) → Accepts (call .file) c → T (isGraded (call .answer)) → RoundsTold call c
   pub rest : (c : Circuit) → Accepts (call .file) c → T (isGraded (call .answer)) → RestKept call c
 
 -- a word has 64 bits, as the code's words have: of a larger number the cells would not tell all

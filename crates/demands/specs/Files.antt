@@ -236,7 +236,7 @@ manyFaults more =
 
 -- ---- 01's report
 
--- 01, "The report": of `inverter`, in full
+-- 01, "The report": of `inverter`, in full, with the line of 02, "How many rounds joining takes"
 abbrev pub inverterLines : List String
 inverterLines =
     "vectors 3 faults 6 classes 6 found 6"
@@ -246,7 +246,29 @@ inverterLines =
     ∷ "1 i 0 0 4 010 1 2"
     ∷ "1 i 1 0 5 100 1 1"
     ∷ "1 i 2 0 6 110 2 1"
+    ∷ "rounds 1"
     ∷ []
+
+-- ---- deep types
+
+-- an inverter whose transistors to ground stand in a row through all other nodes: h, o=2, k=1; edges 1-2, 2-3, 3-4 and so on to h, and h-0,
+-- all at label 0
+abbrev pub chainFields : ℕ → List ℕ
+chainFields h =
+    typeField h 2 1 ++ edgeField 1 2 (0 ∷ []) ++ joinLists (table (h - 2) (λ (i : ℕ). edgeField (i + 2) (i + 3) (0 ∷ []))) ++ edgeField h 0 (0 ∷ [])
+
+-- a NAND with two ways from supply to the output: h=4, o=3, k=2; edge 1-3 label 0; edges 1-2 and 2-3 label 1; edges 3-4 label 0 and 4-0
+-- label 1
+abbrev pub detourFields : List ℕ
+detourFields =
+    typeField 4 3 2 ++ edgeField 1 3 (0 ∷ []) ++ edgeField 1 2 (1 ∷ []) ++ edgeField 2 3 (1 ∷ []) ++ edgeField 3 4 (0 ∷ [])
+    ++ edgeField 4 0 (1 ∷ [])
+
+-- a NAND without faults, then an inverter with the exhaustive list
+abbrev pub nandThenInverter : List String → List ℕ
+nandThenInverter vectors =
+    inputsField 2 ++ inverterFields ++ nandFields ++ instanceField 2 no-faults (primary 1 ∷ primary 2 ∷ [])
+    ++ instanceField 1 exhaustive (primary 1 ∷ []) ++ vectorFields vectors
 
 -- ---- types with many edges
 

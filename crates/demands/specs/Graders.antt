@@ -23,6 +23,7 @@ use Rattle.circuit.specs.declared.refusal.Refusal.the-variants.{TooManyFaults, 
 use Rattle.grading.specs.Buffers.{Buffers, roomOf}
 use Rattle.grading.specs.Rows.{Row, rowsOf, rowValues, markOf}
 use Rattle.grading.specs.Classes.{sameClass, largest, classesBy, foundBy}
+use Rattle.grading.specs.Rounds.{roundsOf}
 use Rattle.grading.specs.Grading.{Grading, graded, refused, gradingOf, afterReading, over}
 use Rattle.grading.specs.declared.Answer.{Answer}
 use Rattle.grading.specs.declared.Answer.the-variants.{Graded, Refused, ShortMatrix, ShortClasses}
@@ -67,19 +68,26 @@ pub record Work : Type 0 where
   pub classes : List ℕ
   pub class-count : ℕ
   pub found : ℕ
+  pub rounds : ℕ
 
 unfoldable pub outcomeOf : (Circuit → Work) → Grading → Buffers → Outcome
 outcomeOf work (refused n p) before = record { answer = refusing n p; after = before }
 outcomeOf work (graded c) before =
     let w = work c in record {
-      answer = Graded (record { vectors = length (c .vectors); faults = length (rowsOf c); classes = w .class-count; found = w .found });
+      answer = Graded (record {
+        vectors = length (c .vectors);
+        faults = length (rowsOf c);
+        classes = w .class-count;
+        found = w .found;
+        rounds = w .rounds;
+      });
       after = record { matrix = over (w .words) (before .matrix); classes = over (w .classes) (before .classes) };
     }
 
 unfoldable pub gradesBy : (Circuit → Work) → Grader
 gradesBy work file before = outcomeOf work (gradingOf file (roomOf before)) before
 
--- ---- work by the marks of rows, their packing into words, and the test for one class
+-- ---- work by the marks of rows, their packing into words, and the test for one class; its rounds are right
 
 -- how a row is packed: from the number of vectors and the marks, from 0
 abbrev pub Packing : Type 0
@@ -92,6 +100,7 @@ workBy packed marks same c =
       classes = classes;
       class-count = largest classes;
       found = foundBy (length (c .vectors)) (marks c) (rowsOf c) classes (largest classes);
+      rounds = roundsOf c;
     }
 
 -- the marks of rows by a test on a type, the values of its labels, and a bridge

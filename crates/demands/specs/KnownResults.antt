@@ -76,7 +76,7 @@ knownResults =
     ∷ short (manyFaults 0) (roomFor 8191 2048) 15 8192
     -- "The report": one inverter, vectors 0, 1, X. The file is 42 bytes; 3 vectors, 6 faults, 6 classes, 6 found; classes 1 to 6;
     -- rows 111, 100, 010, 010, 100, 110
-    ∷ grades inverter 42 (record { vectors = 3; faults = 6; classes = 6; found = 6 })
+    ∷ grades inverter 42 (record { vectors = 3; faults = 6; classes = 6; found = 6; rounds = 1 })
     ("111" ∷ "100" ∷ "010" ∷ "010" ∷ "100" ∷ "110" ∷ []) (1 ∷ 2 ∷ 3 ∷ 4 ∷ 5 ∷ 6 ∷ [])
     -- its output in full
     ∷ reports inverter inverterLines
@@ -97,6 +97,7 @@ knownResults =
     ∷ "1 i 2 1 9 110 2 1"
     ∷ "1 i 3 0 10 010 1 2"
     ∷ "1 i 3 1 10 010 1 2"
+    ∷ "rounds 2"
     ∷ [])
     -- the inverter without faults, and the NAND behind it: 0-2 reads 110
     ∷ reports (inverterThenNand ("0" ∷ "1" ∷ "X" ∷ []))
@@ -115,6 +116,7 @@ knownResults =
     ∷ "2 i 2 1 12 010 1 2"
     ∷ "2 i 3 0 13 000 0 0"
     ∷ "2 i 3 1 14 110 2 1"
+    ∷ "rounds 2"
     ∷ [])
     -- X alone marks nothing but 0-1
     ∷ reports (inverterUnder ("X" ∷ []))
@@ -125,9 +127,10 @@ knownResults =
     ∷ "1 i 0 0 4 0 0 0"
     ∷ "1 i 1 0 5 0 0 0"
     ∷ "1 i 2 0 6 0 0 0"
+    ∷ "rounds 0"
     ∷ [])
     -- no faults; and a refusal
-    ∷ reports (inverterChoosing no-faults) ("vectors 1 faults 0 classes 0 found 0" ∷ [])
+    ∷ reports (inverterChoosing no-faults) ("vectors 1 faults 0 classes 0 found 0" ∷ "rounds 1" ∷ [])
     ∷ reports [] ("refused 14 at 0" ∷ [])
     -- 15 comes before 22, each with what is needed
     ∷ short inverter (roomFor 23 6) 15 24
@@ -142,7 +145,7 @@ knownResults =
     (1 ∷ 2 ∷ 3 ∷ 4 ∷ 5 ∷ 6 ∷ 9 ∷ []))
     -- four instances, rows of three of them, in the order of their lists
     ∷ grades (fourInstances ("00" ∷ "01" ∷ "10" ∷ "11" ∷ "X0" ∷ "0X" ∷ [])) 152
-    (record { vectors = 6; faults = 10; classes = 10; found = 9 })
+    (record { vectors = 6; faults = 10; classes = 10; found = 9; rounds = 2 })
     ("010100" ∷ "111110" ∷ "000100" ∷ "100000" ∷ "001000" ∷ "101100" ∷ "010100" ∷ "101010" ∷ "000000" ∷ "111110" ∷ [])
     (1 ∷ 2 ∷ 3 ∷ 4 ∷ 5 ∷ 6 ∷ 7 ∷ 8 ∷ 9 ∷ 10 ∷ [])
     -- the NAND's output is 1 under 00, 01 and 10, and 0 under 11
@@ -159,6 +162,7 @@ knownResults =
     ∷ "1 n 2 0 1 10 1 1"
     ∷ "1 n 0 2 1 10 1 1"
     ∷ "1 n 2 0 1 10 1 1"
+    ∷ "rounds 1"
     ∷ [])
     -- 02, "One wire, one short": a driver's output to ground, listed at the driver and again at the input that it feeds: one class with
     -- equal rows, of either kind
@@ -166,6 +170,7 @@ knownResults =
     ("vectors 3 faults 2 classes 1 found 1"
     ∷ "1 n 0 2 1 100 1 1"
     ∷ "2 i 0 0 1 100 1 1"
+    ∷ "rounds 1"
     ∷ [])
     -- two inverters with exhaustive lists: 0-1 is one class, the driver's output with each rail is that of the fed input
     ∷ reports (twoInverters [] exhaustive exhaustive ("0" ∷ "1" ∷ "X" ∷ []))
@@ -182,12 +187,14 @@ knownResults =
     ∷ "2 i 0 0 2 100 1 1"
     ∷ "2 i 1 0 3 010 1 2"
     ∷ "2 i 2 0 9 110 2 1"
+    ∷ "rounds 1"
     ∷ [])
     -- the inner nodes of two NANDs are two wires, though both are numbered 3
     ∷ reports (twoNands all-four)
     ("vectors 4 faults 2 classes 2 found 2"
     ∷ "1 n 0 3 1 0010 1 3"
     ∷ "2 n 0 3 2 0100 1 2"
+    ∷ "rounds 2"
     ∷ [])
     -- two NANDs alike: outputs and inner nodes are two wires each, though their rows are equal; the input that feeds both is one
     ∷ reports (twinNands all-four)
@@ -198,6 +205,7 @@ knownResults =
     ∷ "2 n 0 3 4 0010 1 3"
     ∷ "2 n 0 2 5 1110 3 1"
     ∷ "2 i 0 0 3 0011 2 3"
+    ∷ "rounds 2"
     ∷ [])
     -- more refusals, so that each number is here: a file too long, tag 0, inputs twice, three bytes for the inputs, 65 inputs, a 17th type,
     -- an edge 2-2, a bridge of kind 2, choice -2, bridge 0-3 for an inverter, a list without bridges

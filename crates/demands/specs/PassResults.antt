@@ -54,6 +54,7 @@ passResults =
     ∷ "1 i 4 0 23 0111110110 7 2"
     ∷ "1 i 4 1 24 0100000100 2 2"
     ∷ "1 i 4 2 25 0010011100 4 3"
+    ∷ "rounds 2"
     ∷ [])
     ∷ floats (oneUnder 3 muxFields muxVectors) 1 4 10
     -- with the select's complement as a label of its own it is refused
@@ -82,6 +83,7 @@ passResults =
     ∷ "1 i 0 0 4 010 1 2"
     ∷ "1 i 1 0 5 100 1 1"
     ∷ "1 i 2 0 6 000 0 0"
+    ∷ "rounds 1"
     ∷ [])
     ∷ []
 

@@ -3,7 +3,9 @@
 use Rattle.switch.specs.Blocks.{BlocksTell}
 use Rattle.switch.specs.Grouped.{GroupsLinkAlike}
 use Rattle.switch.specs.Tags.{TagsConductNothing}
+use Rattle.switch.specs.Statements.{OneGreatest, DepthIsDistance, RoundsAreDistances, AtMostBelowHighest}
 use Rattle.circuit.specs.Laws.{GatheredIsBefore, BeforeIsCircuit}
+use Rattle.grading.specs.Statements.{RoundsTell}
 use Rattle.print_lines.specs.Pieces.{OnePiece, PiecesJoin, PieceMoves}
 use Rattle.print_report.specs.Promise.{ReportIsLines, LinesFit, RowsAreHeld}
 use Rattle.print_circuit.specs.Told.{ToldIsReading, ToldIsListing}
@@ -25,13 +27,16 @@ use Rattle.demands.specs.ModuleCheck.{NineAsBefore, WrongChecksAreWrong}
 use Rattle.demands.specs.SingleTransistors.{AnsweredAsBefore, AcceptedAsBefore, GroupedFieldsRead, WrongEdgesAreWrong}
 use Rattle.demands.specs.PassTransistors.{TypesAreFields, EndsKeepTheRules, RailsApartInFiles, TagsChangeNoAnswer, OnlyPassesChange}
 use Rattle.demands.specs.PassTransistors.{NumbersOfEdges, PassFieldsRead, WrongPassesAreWrong}
-use Rattle.demands.specs.Contracts.{GradeIsKept, EntryIsKept}
+use Rattle.demands.specs.Rounds.{RoundsAreTheGreatestDistance, RoundsAreFew, RoundsAskForNoFaults, MoreVectorsNoFewerRounds}
+use Rattle.demands.specs.Rounds.{WrongRoundsAreWrong}
+use Rattle.demands.specs.Contracts.{GradeIsKept, EntryIsKept, NumbersAreKept}
 use Rattle.demands.specs.CircuitCalls.{CircuitIsGradedAsFile, CircuitAnswersAsFile, GradeCircuitIsKept}
 use Rattle.demands.specs.CircuitCalls.{CircuitsMeetTwo, CircuitColumnIsOfItsVector, CircuitsMeetThree}
 use Rattle.demands.specs.Unique.{Unique}
 use Rattle.demands.specs.Met.{MetByEveryFile}
 use Rattle.demands.specs.KnownResults.{AllKnown, EdgesKnown}
 use Rattle.demands.specs.PassResults.{PassesKnown}
+use Rattle.demands.specs.RoundResults.{RoundsKnown}
 use Rattle.demands.specs.Graders.{RightlyIsRight}
 use Rattle.demands.specs.Wrong.{RefusesEveryIsWrong, SkipsNineIsWrong, SkipsFourteenIsWrong, MarksAllIsWrong, MarksNeverIsWrong}
 use Rattle.demands.specs.Wrong.{LeavesMatrixIsWrong, FirstWordOnlyIsWrong, InventsFoundIsWrong, SweepsOnceIsWrong, OnePlaneIsWrong}
@@ -113,9 +118,22 @@ pub record AllProved : Type 2 where
   pub pass-fields-read : PassFieldsRead
   pub passes-known : PassesKnown
   pub wrong-passes-are-wrong : WrongPassesAreWrong
+  -- 02, "How many rounds joining takes"
+  pub one-greatest : OneGreatest
+  pub depth-is-distance : DepthIsDistance
+  pub rounds-are-distances : RoundsAreDistances
+  pub at-most-below-highest : AtMostBelowHighest
+  pub rounds-tell : RoundsTell
+  pub rounds-are-the-greatest-distance : RoundsAreTheGreatestDistance
+  pub rounds-are-few : RoundsAreFew
+  pub rounds-ask-for-no-faults : RoundsAskForNoFaults
+  pub more-vectors-no-fewer-rounds : MoreVectorsNoFewerRounds
+  pub rounds-known : RoundsKnown
+  pub wrong-rounds-are-wrong : WrongRoundsAreWrong
   -- the code
   pub grade-is-kept : GradeIsKept
   pub entry-is-kept : EntryIsKept
+  pub numbers-are-kept : NumbersAreKept
   pub grade-circuit-is-kept : GradeCircuitIsKept
   pub circuit-is-graded-as-file : CircuitIsGradedAsFile
   pub circuit-answers-as-file : CircuitAnswersAsFile

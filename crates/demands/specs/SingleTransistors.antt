@@ -9,13 +9,14 @@ use mathlib.Core.Logic.{_⊎_}
 use mathlib.Core.List.{List, [], _∷_, _++_, map}
 use lib.Dec.{eqb, leb, ltb}
 use lib.ListN.{length, getD, drop, set}
-use Rattle.words.specs.Bits.{ofBool}
+use Rattle.words.specs.Bits.{ofBool, greatestTo}
 use Rattle.words.specs.Rows.{rowOf}
 use Rattle.switch.specs.Conduction.{Value, at0, n-channel, EdgeTag, by-position, stated, between, badEnds, channelOf, byValues, Link}
 use Rattle.switch.specs.Conduction.{ground, supply}
 use Rattle.switch.specs.Modules.{ModuleType, settingOf}
 use Rattle.switch.specs.Bridges.{closing}
 use Rattle.switch.specs.Deciding.{joins, allBelow, levelIn}
+use Rattle.switch.specs.Depth.{deepest}
 use Rattle.switch.specs.Grouped.{Group, groupLinks, ofGroups}
 use Rattle.switch.specs.Examples.{edge, nand}
 use Rattle.circuit.specs.Fields.{Field, Cut, clean, broken, field, cutFrom}
@@ -27,7 +28,7 @@ use Rattle.circuit.specs.Table.{fieldTests, endTests}
 use Rattle.circuit.specs.Reading.{accepted, refusal, readingOf}
 use Rattle.grading.specs.Buffers.{Buffers, roomOf}
 use Rattle.grading.specs.Values.{labelValues}
-use Rattle.grading.specs.Rows.{Row}
+use Rattle.grading.specs.Rows.{Row, noInstance}
 use Rattle.grading.specs.Classes.{sameClass}
 use Rattle.grading.specs.Grading.{gradingOfCircuit}
 use Rattle.demands.specs.Calls.{Kept}
@@ -154,8 +155,17 @@ groupsMark groups c row v =
     let values = labelValues vector (groupsOutputs (c .types) groups vector [] (c .instances)) (row .instance) in
     ofBool (joins (closing (row .bridge) values ++ instanceLinks groups (row .instance) values) supply ground)
 
+-- 02, "How many rounds joining takes", which came later: the greatest distance in groups that are on
+unfoldable pub groupsRounds : List (List Group) → Circuit → ℕ
+groupsRounds groups c = greatestTo (length (c .instances)) λ (i : ℕ). greatestTo (length (c .vectors)) λ (v : ℕ).
+    let vector = getD (c .vectors) v [] in
+    let instance = getD (c .instances) i noInstance in
+    deepest (instanceLinks groups instance (labelValues vector (groupsOutputs (c .types) groups vector [] (c .instances)) instance))
+
 unfoldable pub groupsWork : List (List Group) → Circuit → Work
-groupsWork groups c = workBy rowOf (groupsMark groups) sameClass c
+groupsWork groups c =
+    let w = workBy rowOf (groupsMark groups) sameClass c in
+    record { words = w .words; classes = w .classes; class-count = w .class-count; found = w .found; rounds = groupsRounds groups c }
 
 unfoldable pub groupsOutcome : GroupsReading → Buffers → Outcome
 groupsOutcome (accepted-with c groups) before = outcomeOf (groupsWork groups) (gradingOfCircuit c (roomOf before)) before

@@ -16,6 +16,7 @@ use Rattle.demands.specs.Contracts.{AskedBy, ToldBy, AsksNothing, AtRetu
 use Rattle.words.proofs.marks as words-marks
 use Rattle.words.proofs.first_mark as words-first-mark
 use Rattle.words.proofs.first_ones as words-first-ones
+use Rattle.words.proofs.greater as words-greater
 use Rattle.print_lines.proofs.put_byte as print-lines-put-byte
 use Rattle.print_lines.proofs.put_bytes as print-lines-put-bytes
 use Rattle.print_lines.proofs.put_number as print-lines-put-number
@@ -77,11 +78,13 @@ use Rattle.grade_file.proofs.grade.grade_read as grade-file-grade-read
 use Rattle.grade_file.proofs.grade.grade as grade-file-grade
 use Rattle.print_report.proofs.first_line as print-report-first-line
 use Rattle.print_report.proofs.row_line as print-report-row-line
+use Rattle.print_report.proofs.rounds_line as print-report-rounds-line
 use Rattle.print_report.proofs.report_piece as print-report-report-piece
 use Rattle.print_circuit.proofs.show_piece as print-circuit-show-piece
 use Rattle.program_io.proofs.input.unread as program-io-unread
 use Rattle.program_io.proofs.output.nothing as program-io-nothing
 use Rattle.togyamiru.proofs.togyamiru_grade as togyamiru-grade
+use Rattle.togyamiru.proofs.togyamiru_grade_numbers as togyamiru-grade-numbers
 use Rattle.togyamiru.proofs.togyamiru_rows as togyamiru-rows
 use Rattle.bench_check.proofs.bench_check as bench-check
 
@@ -121,6 +124,7 @@ pub record Unique : Type 2 where
   pub words-marks : Sole words-marks.ended words-marks.Reads.Asked words-marks.Reads.Learnt
   pub words-first-mark : Sole words-first-mark.ended words-first-mark.Reads.Asked words-first-mark.Reads.Learnt
   pub words-first-ones : Sole words-first-ones.ended words-first-ones.Reads.Asked words-first-ones.Reads.Learnt
+  pub words-greater : Sole words-greater.ended words-greater.Reads.Asked words-greater.Reads.Learnt
   pub print-lines-put-byte : SoleWhereMet print-lines-put-byte.ended print-lines-put-byte.Reads.Asked print-lines-put-byte.Reads.Learnt
   pub print-lines-put-bytes : SoleWhereMet print-lines-put-bytes.ended print-lines-put-bytes.Reads.Asked print-lines-put-bytes.Reads.Learnt
   pub print-lines-put-number :
@@ -194,6 +198,8 @@ pub record Unique : Type 2 where
   pub grade-file-grade : Sole grade-file-grade.ended grade-file-grade.Reads.Asked grade-file-grade.Reads.Learnt
   pub print-report-first-line : Sole print-report-first-line.ended print-report-first-line.Reads.Asked print-report-first-line.Reads.Learnt
   pub print-report-row-line : Sole print-report-row-line.ended print-report-row-line.Reads.Asked print-report-row-line.Reads.Learnt
+  pub print-report-rounds-line :
+      Sole print-report-rounds-line.ended print-report-rounds-line.Reads.Asked print-report-rounds-line.Reads.Learnt
   pub print-report-report-piece :
       SoleWhereMet print-report-report-piece.ended print-report-report-piece.Reads.Asked print-report-report-piece.Reads.Learnt
   pub print-circuit-show-piece :
@@ -201,5 +207,7 @@ pub record Unique : Type 2 where
   pub program-io-unread : Sole program-io-unread.ended program-io-unread.Reads.Asked program-io-unread.Reads.Learnt
   pub program-io-nothing : Sole program-io-nothing.ended program-io-nothing.Reads.Asked program-io-nothing.Reads.Learnt
   pub togyamiru-grade : Sole togyamiru-grade.ended togyamiru-grade.Reads.Asked togyamiru-grade.Reads.Learnt
+  pub togyamiru-grade-numbers :
+      Sole togyamiru-grade-numbers.ended togyamiru-grade-numbers.Reads.Asked togyamiru-grade-numbers.Reads.Learnt
   pub togyamiru-rows : Sole togyamiru-rows.ended togyamiru-rows.Reads.Asked togyamiru-rows.Reads.Learnt
   pub bench-check : Sole bench-check.ended bench-check.Reads.Asked bench-check.Reads.Learnt

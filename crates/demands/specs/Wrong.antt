@@ -13,7 +13,7 @@ use Rattle.words.specs.Rows.{rowOf}
 use Rattle.switch.specs.Conduction.{Value, at0, at1, atX, Link, ground, supply}
 use Rattle.switch.specs.Modules.{ModuleType, linksOf}
 use Rattle.switch.specs.Bridges.{Bridge, nodes, input, closing}
-use Rattle.switch.specs.Grouped.{anyOf}
+use Rattle.switch.specs.Modules.{anyOf}
 use Rattle.switch.specs.Deciding as deciding
 use Rattle.switch.specs.Deciding.{joins, levelIn, isMarked}
 use Rattle.circuit.specs.Fields.{Field}
@@ -84,7 +84,8 @@ MarksNeverIsWrong = MeetsPromise marksNever → ⊥
 unfoldable pub leavesMatrix : Grader
 leavesMatrix =
     gradesBy λ (c : Circuit).
-    let w = rightWork c in record { words = []; classes = w .classes; class-count = w .class-count; found = w .found }
+    let w = rightWork c in
+    record { words = []; classes = w .classes; class-count = w .class-count; found = w .found; rounds = w .rounds }
 
 abbrev pub LeavesMatrixIsWrong : Type 0
 LeavesMatrixIsWrong = MeetsPromise leavesMatrix → ⊥
@@ -100,7 +101,8 @@ FirstWordOnlyIsWrong = MeetsPromise firstWordOnly → ⊥
 unfoldable pub inventsFound : Grader
 inventsFound =
     gradesBy λ (c : Circuit).
-    let w = rightWork c in record { words = w .words; classes = w .classes; class-count = w .class-count; found = w .class-count }
+    let w = rightWork c in
+    record { words = w .words; classes = w .classes; class-count = w .class-count; found = w .class-count; rounds = w .rounds }
 
 abbrev pub InventsFoundIsWrong : Type 0
 InventsFoundIsWrong = MeetsPromise inventsFound → ⊥
@@ -200,6 +202,7 @@ countsRows =
       classes = w .classes;
       class-count = w .class-count;
       found = rowsFound (length (c .vectors)) (markOf c) (rowsOf c);
+      rounds = w .rounds;
     }
 
 abbrev pub CountsRowsIsWrong : Type 0
@@ -367,7 +370,8 @@ SplitsInputsIsWrong = MeetsPromise splitsInputs → ⊥
 -- clears the word past its last row, where there is one
 unfoldable pub clearingNext : Circuit → Work
 clearingNext c =
-    let w = rightWork c in record { words = w .words ++ (0 ∷ []); classes = w .classes; class-count = w .class-count; found = w .found }
+    let w = rightWork c in
+    record { words = w .words ++ (0 ∷ []); classes = w .classes; class-count = w .class-count; found = w .found; rounds = w .rounds }
 
 unfoldable pub writesPast : Grader
 writesPast file before =

@@ -11,6 +11,7 @@ use grade_rows::list_rows;
 use grading::Answer;
 use grading::Counts;
 use read_file::read::read_stages;
+use words::greater;
 ghost use Prim.Native.Nat.{_*_, _≤_};
 ghost use mathlib.Core.Path.{_≡_};
 ghost use lib.ListN.{length};
@@ -23,14 +24,15 @@ ghost use Rattle.grading.specs.CircuitPromise.{PromiseOfCircuit};
 ghost use Rattle.grading.specs.Promise.{Promise, PromiseOfRead};
 ghost use Rattle.grade_file.specs.Model.{Graded};
 
-fn counted(vectors: usize, faults: usize, classes: u16, found: usize) -> Counts
-    ensures { λ r. ⌜ r ≡ record { vectors = vectors; faults = faults; classes = classes; found = found } ⌝ }
+fn counted(vectors: usize, faults: usize, classes: u16, found: usize, rounds: usize) -> Counts
+    ensures { λ r. ⌜ r ≡ record { vectors = vectors; faults = faults; classes = classes; found = found; rounds = rounds } ⌝ }
 {
     Counts {
         vectors,
         faults,
         classes: classes as usize,
         found,
+        rounds,
     }
 }
 
@@ -51,12 +53,13 @@ fn fill_buffers(c: Circuit, matrix: &mut [u64], classes: &mut [u16]) -> Counts
     put_signals(all_vectors, (vectors + 63) / 64, &mut ones, &mut zeros);
     let mut codes = [0u32; MOST_FAULTS];
     let mut from: usize = 0;
+    let mut rounds: usize = 0;
     let mut i: usize = 0;
     while i < count {
         let one = instances[i];
         let t = types[(one.type_number as usize) - 1];
         let to = list_rows(one, t, bridges, c.bridge_count, i, &mut codes, from);
-        mark_instance(
+        let its_rounds = mark_instance(
             t,
             one,
             i,
@@ -69,11 +72,12 @@ fn fill_buffers(c: Circuit, matrix: &mut [u64], classes: &mut [u16]) -> Counts
             matrix,
         );
         write_keys(&mut codes, from, to, i, one, t.output);
+        rounds = greater(rounds, its_rounds);
         from = to;
         i += 1;
     }
     let classed = class_rows(&codes, from, matrix, classes);
-    counted(vectors, c.faults, classed.count, classed.found)
+    counted(vectors, c.faults, classed.count, classed.found, rounds)
 }
 
 // A circuit that reading gives: the counts, with the matrix and the classes written, or the buffer that is too short, with both as they were.

@@ -13,7 +13,7 @@ use Rattle.words.specs.Tables.{table, upTo}
 use Rattle.words.specs.Written.{written}
 use Rattle.switch.specs.Conduction.{Value, atX, supply, ground}
 use Rattle.switch.specs.Modules.{ModuleType}
-use Rattle.switch.specs.Promises.{fourRailWords, planesOf}
+use Rattle.switch.specs.Promises.{fourRailWords, fourRounds, planesOf}
 use Rattle.switch.specs.Records.{TypeGiven, typeOf}
 use Rattle.switch.specs.declared.ModuleType.{ModuleType as TypeRecord}
 use Rattle.circuit.specs.Circuit.{Circuit}
@@ -64,18 +64,25 @@ labelPlanes references k signals = fourEach 12 (labelWords references k signals)
 
 -- ---- an instance's words, four for each node and each label
 
--- what the rows of an instance are read from: each node's words for each rail, and each label's planes
+-- what the rows of an instance are read from: each node's words for each rail, and each label's planes; and the rounds of joining
 pub record InstanceWords : Type 0 where
   pub supply : List ℕ
   pub ground : List ℕ
   pub ones : List ℕ
   pub zeros : List ℕ
+  pub rounds : ℕ
 
 abbrev pub instanceWords : ModuleType → List ReferenceRecord → List ℕ → List ℕ → InstanceWords
 instanceWords t references signalOnes signalZeros =
     let ones = labelPlanes references (t .labels) signalOnes in
     let zeros = labelPlanes references (t .labels) signalZeros in
-    record { supply = fourRailWords t ones zeros supply; ground = fourRailWords t ones zeros ground; ones = ones; zeros = zeros }
+    record {
+      supply = fourRailWords t ones zeros supply;
+      ground = fourRailWords t ones zeros ground;
+      ones = ones;
+      zeros = zeros;
+      rounds = fourRounds t ones zeros;
+    }
 
 -- the output's planes, four words each
 unfoldable pub outputOnes : List ℕ → List ℕ → ℕ → List ℕ
@@ -130,12 +137,13 @@ pub record InstanceGiven (t : TypeRecord) (references : List ReferenceRecord) (p
   pub room : 4 * to ≤ length matrix
   pub codes : CodesFit rows from to
 
--- an instance marked, with t its type's record: its rows in the matrix, and its output's planes put behind the signals
+-- an instance marked, with t its type's record: its rows in the matrix, its output's planes put behind the signals, and its rounds
 pub record InstanceMarked (t : TypeRecord) (references : List ReferenceRecord) (place vectors : ℕ) (rows : List ℕ) (from to : ℕ)
-    (ones zeros matrix ones′ zeros′ matrix′ : List ℕ) : Type 0 where
+    (ones zeros matrix ones′ zeros′ matrix′ : List ℕ) (rounds : ℕ) : Type 0 where
   pub rows-are : let read = instanceWords (typeOf t) references ones zeros in
       matrix′ ≡ written matrix (4 * from) (rowsWords rows (read .supply) (read .ground) (read .ones) (read .zeros) vectors from to)
   pub ones-are : let read = instanceWords (typeOf t) references ones zeros in
       ones′ ≡ written ones (4 * (64 + place)) (outputOnes (read .supply) (read .ground) (t .output))
   pub zeros-are : let read = instanceWords (typeOf t) references ones zeros in
       zeros′ ≡ written zeros (4 * (64 + place)) (outputZeros (read .supply) (read .ground) (t .output))
+  pub rounds-are : rounds ≡ instanceWords (typeOf t) references ones zeros .rounds

@@ -64,7 +64,7 @@ fn put_output<'r>(
     }
 }
 
-// Marks the instance at a place: its rows in the matrix, and its output behind the signals.
+// Marks the instance at a place: its rows in the matrix, and its output behind the signals. The answer is the rounds that joining its nodes took.
 pub fn mark_instance(
     t: ModuleType,
     one: Instance,
@@ -76,9 +76,9 @@ pub fn mark_instance(
     ones: &mut [u64; 768],
     zeros: &mut [u64; 768],
     matrix: &mut [u64],
-)
+) -> usize
     requires { ⌜ InstanceGiven t (one .references) place (now rows) from to (now ones) (now zeros) (now matrix) ⌝ }
-    ensures { λ _. ⌜ InstanceMarked t (one .references) place vectors (now (rows .entry)) from to (now (ones .entry)) (now (zeros .entry)) (now (matrix .entry)) (now (ones .exit)) (now (zeros .exit)) (now (matrix .exit)) ⌝ }
+    ensures { λ r. ⌜ InstanceMarked t (one .references) place vectors (now (rows .entry)) from to (now (ones .entry)) (now (zeros .entry)) (now (matrix .entry)) (now (ones .exit)) (now (zeros .exit)) (now (matrix .exit)) r ⌝ }
 {
     let k = t.labels as usize;
     let output = t.output as usize;
@@ -97,4 +97,5 @@ pub fn mark_instance(
         &label_zeros,
         matrix,
     );
+    rails.rounds
 }

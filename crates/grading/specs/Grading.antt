@@ -1,5 +1,5 @@
 -- The answer for given bytes and given room. 01, "Refusal numbers": the table's refusals, then 15, then 22; a refusal leaves the
--- matrix and the class buffer unwritten and the four counts at 0. Words past the last row, and class entries past the last, keep their
+-- matrix and the class buffer unwritten and the counts at 0. Words past the last row, and class entries past the last, keep their
 -- contents.
 use Prim.Native.Nat.{ℕ, _*_}
 use mathlib.Core.Bool.{Bool, true, false, cond}
@@ -11,15 +11,18 @@ use Rattle.circuit.specs.Reading.{Reading, accepted, refusal, readingOf}
 use Rattle.grading.specs.Buffers.{Buffers, Room}
 use Rattle.grading.specs.Rows.{rowsOf, matrixOf}
 use Rattle.grading.specs.Classes.{classesOf, classCount, foundCount}
+use Rattle.grading.specs.Rounds.{roundsOf}
 
+-- 01's four counts, and 02's rounds
 pub record Counts : Type 0 where
   pub vectors : ℕ
   pub faults : ℕ
   pub classes : ℕ
   pub found : ℕ
+  pub rounds : ℕ
 
 abbrev pub noCounts : Counts
-noCounts = record { vectors = 0; faults = 0; classes = 0; found = 0 }
+noCounts = record { vectors = 0; faults = 0; classes = 0; found = 0; rounds = 0 }
 
 unfoldable pub countsOfCircuit : Circuit → Counts
 countsOfCircuit c = record {
@@ -27,6 +30,7 @@ countsOfCircuit c = record {
   faults = length (rowsOf c);
   classes = classCount c;
   found = foundCount c;
+  rounds = roundsOf c;
 }
 
 pub data Grading : Type 0 where

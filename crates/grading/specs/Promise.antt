@@ -35,7 +35,7 @@ placeOf (ShortMatrix words) = words
 placeOf (ShortClasses faults) = faults
 
 abbrev pub countsMeant : CountsRecord → Counts
-countsMeant r = record { vectors = r .vectors; faults = r .faults; classes = r .classes; found = r .found }
+countsMeant r = record { vectors = r .vectors; faults = r .faults; classes = r .classes; found = r .found; rounds = r .rounds }
 
 unfoldable pub countsOf : Answer → Counts
 countsOf (Graded counts) = countsMeant counts

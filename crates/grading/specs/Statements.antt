@@ -1,13 +1,14 @@
 -- The theorems on classes and on the promise that later crates rest on. Their proofs are in proofs/: WireLevels,
--- SameClass, ClassNumbering and PromiseLaws.
+-- SameClass, ClassNumbering, RoundLaws and PromiseLaws.
 use Prim.Native.Nat.{ℕ, _≤_, _<_}
 use mathlib.Core.Path.{_≡_}
 use mathlib.Core.Bool.{Bool}
 use mathlib.Core.Logic.{_↔_}
-use mathlib.Core.List.{List, List·Memᴰ}
+use mathlib.Core.List.{List, [], List·Memᴰ}
 use lib.Dec.{T}
 use lib.ListN.{length, getD}
 use Rattle.switch.specs.Conduction.{Value}
+use Rattle.switch.specs.Distances.{GreatestIs}
 use Rattle.circuit.specs.Circuit.{Circuit}
 use Rattle.circuit.specs.Reading.{accepted, readingOf}
 use Rattle.circuit.specs.Records.{circuitRecord}
@@ -16,6 +17,7 @@ use Rattle.grading.specs.Buffers.{Buffers}
 use Rattle.grading.specs.Rows.{Row, rowsOf, cell}
 use Rattle.grading.specs.Wires.{wireOf, one-end, other-end, carried, leaks}
 use Rattle.grading.specs.Classes.{sameClass, largest, classesBy, classesOf}
+use Rattle.grading.specs.Rounds.{linksAt, DistanceIn, roundsOf}
 use Rattle.grading.specs.Promise.{Promise}
 use Rattle.grading.specs.CircuitPromise.{PromiseOfCircuit}
 use Rattle.grading.specs.declared.Answer.{Answer}
@@ -70,6 +72,14 @@ ClassesHaveEqualMarks =
 -- the class numbers of a circuit tell its classes
 abbrev pub ClassNumbers : Circuit → Type 0
 ClassNumbers c = NumbersTell sameClass (rowsOf c) (classesOf (rowsOf c))
+
+-- ---- 02, "How many rounds joining takes"
+
+-- the rounds of a good circuit are its greatest distance. Joining handles 256 places together; those past the last vector add nothing to
+-- it, since no vector stands there: every label is X there, and nothing is on
+pub record RoundsTell : Type 0 where
+  pub greatest : (c : Circuit) → CircuitGood c → GreatestIs (DistanceIn c) (roundsOf c)
+  pub nothing-on : (c : Circuit) → CircuitGood c → (i v : ℕ) → i < length (c .instances) → length (c .vectors) ≤ v → linksAt c i v ≡ []
 
 -- a circuit's promise is that of every file that is read as it
 abbrev pub CircuitPromiseIsFiles : Type 0

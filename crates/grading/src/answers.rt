@@ -37,6 +37,7 @@ pub fn counts_of(answer: Answer) -> Counts
             faults: 0,
             classes: 0,
             found: 0,
+            rounds: 0,
         },
     }
 }

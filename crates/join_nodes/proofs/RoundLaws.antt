@@ -1,24 +1,27 @@
--- Rounds of joining, as lists of words: what a round adds to the words; words that a round leaves as they are tell which nodes are joined to the
--- rail; and the sum of words that grow. Assumes nothing.
-use Prim.Native.Nat.{ℕ, zero, suc, _+_, _-_, _*_, _^_, _≤_, _<_, max}
-use native.Mathlib.Nat.{not-suc-le-zero, le-of-suc-le-suc, eq-or-lt-of-le, le-refl, le-trans, lt-of-le-of-lt, suc-mul, lt-of-not-le}
+-- Rounds of joining, as lists of words: what a round adds to the words; after k rounds they tell which nodes paths of at most k links reach; words that
+-- a round leaves as they are tell which nodes are joined to the rail. Assumes nothing.
+use Prim.Native.Nat.{ℕ, zero, suc, _+_, _-_, _*_, _^_, _≤_, _<_, zero-le, max}
+use native.Mathlib.Nat.{not-suc-le-zero, le-of-suc-le-suc, eq-or-lt-of-le, le-refl, le-suc, le-trans, lt-of-le-of-lt, suc-mul, lt-of-not-le}
 use native.Mathlib.Decide.{ℕ-discrete}
 use native.Mathlib.Omega.{arith}
-use mathlib.Core.Path.{_≡_, refl, ap, _∙_}
+use mathlib.Core.Path.{_≡_, refl, sym, ap, _∙_}
 use mathlib.Core.Bool.{Bool, true, false}
 use mathlib.Core.Logic.{_⊎_, inl, inr, ⊎-elim}
 use mathlib.Core.List.{List, [], _∷_}
 use lib.Bits.{bitAnd, bitOr, and-le-l, and-le-r, or-add-and, or-lt}
 use lib.Dec.{T}
 use lib.ListN.{length, getD, set, replicate, length-set, length-replicate}
-use lib.Seq.{getD-set-same, getD-set-other}
+use lib.Seq.{getD-set-same, getD-set-other, ext-getD}
 use Rattle.words.specs.Bits.{bit, ofBool, word}
-use Rattle.words.proofs.Laws.{bit-le-one, bit-zero, bit-or, bit-and, bit-ones, word-of-bits}
+use Rattle.words.proofs.Laws.{bit-le-one, bit-zero, bit-or, bit-and, bit-ones, bits-eq, word-of-bits}
 use Rattle.words.proofs.Tables.{is-table}
-use Rattle.switch.specs.Conduction.{Link, Joined, here, forth, back}
+use Rattle.switch.specs.Conduction.{Link, LinkPath, Joined, here, forth, back}
+use Rattle.switch.specs.Distances.{pathLength}
+use Rattle.switch.specs.Depth.{WithinLinks}
 use Rattle.switch.specs.Deciding.{joins}
 use Rattle.switch.proofs.Paths.{turned, carried}
 use Rattle.switch.proofs.Deciding.{joins-decides}
+use Rattle.switch.proofs.Depths.{within-start, within-start-only, within-more, within-forth, within-back, AllWithin}
 use Rattle.join_nodes.specs.Model.{LinksAre, joinedWords, added, roundTo}
 
 -- the first n of the edges whose nodes are 0 to 31
@@ -121,11 +124,6 @@ module _ (firsts seconds : List ℕ) (on : ℕ → ℕ) (old : List ℕ) where
         step i a b h forward (half firsts seconds on old i) (in-half i b (ranges .second i h))
         (step i b a h backward (roundTo firsts seconds on old i) (in-round i a (ranges .first i h)) (round-ind P start step i (omega arith)))
 
-    round-grows : (n : ℕ) → getD old n 0 ≤ getD (roundTo firsts seconds on old count) n 0
-    round-grows n =
-        round-ind (λ (words : List ℕ). getD old n 0 ≤ getD words n 0) (le-refl (getD old n 0))
-        (λ j a b l e words k p. le-trans p (added-grows words b (handed on old j a) k n)) count (le-refl count)
-
     round-fits : ((n : ℕ) → getD old n 0 < 2 ^ 64) → (n : ℕ) → getD (roundTo firsts seconds on old count) n 0 < 2 ^ 64
     round-fits f =
         round-ind (λ (words : List ℕ). (n : ℕ) → getD words n 0 < 2 ^ 64) f
@@ -135,7 +133,7 @@ module _ (firsts seconds : List ℕ) (on : ℕ → ℕ) (old : List ℕ) where
     module _ (v : ℕ) where
       -- no node gets a bit but from a node that had it, along an edge that is on
       round-only : (Q : ℕ → Type 0) → ((n : ℕ) → bit (getD old n 0) v ≡ 1 → Q n)
-          → ((j a b : ℕ) → j < count → Along firsts seconds j a b → bit (on j) v ≡ 1 → Q a → Q b)
+          → ((j a b : ℕ) → j < count → Along firsts seconds j a b → bit (on j) v ≡ 1 → bit (getD old a 0) v ≡ 1 → Q b)
           → (n : ℕ) → bit (getD (roundTo firsts seconds on old count) n 0) v ≡ 1 → Q n
       round-only Q had along =
           round-ind (λ (words : List ℕ). (n : ℕ) → bit (getD words n 0) v ≡ 1 → Q n) had
@@ -148,7 +146,12 @@ module _ (firsts seconds : List ℕ) (on : ℕ → ℕ) (old : List ℕ) where
               let least = rw bit-and at (q .1) in
               let o : bit (on j) v ≡ 1 = omega (arith, bit-le-one (on j) v) in
               let h : bit (getD old a 0) v ≡ 1 = omega (arith, bit-le-one (getD old a 0) v) in
-              rw (q .0) (along j a b l e o (had a h))
+              rw (q .0) (along j a b l e o h)
+
+      round-keeps : (n : ℕ) → bit (getD old n 0) v ≤ bit (getD (roundTo firsts seconds on old count) n 0) v
+      round-keeps n =
+          round-ind (λ (words : List ℕ). bit (getD old n 0) v ≤ bit (getD words n 0) v) (le-refl (bit (getD old n 0) v))
+          (λ j a b l e words k p. le-trans p (added-bit-grows words b (handed on old j a) k v n)) count (le-refl count)
 
       -- the edge that was passed last hands on, and what the edges before handed on is kept
       hands-last : (i a b : ℕ) → i < count → Along firsts seconds i a b → bit (on i) v ≡ 1
@@ -190,47 +193,32 @@ module _ (firsts seconds : List ℕ) (on : ℕ → ℕ) (old : List ℕ) where
           (λ (k : j < i). le-trans (round-hands i (omega arith) j a b k e o) (hands-kept i b h))
           (eq-or-lt-of-le (le-of-suc-le-suc l))
 
--- ---- sums of words
-
--- the sum of a list
-pub total : List ℕ → ℕ
-total [] = 0
-total (x ∷ xs) = x + total xs
-
-pub total-below : (k : ℕ) (l : List ℕ) → ((n : ℕ) → getD l n 0 < k) → total l ≤ length l * k
-unfolding total
-total-below k [] f = omega arith
-total-below k (x ∷ xs) f = omega (arith, f 0, total-below k xs (λ n. f (suc n)), suc-mul (length xs) k)
-
--- words that grew, each of them, have a sum that grew; if the sum is as it was, so are the words
-total-grows : (l more : List ℕ) → length l ≡ length more → ((n : ℕ) → getD l n 0 ≤ getD more n 0) → total l ≤ total more
-unfolding total
-total-grows [] [] e f = omega arith
-total-grows [] (y ∷ ys) e f = omega arith
-total-grows (x ∷ xs) [] e f = absurd (omega arith)
-total-grows (x ∷ xs) (y ∷ ys) e f = omega (arith, f 0, total-grows xs ys (omega arith) (λ n. f (suc n)))
-
-total-same : (l more : List ℕ) → length l ≡ length more → ((n : ℕ) → getD l n 0 ≤ getD more n 0) → total more ≤ total l → l ≡ more
-unfolding total
-total-same [] [] e f h = refl
-total-same [] (y ∷ ys) e f h = absurd (omega arith)
-total-same (x ∷ xs) [] e f h = absurd (omega arith)
-total-same (x ∷ xs) (y ∷ ys) e f h =
-    let tails : total xs ≤ total ys = total-grows xs ys (omega arith) (λ n. f (suc n)) in
-    let head : x ≡ y = omega (arith, f 0) in
-    rw (head, total-same xs ys (omega arith) (λ n. f (suc n)) (omega (arith, f 0)))
-
-pub total-more : (l more : List ℕ) → length l ≡ length more → ((n : ℕ) → getD l n 0 ≤ getD more n 0) → (l ≡ more → ⊥) → total l < total more
-total-more l more e f apart = lt-of-not-le (λ h. apart (total-same l more e f h))
-
 -- ---- rounds until one adds nothing
 
--- what holds of the words before every round: they are 32 words, the rail has every bit, and a node has a bit only where it is joined to the rail
-pub record Reached (ws : ℕ → List Link) (rail : ℕ) (joined : List ℕ) : Type 0 where
+-- what holds of the words after k rounds: they are 32 words, and a node has a bit exactly where a path of at most k links joins it to the rail
+pub record Reached (ws : ℕ → List Link) (rail k : ℕ) (joined : List ℕ) : Type 0 where
   pub long : length joined ≡ 32
   pub fits : (m : ℕ) → getD joined m 0 < 2 ^ 64
-  pub whole : getD joined rail 0 ≡ 2 ^ 64 - 1
-  pub only : (m v : ℕ) → v < 64 → bit (getD joined m 0) v ≡ 1 → Joined (ws v) rail m
+  pub only : (m v : ℕ) → v < 64 → bit (getD joined m 0) v ≡ 1 → WithinLinks (ws v) k rail m
+  pub all : (m v : ℕ) → v < 64 → WithinLinks (ws v) k rail m → bit (getD joined m 0) v ≡ 1
+
+-- where every joined node is within k links, one round more adds nothing
+pub reached-same : {ws : ℕ → List Link} {rail k : ℕ} {joined more : List ℕ} → Reached ws rail k joined → Reached ws rail (suc k) more
+    → ((v : ℕ) → v < 64 → AllWithin (ws v) rail k) → joined ≡ more
+reached-same {k = k} {joined = joined} {more = more} r s far =
+    ext-getD 0 joined more (r .long ∙ sym (s .long)) (λ m _.
+    bits-eq 64 (getD joined m 0) (getD more m 0) (r .fits m) (s .fits m) (λ v l.
+    same-bit (bit-le-one (getD joined m 0) v) (bit-le-one (getD more m 0) v)
+    (λ h. s .all m v l (within-more (le-suc k) (r .only m v l h)))
+    (λ h. r .all m v l (far v l m (s .only m v l h .path)))))
+  where
+    same-bit : {x y : ℕ} → x ≤ 1 → y ≤ 1 → (x ≡ 1 → y ≡ 1) → (y ≡ 1 → x ≡ 1) → x ≡ y
+    same-bit {x} {y} h l f g = at (ℕ-discrete x 1) (ℕ-discrete y 1)
+      where
+        at : Dec (x ≡ 1) → Dec (y ≡ 1) → x ≡ y
+        at (yes p) q = p ∙ sym (f p)
+        at (no p) (yes q) = absurd (p (g q))
+        at (no p) (no q) = omega arith
 
 -- a bit that is 1 exactly when a test holds is the test's
 pub decided : (x : ℕ) (b : Bool) → x ≤ 1 → (x ≡ 1 → T b) → (T b → x ≡ 1) → x ≡ ofBool b
@@ -264,44 +252,65 @@ module _ (rail : ℕ) (rail-in : rail < 32) where
       at (yes e) = inl (e, rw e first-whole)
       at (no e) = inr (getD-set-other (replicate 32 0) rail m (2 ^ 64 - 1) 0 e ∙ zero-at 32 m)
 
-  pub reached-first : (ws : ℕ → List Link) → Reached ws rail (firstWords rail)
+  pub reached-first : (ws : ℕ → List Link) → Reached ws rail 0 (firstWords rail)
   reached-first ws = record {
     long = first-long;
     fits = λ m. ⊎-elim (λ e. omega (arith, e .1)) (λ e. omega arith) (first-at m);
-    whole = first-whole;
-    only = λ m v l h. ⊎-elim (λ e. rw (e .0) here) (λ e. absurd (omega (arith, bit-zero v, ap (λ (w : ℕ). bit w v) e))) (first-at m);
+    only = λ m v l h.
+        ⊎-elim (λ e. rw (e .0) within-start) (λ e. absurd (omega (arith, bit-zero v, ap (λ (w : ℕ). bit w v) e))) (first-at m);
+    all = λ m v l w. rw (← within-start-only w, first-whole) (bit-ones 64 v l);
   }
 
-module _ {firsts seconds : List ℕ} {on : ℕ → ℕ} {count rail : ℕ} {joined : List ℕ} {ws : ℕ → List Link}
-    (ranges : NodesInRange firsts seconds count) (are : LinksAre firsts seconds on count ws) (r : Reached ws rail joined) where
-  along-joined : (v : ℕ) → v < 64 → (j a b : ℕ) → j < count → Along firsts seconds j a b → bit (on j) v ≡ 1
-      → Joined (ws v) rail a → Joined (ws v) rail b
-  along-joined v h j a b l forward o p = forth (are v h (a, b) .1 (record { place = j; within = l; is-on = o; ends = refl })) p
-  along-joined v h j a b l backward o p = back (are v h (b, a) .1 (record { place = j; within = l; is-on = o; ends = refl })) p
+module _ {firsts seconds : List ℕ} {on : ℕ → ℕ} {count rail k : ℕ} {joined : List ℕ} {ws : ℕ → List Link}
+    (ranges : NodesInRange firsts seconds count) (are : LinksAre firsts seconds on count ws) (r : Reached ws rail k joined) where
+  -- the words after a round
+  abbrev after : List ℕ
+  after = roundTo firsts seconds on joined count
 
-  -- a round keeps it
-  pub reached-again : Reached ws rail (roundTo firsts seconds on joined count)
-  reached-again =
-      let fits = round-fits firsts seconds on joined count ranges (r .long) (r .fits) in
-      record {
-        long = round-length firsts seconds on joined count ∙ r .long;
-        fits = fits;
-        whole = omega (arith, r .whole, fits rail, round-grows firsts seconds on joined count ranges (r .long) rail);
-        only = λ m v l.
-            round-only firsts seconds on joined count ranges (r .long) v (Joined (ws v) rail)
-            (λ n q. r .only n v l q) (along-joined v l) m;
-      }
+  module _ (v : ℕ) (l : v < 64) where
+    along-within : (j a b : ℕ) → j < count → Along firsts seconds j a b → bit (on j) v ≡ 1
+        → WithinLinks (ws v) k rail a → WithinLinks (ws v) (suc k) rail b
+    along-within j a b h forward o = within-forth (are v l (a, b) .1 (record { place = j; within = h; is-on = o; ends = refl }))
+    along-within j a b h backward o = within-back (are v l (b, a) .1 (record { place = j; within = h; is-on = o; ends = refl }))
 
-  module _ (same : joined ≡ roundTo firsts seconds on joined count) (v : ℕ) (l : v < 64) where
-    handed-on : (j a b : ℕ) → j < count → Along firsts seconds j a b → bit (on j) v ≡ 1
-        → bit (getD joined a 0) v ≡ 1 → bit (getD joined b 0) v ≡ 1
-    handed-on j a b k e o h =
+    -- an edge that is on hands on what its end had before
+    handed-over : (j a b : ℕ) → j < count → Along firsts seconds j a b → bit (on j) v ≡ 1
+        → bit (getD joined a 0) v ≡ 1 → bit (getD after b 0) v ≡ 1
+    handed-over j a b h e o p =
+        omega (arith, bit-le-one (getD after b 0) v, round-hands firsts seconds on joined count ranges (r .long) v count (le-refl count) j a b h e o)
+
+    -- so a path of one link more has its end's bit
+    path-has : {m : ℕ} (p : LinkPath (ws v) rail m) → pathLength p ≤ suc k → bit (getD after m 0) v ≡ 1
+    unfolding pathLength
+    path-has here h =
         omega (
           arith,
-          bit-le-one (getD joined b 0) v,
-          round-hands firsts seconds on joined count ranges (r .long) v count (le-refl count) j a b k e o,
-          ap (λ (words : List ℕ). bit (getD words b 0) v) same,
+          bit-le-one (getD after rail 0) v,
+          r .all rail v l (within-more zero-le within-start),
+          round-keeps firsts seconds on joined count ranges (r .long) v rail,
         )
+    path-has (forth {a = a} {b = b} w p) h =
+        let o = are v l (a, b) .0 w in
+        handed-over (o .place) a b (o .within) (of-ends (o .ends) .0) (o .is-on) (r .all a v l (record { path = p; short = le-of-suc-le-suc h }))
+    path-has (back {a = a} {b = b} w p) h =
+        let o = are v l (a, b) .0 w in
+        handed-over (o .place) b a (o .within) (of-ends (o .ends) .1) (o .is-on) (r .all b v l (record { path = p; short = le-of-suc-le-suc h }))
+
+  -- a round reaches one link further
+  pub reached-again : Reached ws rail (suc k) after
+  reached-again = record {
+    long = round-length firsts seconds on joined count ∙ r .long;
+    fits = round-fits firsts seconds on joined count ranges (r .long) (r .fits);
+    only = λ m v l.
+        round-only firsts seconds on joined count ranges (r .long) v (WithinLinks (ws v) (suc k) rail)
+        (λ n q. within-more (le-suc k) (r .only n v l q)) (λ j a b h e o q. along-within v l j a b h e o (r .only a v l q)) m;
+    all = λ m v l w. path-has v l (w .path) (w .short);
+  }
+
+  module _ (same : joined ≡ after) (v : ℕ) (l : v < 64) where
+    handed-on : (j a b : ℕ) → j < count → Along firsts seconds j a b → bit (on j) v ≡ 1
+        → bit (getD joined a 0) v ≡ 1 → bit (getD joined b 0) v ≡ 1
+    handed-on j a b h e o p = ap (λ (words : List ℕ). bit (getD words b 0) v) same ∙ handed-over v l j a b h e o p
 
     -- where a round adds nothing, every node that is joined to the rail has its bit
     joined-has : (m : ℕ) → Joined (ws v) rail m → bit (getD joined m 0) v ≡ 1
@@ -309,16 +318,20 @@ module _ {firsts seconds : List ℕ} {on : ℕ → ℕ} {count rail : ℕ} {join
         carried (λ (n : ℕ). bit (getD joined n 0) v ≡ 1)
         (λ a b w. let o = are v l (a, b) .0 w in handed-on (o .place) a b (o .within) (of-ends (o .ends) .0) (o .is-on))
         (λ a b w. let o = are v l (a, b) .0 w in handed-on (o .place) b a (o .within) (of-ends (o .ends) .1) (o .is-on))
-        p (rw (r .whole) (bit-ones 64 v l))
+        p (r .all rail v l (within-more zero-le within-start))
+
+    -- and so it is within k links of the rail
+    pub all-within : AllWithin (ws v) rail k
+    all-within m p = r .only m v l (joined-has m p)
 
     joined-bit : (m : ℕ) → bit (getD joined m 0) v ≡ ofBool (joins (ws v) m rail)
     joined-bit m =
         decided (bit (getD joined m 0) v) (joins (ws v) m rail) (bit-le-one (getD joined m 0) v)
-        (λ e. (joins-decides (ws v) m rail) .0 (turned (r .only m v l e)))
+        (λ e. (joins-decides (ws v) m rail) .0 (turned (r .only m v l e .path)))
         (λ t. joined-has m (turned ((joins-decides (ws v) m rail) .1 t)))
 
   -- where a round adds nothing, the words are those that are asked
-  pub reached-all : joined ≡ roundTo firsts seconds on joined count → joined ≡ joinedWords ws rail
+  pub reached-all : joined ≡ after → joined ≡ joinedWords ws rail
   unfolding joinedWords
   reached-all same =
       let bits : ℕ → ℕ → ℕ = λ (m v : ℕ). ofBool (joins (ws v) m rail) in

@@ -1,7 +1,7 @@
 -- Rounds over nodes and gates that have some words each: word w of each node has the round of RoundLaws over word w of each gate, for no place of one word
 -- of a node is a place of another; so what holds of rounds over one word each holds here. And taking a round's words over. Assumes nothing.
-use Prim.Native.Nat.{ℕ, zero, suc, _+_, _-_, _*_, _^_, _≤_, _<_}
-use native.Mathlib.Nat.{le-refl, le-trans, not-suc-le-zero, eq-or-lt-of-le, le-of-suc-le-suc, lt-of-le-of-lt}
+use Prim.Native.Nat.{ℕ, zero, suc, _+_, _-_, _*_, _/_, _%_, _^_, _≤_, _<_}
+use native.Mathlib.Nat.{le-refl, le-trans, not-suc-le-zero, eq-or-lt-of-le, le-of-suc-le-suc, lt-of-le-of-lt, lt-of-not-le, mul-le-mul-left, mod-lt, div-add-mod}
 use native.Mathlib.Decide.{ℕ-discrete, decLt}
 use native.Mathlib.Omega.{arith}
 use mathlib.Core.Path.{_≡_, refl, sym, ap, ap₂, _∙_}
@@ -13,9 +13,10 @@ use lib.Seq.{take-suc, drop-cons, append-snoc, set-at, getD-at, getD-take, getD-
 use Rattle.words.specs.Each.{wordOfEach}
 use Rattle.words.proofs.Laws.{none-or}
 use Rattle.words.proofs.Tables.{is-table, length-table}
-use Rattle.words.proofs.EachLaws.{each-before, each-at}
+use Rattle.words.proofs.EachLaws.{each-before, each-at, same-words}
 use Rattle.switch.specs.Conduction.{Link}
-use Rattle.join_nodes.specs.Model.{ColumnsFit, gateWord, LinksAre, WideJoined, added, roundTo, handedTo, wideRoundTo, onesTo, RoundTaken}
+use Rattle.join_nodes.specs.Model.{ColumnsFit, gateWord, LinksAre, joinedWords, added, roundTo, handedTo, wideRoundTo, onesTo, RoundTaken}
+use Rattle.switch.proofs.Depths.{AllWithin}
 use Rattle.join_nodes.proofs.RoundLaws.{
   NodesInRange,
   added-here,
@@ -28,10 +29,9 @@ use Rattle.join_nodes.proofs.RoundLaws.{
   first-whole,
   reached-first,
   reached-again,
+  reached-same,
   reached-all,
-  total,
-  total-below,
-  total-more,
+  all-within,
 }
 
 -- ---- taking a round's words over
@@ -268,39 +268,42 @@ module _ {firsts seconds gates : List ℕ} {count nodes : ℕ} (edges : ColumnsF
 
 -- ---- rounds until one adds nothing
 
--- what holds of the words before every round: what holds of one word of each node holds of each of their words
-pub record WideReached (firsts seconds gates planes : List ℕ) (count width rail : ℕ) (joined : List ℕ) : Type 0 where
+-- what holds of the words after k rounds: what holds of one word of each node holds of each of their words
+pub record WideReached (firsts seconds gates planes : List ℕ) (count width rail k : ℕ) (joined : List ℕ) : Type 0 where
   pub long : length joined ≡ width * 32
   pub fits : (n : ℕ) → getD joined n 0 < 2 ^ 64
   pub each : (w : ℕ) → w < width → (ws : ℕ → List Link) → LinksAre firsts seconds (gateWord width w gates planes) count ws
-      → Reached ws rail (wordOfEach width w 32 joined)
+      → Reached ws rail k (wordOfEach width w 32 joined)
 
-module _ {firsts seconds gates planes : List ℕ} {count width nodes rail : ℕ} {joined : List ℕ}
-    (edges : ColumnsFit firsts seconds gates count nodes) (r : WideReached firsts seconds gates planes count width rail joined) where
-  pub wide-again : WideReached firsts seconds gates planes count width rail (wideRoundTo firsts seconds gates planes width joined count)
+module _ {firsts seconds gates planes : List ℕ} {count width nodes rail k : ℕ} {joined : List ℕ}
+    (edges : ColumnsFit firsts seconds gates count nodes) (r : WideReached firsts seconds gates planes count width rail k joined) where
+  pub wide-again : WideReached firsts seconds gates planes count width rail (suc k) (wideRoundTo firsts seconds gates planes width joined count)
   wide-again = record {
     long = wide-length firsts seconds gates planes width joined count ∙ r .long;
     fits = wide-fits edges planes width joined (r .long) (r .fits);
     each = λ w h ws are. rw (each-round edges planes width joined (r .long) w h count (le-refl count)) (reached-again (in-range edges) are (r .each w h ws are));
   }
 
-  pub wide-all : joined ≡ wideRoundTo firsts seconds gates planes width joined count → WideJoined firsts seconds gates planes count width rail joined
-  wide-all same = record {
-    long = r .long;
-    each = λ w h ws are.
-        reached-all (in-range edges) are (r .each w h ws are)
-        (ap (wordOfEach width w 32) same ∙ each-round edges planes width joined (r .long) w h count (le-refl count));
-  }
+  -- where a round adds nothing, the words are those that are asked, and every joined node is within k links of the rail
+  module _ (same : joined ≡ wideRoundTo firsts seconds gates planes width joined count) (w : ℕ) (h : w < width)
+      (ws : ℕ → List Link) (are : LinksAre firsts seconds (gateWord width w gates planes) count ws) where
+    same-each : wordOfEach width w 32 joined ≡ roundTo firsts seconds (gateWord width w gates planes) (wordOfEach width w 32 joined) count
+    same-each = ap (wordOfEach width w 32) same ∙ each-round edges planes width joined (r .long) w h count (le-refl count)
 
-  -- a round that adds something makes the sum of the words larger
-  pub wide-more : (joined ≡ wideRoundTo firsts seconds gates planes width joined count → ⊥) → total joined < total (wideRoundTo firsts seconds gates planes width joined count)
-  wide-more =
-      total-more joined (wideRoundTo firsts seconds gates planes width joined count) (sym (wide-length firsts seconds gates planes width joined count)) (wide-grows edges planes width joined (r .long))
+    pub wide-words : wordOfEach width w 32 joined ≡ joinedWords ws rail
+    wide-words = reached-all (in-range edges) are (r .each w h ws are) same-each
 
--- and the sum has a bound
-pub wide-within : {firsts seconds gates planes : List ℕ} {count width rail : ℕ} {joined : List ℕ} → WideReached firsts seconds gates planes count width rail joined
-    → total joined ≤ width * 32 * 2 ^ 64
-wide-within {joined = joined} r = rw (r .long) at (total-below (2 ^ 64) joined (r .fits))
+    pub wide-within : (v : ℕ) → v < 64 → AllWithin (ws v) rail k
+    wide-within = all-within (in-range edges) are (r .each w h ws are) same-each
+
+  -- and where every joined node is within k links, a round adds nothing
+  pub wide-same : (ws : ℕ → ℕ → List Link) → ((w : ℕ) → w < width → LinksAre firsts seconds (gateWord width w gates planes) count (ws w))
+      → ((w : ℕ) → w < width → (v : ℕ) → v < 64 → AllWithin (ws w v) rail k)
+      → joined ≡ wideRoundTo firsts seconds gates planes width joined count
+  wide-same ws are far =
+      let next = wide-again in
+      same-words width 32 joined (wideRoundTo firsts seconds gates planes width joined count) (r .long) (next .long) (λ w h.
+      reached-same (r .each w h (ws w) (are w h)) (next .each w h (ws w) (are w h)) (far w h))
 
 -- ---- the words before the first round
 
@@ -350,7 +353,7 @@ module _ (width rail : ℕ) (rail-in : rail < 32) where
       ∙ sym (zero-at (width * 32) (width * m + w))
       ∙ sym (ones-elsewhere (replicate (width * 32) 0) (width * rail) width (width * m + w) (place-apart width w m rail h e))
 
-  pub wide-first : (firsts seconds gates planes : List ℕ) (count : ℕ) → WideReached firsts seconds gates planes count width rail begun
+  pub wide-first : (firsts seconds gates planes : List ℕ) (count : ℕ) → WideReached firsts seconds gates planes count width rail 0 begun
   wide-first firsts seconds gates planes count = record {
     long = ones-length (replicate (width * 32) 0) (width * rail) width ∙ length-replicate (width * 32) 0;
     fits = ones-fits (replicate (width * 32) 0) (width * rail) width (λ i. rw (zero-at (width * 32) i) (omega arith)) rail-room;

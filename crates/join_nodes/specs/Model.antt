@@ -5,13 +5,14 @@ use mathlib.Core.List.{List, map, _++_}
 use mathlib.Core.Logic.{_↔_}
 use lib.Bits.{bitAnd, bitOr}
 use mathlib.Core.Path.{_≡_}
-use lib.ListN.{length, getD, set, take, drop}
-use Rattle.words.specs.Bits.{bit, ofBool, word}
+use lib.ListN.{length, getD, set, take, drop, replicate}
+use Rattle.words.specs.Bits.{bit, ofBool, word, greatestTo}
 use Rattle.words.specs.Each.{wordOfEach}
 use Rattle.words.specs.Tables.{table, upTo}
 use Rattle.switch.specs.Conduction.{Channel, p-channel, n-channel, channelBy, by-position, Edge, Link, Among}
 use Rattle.switch.specs.Modules.{ModuleType, mostEdges, mostNodes, mostLabels}
 use Rattle.switch.specs.Deciding.{joins}
+use Rattle.switch.specs.Depth.{depth}
 use Rattle.switch.specs.Records.{noEdge, firstNodeIn, secondNodeIn, gateIn}
 use Rattle.switch.specs.Tags.{untagged}
 use Rattle.switch.specs.declared.Edge.{Edge as EdgeRecord}
@@ -146,16 +147,31 @@ unfoldable pub onesTo : List ℕ → ℕ → ℕ → List ℕ
 onesTo words at zero = words
 onesTo words at (suc w) = set (onesTo words at w) (at + w) (2 ^ 64 - 1)
 
+-- the words after so many rounds over the first n edges. Before the first the rail has every bit, and no other node has one
+unfoldable pub wordsAfter : List ℕ → List ℕ → List ℕ → List ℕ → ℕ → ℕ → ℕ → ℕ → List ℕ
+wordsAfter firsts seconds gates planes n width rail zero = onesTo (replicate (width * mostNodes) 0) (width * rail) width
+wordsAfter firsts seconds gates planes n width rail (suc r) =
+    wideRoundTo firsts seconds gates planes width (wordsAfter firsts seconds gates planes n width rail r) n
+
 -- the words where the first n of a round's words are taken over, and what is told of them: 0 exactly when they are as they were
 pub record RoundTaken (before next : List ℕ) (n : ℕ) (words : List ℕ) (told : ℕ) : Type 0 where
   pub taken : words ≡ take n next ++ drop n before
   pub tells : (told ≡ 0) ↔ (take n next ≡ take n before)
 
--- word w of each node is the words of those that are joined to the rail over the edges that word w of their gates switches on
-pub record WideJoined (firsts seconds gates planes : List ℕ) (n width rail : ℕ) (joined : List ℕ) : Type 0 where
+-- word w of each node is the words of those that are joined to the rail over the edges that word w of their gates switches on. They are
+-- the words after `rounds` rounds, each of which added a node, under some vector, and behind which one adds none; and that number is the
+-- greatest distance from the rail, over all words and their positions
+pub record WideJoined (firsts seconds gates planes : List ℕ) (n width rail : ℕ) (joined : List ℕ) (rounds : ℕ) : Type 0 where
   pub long : length joined ≡ width * mostNodes
   pub each : (w : ℕ) → w < width → (ws : ℕ → List Link) → LinksAre firsts seconds (gateWord width w gates planes) n ws
       → wordOfEach width w mostNodes joined ≡ joinedWords ws rail
+  pub after-rounds : joined ≡ wordsAfter firsts seconds gates planes n width rail rounds
+  pub each-added : (r : ℕ) → r < rounds
+      → wordsAfter firsts seconds gates planes n width rail (suc r) ≡ wordsAfter firsts seconds gates planes n width rail r → ⊥
+  pub then-nothing : wordsAfter firsts seconds gates planes n width rail (suc rounds) ≡ wordsAfter firsts seconds gates planes n width rail rounds
+  pub rounds-are : (ws : ℕ → ℕ → List Link)
+      → ((w : ℕ) → w < width → LinksAre firsts seconds (gateWord width w gates planes) n (ws w))
+      → rounds ≡ greatestTo width (λ (w : ℕ). greatestTo 64 (λ (v : ℕ). depth (ws w v) rail))
 
 -- ---- settings
 

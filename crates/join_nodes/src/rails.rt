@@ -7,13 +7,14 @@ use switch::Edge;
 use switch::ModuleType;
 use switch::Planes;
 use switch::Rails;
+use words::greater;
 ghost use mathlib.Core.Path.{_≡_};
 ghost use Prim.Native.Nat.{_+_};
 ghost use Rattle.switch.specs.Records.{TypeGiven, EdgesGiven, typeOf, typeWith};
 ghost use Rattle.switch.specs.Promises.{railsOf, planesOf};
 ghost use Rattle.join_nodes.specs.Model.{ColumnsFit, edgesInColumns, RailsTold};
 
-// Under which of 256 vectors each node is joined to supply, and to ground: the work, on the columns of edges that have no node past the highest, for any type that has these edges, whatever their tags.
+// Under which of 256 vectors each node is joined to supply, and to ground, and in how many rounds: the work, on the columns of edges that have no node past the highest, for any type that has these edges, whatever their tags.
 fn joining_of(c: Columns, highest: u8, ones: &[u64; 48], zeros: &[u64; 48]) -> Rails
     requires { ⌜ ColumnsFit (c .firsts) (c .seconds) (c .gates) (c .count) (highest + 1) ⌝ }
     ensures { λ r. ⌜ RailsTold (edgesInColumns (c .firsts) (c .seconds) (c .gates) (c .count)) (now (ones .entry)) (now (zeros .entry)) r ⌝ }
@@ -24,7 +25,7 @@ fn joining_of(c: Columns, highest: u8, ones: &[u64; 48], zeros: &[u64; 48]) -> R
     gate_planes(ones, zeros, 4, &mut planes);
     let mut supply = [0u64; 128];
     let mut next = [0u64; 128];
-    joined_to(
+    let to_supply = joined_to(
         &c.firsts,
         &c.seconds,
         &c.gates,
@@ -38,7 +39,7 @@ fn joining_of(c: Columns, highest: u8, ones: &[u64; 48], zeros: &[u64; 48]) -> R
     );
     let mut ground = [0u64; 128];
     next = [0u64; 128];
-    joined_to(
+    let to_ground = joined_to(
         &c.firsts,
         &c.seconds,
         &c.gates,
@@ -50,7 +51,11 @@ fn joining_of(c: Columns, highest: u8, ones: &[u64; 48], zeros: &[u64; 48]) -> R
         &mut ground,
         &mut next,
     );
-    Rails { supply, ground }
+    Rails {
+        supply,
+        ground,
+        rounds: greater(to_supply, to_ground),
+    }
 }
 
 // The same, on a lent slice of edges and the type's three numbers.

@@ -81,7 +81,7 @@ fn begin(words: &mut [u64], width: usize, rail: usize)
     }
 }
 
-// The nodes joined to a rail, where no edge has a node from `nodes` on: rounds go on until one adds nothing. `next` is used on the way.
+// The nodes joined to a rail, where no edge has a node from `nodes` on: rounds go on until one adds nothing. The answer is how many added a node. `next` is used on the way.
 pub fn joined_to<'a>(
     firsts: &'a [u8; MOST_EDGES],
     seconds: &'a [u8; MOST_EDGES],
@@ -93,19 +93,21 @@ pub fn joined_to<'a>(
     rail: usize,
     joined: &mut [u64],
     next: &mut [u64],
-)
+) -> usize
     requires { ⌜ ColumnsFit (now firsts) (now seconds) (now gates) count nodes ⌝ }
     requires { ⌜ (width ≤ 4) × (length (now planes) ≡ width * mostGates) ⌝ }
     requires { ⌜ rail < mostNodes ⌝ }
     requires { ⌜ (now joined ≡ replicate (width * mostNodes) 0) × (now next ≡ replicate (width * mostNodes) 0) ⌝ }
-    ensures { λ _. ⌜ WideJoined (now (firsts .entry)) (now (seconds .entry)) (now (gates .entry)) (now (planes .entry)) count width rail (now (joined .exit)) × (now (next .exit) ≡ now (joined .exit)) ⌝ }
+    ensures { λ r. ⌜ WideJoined (now (firsts .entry)) (now (seconds .entry)) (now (gates .entry)) (now (planes .entry)) count width rail (now (joined .exit)) r × (now (next .exit) ≡ now (joined .exit)) ⌝ }
 {
     begin(joined, width, rail);
     begin(next, width, rail);
+    let mut rounds: usize = 0;
     loop {
         round(firsts, seconds, gates, planes, count, width, joined, next);
         if settle(joined, next, width * nodes) == 0 {
-            return;
+            return rounds;
         }
+        rounds += 1;
     }
 }

@@ -1,4 +1,4 @@
--- 01, "The report": the output for the inverter, line by line and byte for byte, and two refusals. Each line is computed.
+-- 01, "The report": the output for the inverter, line by line and byte for byte, with 02's last line, and two refusals. Each line is computed.
 use mathlib.Core.Path.{_≡_, refl}
 use mathlib.Core.List.{[], _∷_}
 use Prim.Native.Nat.{ℕ}
@@ -9,7 +9,7 @@ use Rattle.words.specs.Tables.{table}
 use Rattle.print_lines.specs.Ascii.{bytesOf}
 use Rattle.print_lines.specs.Decimal.{digitsOf, lengthIn, decimal}
 use Rattle.print_lines.specs.Lines.{refusalLine}
-use Rattle.print_report.specs.Lines.{firstLine, kindLetter, digitsOfMarks, rowLine}
+use Rattle.print_report.specs.Lines.{firstLine, kindLetter, digitsOfMarks, rowLine, roundsLine}
 
 -- three vectors' marks stand in the row's first word, the first vector's in bit 0
 rowSays : ℕ → ℕ → ℕ → ℕ → ℕ → ℕ → String → Type 0
@@ -28,6 +28,11 @@ inverter-rows :
     × rowSays 1 1 2 0 6 0b011 "1 i 2 0 6 110 2 1\n"
 unfolding rowSays rowLine decimal digitsOf lengthIn kindLetter digitsOfMarks table markAt marksOf firstMarkOf bit sumTo firstTo
 inverter-rows = (refl, refl, refl, refl, refl, refl)
+
+-- the output is one edge from its rail
+inverter-last : roundsLine 1 ≡ bytesOf "rounds 1\n"
+unfolding roundsLine decimal digitsOf lengthIn
+inverter-last = refl
 
 refusals : (refusalLine 14 0 ≡ bytesOf "refused 14 at 0\n") × (refusalLine 15 8192 ≡ bytesOf "refused 15 at 8192\n")
 unfolding refusalLine decimal digitsOf lengthIn

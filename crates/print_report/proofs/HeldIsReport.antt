@@ -32,7 +32,7 @@ use Rattle.grading.proofs.Lists.{getD-map}
 use Rattle.grading.proofs.MatrixLaws.{length-matrix, row-long, word-in}
 use Rattle.grading.proofs.RowLaws.{few-rows}
 use Rattle.grading.proofs.ClassNumbering.{class-numbers}
-use Rattle.print_report.specs.Lines.{rowLine}
+use Rattle.print_report.specs.Lines.{rowLine, roundsLine}
 use Rattle.print_report.specs.Report.{lineOf, rowLines, countsLine, reportLines, reportLine, lineCount}
 use Rattle.print_report.specs.Held.{headOf, headLine, wordsAt, heldRow, gradedLines, toldLines, heldLines, heldLine, heldCount, RowsHeld}
 use Rattle.print_report.specs.Promise.{OutcomeOf, ReportPiece, RowsAreHeld}
@@ -114,7 +114,7 @@ module _
   unfolding GradingSound buffersAfter countsIn numberIn placeIn toldLines gradedLines heldRow reportLines countsOfCircuit
   told-are (graded c) reads matrix-is classes-are =
       let each = class-numbers c .one-each in
-      ap (λ (rows : List (List ℕ)). countsLine (countsOfCircuit c) ∷ rows)
+      ap (λ (rows : List (List ℕ)). countsLine (countsOfCircuit c) ∷ rows ++ (roundsLine (countsOfCircuit c .rounds) ∷ []))
       (sym
       (is-table [] (length (rowsOf c)) (heldRow (countsOfCircuit c) codes matrix classes) (rowLines c (rowsOf c) (classesOf (rowsOf c)))
       (length-lines c (rowsOf c) (classesOf (rowsOf c)) each)

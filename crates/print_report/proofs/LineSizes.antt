@@ -7,8 +7,8 @@ use Rattle.print_lines.specs.Decimal.{decimal}
 use Rattle.print_lines.specs.Lines.{space}
 use Rattle.print_lines.proofs.LineSizes.{AtMost, number, bytes, _then_, Sized, sized}
 use Rattle.grading.specs.Grading.{Counts}
-use Rattle.print_report.specs.Lines.{vectorsWord, faultsWord, classesWord, foundWord}
-use Rattle.print_report.specs.Lines.{firstLine, kindLetter, digitsOfMarks, rowLine}
+use Rattle.print_report.specs.Lines.{vectorsWord, faultsWord, classesWord, foundWord, roundsWord}
+use Rattle.print_report.specs.Lines.{firstLine, kindLetter, digitsOfMarks, rowLine, roundsLine}
 use Rattle.print_report.specs.Report.{countsLine}
 use Rattle.print_report.proofs.MarkDigits.{length-marks}
 
@@ -32,3 +32,7 @@ row-sized instance kind first second class vectors row few =
   where
     marks : AtMost 256 (digitsOfMarks vectors row)
     marks = record { few = omega (arith, length-marks vectors row, few) }
+
+pub rounds-sized : (rounds : ℕ) → Sized (roundsLine rounds)
+unfolding roundsLine
+rounds-sized rounds = sized (roundsWord ++ decimal rounds) (bytes roundsWord then number rounds) (omega arith)

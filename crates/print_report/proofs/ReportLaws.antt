@@ -6,7 +6,7 @@ use mathlib.Core.List.{List, [], _∷_}
 use native.Mathlib.Omega.{arith}
 use lib.Dec.{ltb}
 use lib.ListN.{length, getD}
-use Rattle.print_lines.proofs.LineList.{EachLine, each-at}
+use Rattle.print_lines.proofs.LineList.{EachLine, each-at, each-append}
 use Rattle.print_lines.proofs.LineSizes.{Sized, refusal-sized}
 use Rattle.print_lines.proofs.PieceLaws.{text-of-list}
 use Rattle.circuit.specs.Circuit.{Circuit, joinLists}
@@ -17,9 +17,10 @@ use Rattle.grading.specs.Rows.{Row, noRow, rowsOf, rowWords}
 use Rattle.grading.specs.Classes.{classesOf}
 use Rattle.grading.specs.Grading.{Grading, graded, refused, countsOfCircuit, gradingOfCircuit, afterReading, gradingOf}
 use Rattle.grading.specs.Codes.{kindOf, firstEnd, secondEnd}
+use Rattle.print_report.specs.Lines.{roundsLine}
 use Rattle.print_report.specs.Report.{lineOf, rowLines, reportLines, reportLine, lineCount, reportOf}
 use Rattle.print_report.specs.Promise.{ReportIsLines, LinesFit}
-use Rattle.print_report.proofs.LineSizes.{counts-sized, row-sized}
+use Rattle.print_report.proofs.LineSizes.{counts-sized, row-sized, rounds-sized}
 
 -- ---- the report's lines, one by one
 
@@ -73,7 +74,12 @@ rows-sized c few (row ∷ rows) (class ∷ classes) =
 lines-sized : (file : List ℕ) (g : Grading) → GradingSound file g → EachLine Sized (reportLines g)
 unfolding GradingSound reportLines
 lines-sized file (graded c) reads =
-    (counts-sized (countsOfCircuit c), rows-sized c (accepted-is-good true file c reads .few-vectors) (rowsOf c) (classesOf (rowsOf c)))
+    let counts = countsOfCircuit c in
+    let rows = rowLines c (rowsOf c) (classesOf (rowsOf c)) in (
+      counts-sized counts,
+      each-append Sized rows (roundsLine (counts .rounds) ∷ []) (rows-sized c (accepted-is-good true file c reads .few-vectors) (rowsOf c) (classesOf (rowsOf c)))
+          (rounds-sized (counts .rounds), tt),
+    )
 lines-sized file (refused number place) low = (refusal-sized number place, tt)
 
 pub lines-fit : LinesFit

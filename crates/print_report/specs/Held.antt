@@ -1,7 +1,7 @@
 -- What the code computes: the report's lines from what a grading leaves in memory.
 -- That is the answer, the rows as numbers, the matrix and the classes.
 use Prim.Native.Nat.{ℕ, zero, suc, _+_, _*_, _≤_, min}
-use mathlib.Core.List.{List, [], _∷_}
+use mathlib.Core.List.{List, [], _∷_, _++_}
 use lib.ListN.{length, getD}
 use Rattle.words.specs.Tables.{table}
 use Rattle.print_lines.specs.Lines.{refusalLine}
@@ -10,7 +10,7 @@ use Rattle.grading.specs.Codes.{instanceIn, kindIn, firstIn, secondIn}
 use Rattle.grading.specs.Grading.{Counts}
 use Rattle.grading.specs.Promise.{numberOf, placeOf, countsOf}
 use Rattle.grading.specs.declared.Answer.{Answer}
-use Rattle.print_report.specs.Lines.{rowLine}
+use Rattle.print_report.specs.Lines.{rowLine, roundsLine}
 use Rattle.print_report.specs.Report.{countsLine}
 use Rattle.print_report.specs.declared.RowHead.{RowHead}
 
@@ -37,7 +37,8 @@ heldRow counts codes matrix classes r = headLine (headOf (getD codes r 0) (getD 
 
 -- the lines of a graded file, in the order of `reportLines`
 unfoldable pub gradedLines : Counts → List ℕ → List ℕ → List ℕ → List (List ℕ)
-gradedLines counts codes matrix classes = countsLine counts ∷ table (counts .faults) (heldRow counts codes matrix classes)
+gradedLines counts codes matrix classes =
+    countsLine counts ∷ table (counts .faults) (heldRow counts codes matrix classes) ++ (roundsLine (counts .rounds) ∷ [])
 
 -- from a refusal's number, which is 0 where there is none, and place
 unfoldable pub toldLines : ℕ → ℕ → Counts → List ℕ → List ℕ → List ℕ → List (List ℕ)
@@ -53,7 +54,7 @@ heldLine answer codes matrix classes = lineIn (heldLines answer codes matrix cla
 
 -- how many lines there are, which the answer alone tells
 unfoldable pub toldCount : ℕ → Counts → ℕ
-toldCount zero counts = suc (counts .faults)
+toldCount zero counts = suc (suc (counts .faults))
 toldCount (suc number) counts = 1
 
 unfoldable pub heldCount : Answer → ℕ

@@ -1,7 +1,7 @@
--- What a whole report is (01, "The report"): one first line, then a line for each row; a refusal prints only its own.
--- Lines are numbered from 0; row r, from 0, is line r + 1.
+-- What a whole report is (01, "The report"): one first line, then a line for each row, and the rounds last (02, "How many rounds joining
+-- takes"); a refusal prints only its own line. Lines are numbered from 0; row r, from 0, is line r + 1.
 use Prim.Native.Nat.{ℕ}
-use mathlib.Core.List.{List, [], _∷_}
+use mathlib.Core.List.{List, [], _∷_, _++_}
 use lib.ListN.{length}
 use Rattle.print_lines.specs.Lines.{refusalLine}
 use Rattle.print_lines.specs.Pieces.{lineIn}
@@ -10,7 +10,7 @@ use Rattle.grading.specs.Rows.{Row, rowsOf, rowWords}
 use Rattle.grading.specs.Codes.{kindOf, firstEnd, secondEnd}
 use Rattle.grading.specs.Classes.{classesOf}
 use Rattle.grading.specs.Grading.{Grading, graded, refused, Counts, countsOfCircuit}
-use Rattle.print_report.specs.Lines.{firstLine, rowLine}
+use Rattle.print_report.specs.Lines.{firstLine, rowLine, roundsLine}
 
 unfoldable pub lineOf : Circuit → Row → ℕ → List ℕ
 lineOf c row class =
@@ -26,7 +26,8 @@ unfoldable pub countsLine : Counts → List ℕ
 countsLine counts = firstLine (counts .vectors) (counts .faults) (counts .classes) (counts .found)
 
 unfoldable pub reportLines : Grading → List (List ℕ)
-reportLines (graded c) = countsLine (countsOfCircuit c) ∷ rowLines c (rowsOf c) (classesOf (rowsOf c))
+reportLines (graded c) =
+    let counts = countsOfCircuit c in countsLine counts ∷ rowLines c (rowsOf c) (classesOf (rowsOf c)) ++ (roundsLine (counts .rounds) ∷ [])
 reportLines (refused number place) = refusalLine number place ∷ []
 
 unfoldable pub reportLine : Grading → ℕ → List ℕ

@@ -20,7 +20,7 @@ ghost use mathlib.Core.Path.{_≡_};
 ghost use Prim.Native.Nat.{_+_, _*_, _^_, _≤_, _<_, min};
 ghost use lib.ListN.{length, getD};
 ghost use Rattle.words.specs.Written.{written};
-ghost use Rattle.print_report.specs.Lines.{firstLine, kindLetter, digitsOfMarks, rowLine};
+ghost use Rattle.print_report.specs.Lines.{firstLine, kindLetter, digitsOfMarks, rowLine, roundsLine};
 ghost use Rattle.print_report.specs.Held.{headOf, headLine, wordsAt, heldLine, heldCount, RowsHeld};
 ghost use Rattle.print_report.specs.Promise.{ReportPiece};
 ghost use Rattle.grading.specs.Promise.{countsOf};
@@ -53,6 +53,17 @@ pub fn first_line(
     at = put_number(&mut line, at, classes as u64);
     at = put_bytes(&mut line, at, b" found ");
     at = put_number(&mut line, at, found as u64);
+    at = put_byte(&mut line, at, 10);
+    give(&line[..at], out)
+}
+
+// The last line.
+pub fn rounds_line(rounds: usize, out: &mut [u8]) -> usize
+    ensures { λ r. ⌜ LineGiven (roundsLine rounds) (now (out .entry)) r (now (out .exit)) ⌝ }
+{
+    let mut line = [0u8; 64];
+    let mut at = put_bytes(&mut line, 0, b"rounds ");
+    at = put_number(&mut line, at, rounds as u64);
     at = put_byte(&mut line, at, 10);
     give(&line[..at], out)
 }
@@ -148,7 +159,7 @@ fn held_row(
     row_line(head, vectors, row, out)
 }
 
-// How many lines the report has: a refusal is one; else one for the counts and one for each row.
+// How many lines the report has: a refusal is one; else one for the counts, one for each row and one for the rounds.
 fn held_count(answer: Answer) -> usize
     requires { ⌜ 4 * countsOf answer .faults < 2 ^ 64 ⌝ }
     ensures { λ r. ⌜ r ≡ heldCount answer ⌝ }
@@ -157,10 +168,10 @@ fn held_count(answer: Answer) -> usize
         return 1;
     }
     let counts = counts_of(answer);
-    counts.faults + 1
+    counts.faults + 2
 }
 
-// The line at a number: the counts or the refusal, then the rows.
+// The line at a number: the counts or the refusal, then the rows, then the rounds.
 fn held_line(
     answer: Answer,
     codes: &[u32],
@@ -186,6 +197,9 @@ fn held_line(
             counts.found,
             out,
         );
+    }
+    if counts.faults < number {
+        return rounds_line(counts.rounds, out);
     }
     held_row(counts.vectors, codes, matrix, classes, number - 1, out)
 }

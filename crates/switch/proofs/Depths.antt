@@ -13,9 +13,9 @@ use Rattle.words.proofs.Sums.{sum-into, sum-ones}
 use Rattle.switch.specs.Conduction.{Link, Among, LinkPath, Joined, here, forth, back, ground, supply}
 use Rattle.switch.specs.Modules.{allOf}
 use Rattle.switch.specs.Deciding.{joins}
-use Rattle.switch.specs.Grouped.{anyOf}
-use Rattle.switch.specs.Distances.{pathLength, WithinLinks, DistanceIs, IsRail, is-ground, is-supply, DistanceFrom, GreatestIs, LinksBelow}
-use Rattle.switch.specs.Depth.{isAmong, handedOver, nextNodes, nodesWithin, allJoinedAmong, reachesAll, leastFrom, depth, deepest}
+use Rattle.switch.specs.Modules.{anyOf}
+use Rattle.switch.specs.Distances.{pathLength, DistanceIs, IsRail, is-ground, is-supply, DistanceFrom, GreatestIs, LinksBelow}
+use Rattle.switch.specs.Depth.{WithinLinks, isAmong, handedOver, nextNodes, nodesWithin, allJoinedAmong, reachesAll, leastFrom, depth, deepest}
 use Rattle.switch.specs.Statements.{OneGreatest, DepthIsDistance}
 use Rattle.switch.proofs.Paths.{carried, both}
 use Rattle.switch.proofs.Deciding.{same-test, and-both, joins-decides}
@@ -463,7 +463,7 @@ depth-below (suc n) ws below a h = omega (arith, depth-least ws a n (all-within-
 pub depth-is-distance : DepthIsDistance
 depth-is-distance = record {
   greatest = λ ws below a h. record { most = depth-most ws below a h; attained = depth-attained ws a (depth ws a) refl };
-  below-nodes = λ n few ws below a h. depth-below n ws below a h;
+  below-nodes = depth-below;
   same-links = depth-same;
 }
 

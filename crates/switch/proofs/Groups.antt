@@ -8,7 +8,8 @@ use mathlib.Core.List.{List, [], _∷_, _++_, Memᴰ·append-left, Memᴰ·appen
 use mathlib.Core.List.{List·Memᴰ·head, List·Memᴰ·tail, List·Memᴰ·cases-cons, List·Memᴰ·not-nil}
 use lib.Dec.{T}
 use Rattle.switch.specs.Conduction.{Channel, Edge, edgesFor, Switching, edgeOn, links, Link, Among, here, forth, back}
-use Rattle.switch.specs.Grouped.{Group, anyOf, groupOn, groupLinks, ofGroups, PathsAlike, GroupsLinkAlike}
+use Rattle.switch.specs.Grouped.{Group, groupOn, groupLinks, ofGroups, PathsAlike, GroupsLinkAlike}
+use Rattle.switch.specs.Modules.{anyOf}
 use Rattle.switch.specs.Distances.{pathLength}
 
 module _ (on : Switching) where

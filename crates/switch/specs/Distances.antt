@@ -12,18 +12,13 @@ pathLength here = 0
 pathLength (forth m p) = suc (pathLength p)
 pathLength (back m p) = suc (pathLength p)
 
--- some path from a to b has at most n links
-pub record WithinLinks (ws : List Link) (n a b : ℕ) : Type 0 where
-  pub path : LinkPath ws a b
-  pub short : pathLength path ≤ n
-
 -- a shortest path from a to b has d links
 pub record DistanceIs (ws : List Link) (a b d : ℕ) : Type 0 where
   pub path : LinkPath ws a b
   pub long : pathLength path ≡ d
   pub shortest : (other : LinkPath ws a b) → d ≤ pathLength other
 
--- the rails; a node is joined to one of them or to none, and its rail is the one that it is joined to
+-- the rails. In an accepted type a node is joined to one of them or to none (`RailsApart`), and its rail is the one that it is joined to
 pub data IsRail : ℕ → Type 0 where
   is-ground : IsRail ground
   is-supply : IsRail supply

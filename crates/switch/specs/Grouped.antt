@@ -2,10 +2,11 @@
 -- called a group. It is kept for the files of that time: that one edge for each label conducts as the group did is `GroupsLinkAlike`.
 use Prim.Native.Nat.{ℕ}
 use mathlib.Core.Path.{_≡_}
-use mathlib.Core.Bool.{Bool, false, cond, _||_}
+use mathlib.Core.Bool.{Bool, cond}
 use mathlib.Core.Logic.{_↔_}
 use mathlib.Core.List.{List, [], _∷_, _++_}
 use Rattle.switch.specs.Conduction.{Channel, Edge, edgesFor, Switching, links, Link, Among, LinkPath}
+use Rattle.switch.specs.Modules.{anyOf}
 use Rattle.switch.specs.Distances.{pathLength}
 
 -- two nodes, a channel, and the labels of the parallel transistors
@@ -14,10 +15,6 @@ pub record Group : Type 0 where
   pub second : ℕ
   pub channel : Channel
   pub labels : List ℕ
-
-unfoldable pub anyOf : {A : Type 0} → (A → Bool) → List A → Bool
-anyOf test [] = false
-anyOf test (a ∷ as′) = test a || anyOf test as′
 
 -- a group is on when at least one of its transistors is
 unfoldable pub groupOn : Switching → Group → Bool

@@ -1,6 +1,6 @@
 -- 01, "The circuit file" (tags 2 and 3; 02 has tag 7) and "Conduction": a module type, its ranges, when it is complementary, its output.
 use Prim.Native.Nat.{ℕ, zero, suc, _-_, _^_, _<_}
-use mathlib.Core.Bool.{Bool, true, _&&_}
+use mathlib.Core.Bool.{Bool, true, false, _&&_, _||_}
 use mathlib.Core.List.{List, [], _∷_}
 use lib.Dec.{leb, ltb}
 use Rattle.words.specs.Bits.{bit}
@@ -26,6 +26,10 @@ pub record ModuleType : Type 0 where
 unfoldable pub allOf : {A : Type 0} → (A → Bool) → List A → Bool
 allOf test [] = true
 allOf test (a ∷ as′) = test a && allOf test as′
+
+unfoldable pub anyOf : {A : Type 0} → (A → Bool) → List A → Bool
+anyOf test [] = false
+anyOf test (a ∷ as′) = test a || anyOf test as′
 
 -- h is 2 to 31, o is 2 to h, k is 1 to 12
 unfoldable pub typeInRange : ℕ → ℕ → ℕ → Bool

@@ -28,8 +28,8 @@ fourRailWords t ones zeros rail =
     fourEach mostNodes (λ (w : ℕ). railWords t (wordOfEach 4 w mostLabels ones) (wordOfEach 4 w mostLabels zeros) rail)
 
 -- 02, "How many rounds joining takes": the greatest distance of a joined node from its rail, over the 64 positions, and over the 256 that
--- joining handles together. The positions are alike here too: one where both planes hold nothing switches nothing on and adds 0, as one past
--- the last vector does
+-- joining handles together. The positions are alike here too. One where no plane has a 1 switches nothing on and adds 0; a caller's planes
+-- are so past its last vector
 unfoldable pub roundsUnder : ModuleType → List ℕ → List ℕ → ℕ
 roundsUnder t ones zeros = greatestTo 64 (λ (v : ℕ). deepest (links (byPlanes ones zeros v) (t .edges)))
 

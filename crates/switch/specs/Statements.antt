@@ -140,7 +140,7 @@ OutputPlanes = (t : ModuleType) (ones zeros : List ℕ) (values : ℕ → ℕ �
 
 -- ---- 02, "How many rounds joining takes"
 
--- of any numbers there is one greatest
+-- no two numbers are the greatest
 abbrev pub OneGreatest : Type 1
 OneGreatest = (P : ℕ → Type 0) (d e : ℕ) → GreatestIs P d → GreatestIs P e → d ≡ e
 
@@ -148,7 +148,7 @@ pub record DepthIsDistance : Type 0 where
   -- over links between the nodes of a module
   pub greatest : (ws : List Link) → LinksBelow mostNodes ws → (a : ℕ) → a < mostNodes → GreatestIs (DistanceFrom ws a) (depth ws a)
   -- it is below the number of nodes
-  pub below-nodes : (n : ℕ) → n ≤ mostNodes → (ws : List Link) → LinksBelow n ws → (a : ℕ) → a < n → depth ws a < n
+  pub below-nodes : (n : ℕ) (ws : List Link) → LinksBelow n ws → (a : ℕ) → a < n → depth ws a < n
   -- it tells no more than which links there are
   pub same-links : (ws others : List Link) → ((w : Link) → Among w ws ↔ Among w others) → (a : ℕ) → depth ws a ≡ depth others a
 
@@ -160,13 +160,16 @@ pub record DistanceUnder (t : ModuleType) (ones zeros : List ℕ) (d : ℕ) : Ty
   pub is-word : word < 4
   pub is-position : position < 64
   pub is-rail : IsRail rail
-  pub from : DistanceFrom (links (byPlanes (wordOfEach 4 word mostLabels ones) (wordOfEach 4 word mostLabels zeros) position) (t .edges)) rail d
+  pub from : let on = byPlanes (wordOfEach 4 word mostLabels ones) (wordOfEach 4 word mostLabels zeros) position in
+      DistanceFrom (links on (t .edges)) rail d
 
--- what the joining step promises of its rounds is the greatest distance over the vectors that it handles together
+-- what the joining step promises of its rounds is the greatest distance over the vectors that it handles together. That is of any planes:
+-- where two contradict each other a node can be joined to both rails, and both distances count
 abbrev pub RoundsAreDistances : Type 0
-RoundsAreDistances = (t : ModuleType) → T (inRange t) → (ones zeros : List ℕ) → GreatestIs (DistanceUnder t ones zeros) (fourRounds t ones zeros)
+RoundsAreDistances =
+    (t : ModuleType) → T (inRange t) → (ones zeros : List ℕ) → GreatestIs (DistanceUnder t ones zeros) (fourRounds t ones zeros)
 
--- at most h - 1 in a type with the highest node h: of its h + 1 nodes a path from one rail does not reach the other, and a shortest path
+-- at most h - 1 in a type with the highest node h, by values: of its h + 1 nodes a path from one rail does not reach the other, and a shortest path
 -- does not come to a node twice
 abbrev pub AtMostBelowHighest : Type 0
 AtMostBelowHighest =

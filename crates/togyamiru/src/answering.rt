@@ -1,4 +1,4 @@
-// The answer to a file, for either entry: its rows or its grading.
+// The answer to a file, for each entry: its rows or its grading, and its numbers.
 use circuit::Reading;
 use circuit::limits::MOST_FAULTS;
 use circuit::refusal::refuses;
@@ -49,11 +49,12 @@ fn list_read(reading: Reading, rows: &mut [u32]) -> Answer
         faults,
         classes: 0,
         found: 0,
+        rounds: 0,
     })
 }
 
 // Any bytes, and then either their rows or their grading; the buffers of the other are not looked at.
-// Both entries go through here, so that the compiler finds one call of `read_stages` and puts it into this frame: as a function of its own it takes 47 KB of stack more.
+// All entries go through here, so that the compiler finds one call of `read_stages` and puts it into this frame: as a function of its own it takes 47 KB of stack more.
 pub fn answer_to(
     file: &[u8],
     lists: bool,
@@ -68,4 +69,19 @@ pub fn answer_to(
         return list_read(reading, rows);
     }
     grade_read(reading, matrix, classes)
+}
+
+// The numbers of an answer, as many as have room.
+pub fn put_numbers(all: [u64; 7], numbers: &mut [u64])
+    ensures { λ _. ⌜ now (numbers .exit) ≡ over (take (length (now (numbers .entry))) all) (now (numbers .entry)) ⌝ }
+{
+    let room = numbers.len();
+    let mut i: usize = 0;
+    while i < 7 {
+        if room <= i {
+            return;
+        }
+        numbers[i] = all[i];
+        i += 1;
+    }
 }

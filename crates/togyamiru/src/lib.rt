@@ -1,12 +1,14 @@
-// The grader for programs in C and Rust: two functions, whose arguments are numbers, and slices as a pointer and a length (include/togyamiru.h).
+// The grader for programs in C and Rust: three functions, whose arguments are numbers, and slices as a pointer and a length (include/togyamiru.h).
 mod answering;
 
 use crate::answering::answer_to;
+use crate::answering::put_numbers;
 use grading::answers::counts_of;
 use grading::answers::number_of;
 use grading::answers::place_of;
 ghost use Rattle.grading.specs.Buffers.{buffersOf};
 ghost use Rattle.togyamiru.specs.Entry.{EntryPromise};
+ghost use Rattle.togyamiru.specs.NumbersEntry.{NumbersPromise};
 ghost use Rattle.togyamiru.specs.RowsEntry.{RowsPromise};
 
 // Grades a file into lent buffers. The answer is six numbers: the refusal's number and its place, 0 and 0 where there is none, and the counts of vectors, faults, classes and found.
@@ -30,6 +32,31 @@ pub extern "C" fn togyamiru_grade(
         counts.classes as u64,
         counts.found as u64,
     ];
+}
+
+// Grades as `togyamiru_grade` does. The answer is as many numbers as there is room for: those six, then the rounds of joining.
+#[no_mangle]
+pub extern "C" fn togyamiru_grade_numbers(
+    file: &[u8],
+    matrix: &mut [u64],
+    classes: &mut [u16],
+    numbers: &mut [u64],
+)
+    ensures { λ _. ⌜ NumbersPromise (now (file .entry)) (buffersOf (now (matrix .entry)) (now (classes .entry))) (now (numbers .entry)) (now (numbers .exit)) (buffersOf (now (matrix .exit)) (now (classes .exit))) ⌝ }
+{
+    let mut rows = [0u32; 1];
+    let given = answer_to(file, false, &mut rows, matrix, classes);
+    let counts = counts_of(given);
+    let all = [
+        number_of(given) as u64,
+        place_of(given) as u64,
+        counts.vectors as u64,
+        counts.faults as u64,
+        counts.classes as u64,
+        counts.found as u64,
+        counts.rounds as u64,
+    ];
+    put_numbers(all, numbers);
 }
 
 // Lists the rows of a file in a lent buffer, a number each. The answer is three numbers: the refusal's number and its place, 0 and 0 where there is none, and the count of faults.

@@ -1,11 +1,12 @@
 -- Things that have some words each: where their words stand, what stands there, and lists told by each word. Assumes nothing.
 use mathlib.Core.Path.{_≡_, sym, ap, _∙_}
 use mathlib.Core.List.{List}
-use Prim.Native.Nat.{ℕ, _+_, _*_, _/_, _%_, _<_, _≤_}
-use native.Mathlib.Nat.{mul-suc, mul-le-mul-left}
+use Prim.Native.Nat.{ℕ, zero, suc, _+_, _*_, _/_, _%_, _<_, _≤_}
+use native.Mathlib.Nat.{mul-suc, mul-le-mul-left, div-add-mod, mod-lt, lt-of-not-le}
 use native.Mathlib.Decide.{decLt}
 use native.Mathlib.Omega.{arith}
 use lib.ListN.{length, getD, set}
+use lib.Seq.{ext-getD}
 use Rattle.words.specs.Each.{wordOfEach, fourEach}
 use Rattle.words.specs.Written.{written}
 use Rattle.words.proofs.Tables.{getD-table, is-table, set-table}
@@ -68,3 +69,24 @@ module _ (n : ℕ) (f : ℕ → List ℕ) where
   unfolding wordOfEach
   word-of-four w k long =
       sym (is-table 0 n (λ (m : ℕ). getD (fourEach n f) (4 * m + w) 0) (f w) long (λ m h. sym (four-at m w h k)))
+
+-- things among whose words there is a place have some
+some-words : (width n i : ℕ) → i < width * n → 0 < width
+some-words zero n i h = absurd (omega arith)
+some-words (suc width) n i h = omega arith
+
+-- the words of things are told by each word of them
+pub same-words : (width n : ℕ) (l more : List ℕ) → length l ≡ width * n → length more ≡ width * n
+    → ((w : ℕ) → w < width → wordOfEach width w n l ≡ wordOfEach width w n more) → l ≡ more
+same-words width n l more long also each =
+    ext-getD 0 l more (long ∙ sym also) (λ i h.
+    let inside : i < width * n = omega arith in
+    let w : ℕ = i % width in
+    let m : ℕ = i / width in
+    let place : width * m + w ≡ i = div-add-mod i width in
+    let thing : m < n = lt-of-not-le (λ (past : n ≤ m). omega (arith, mul-le-mul-left width past)) in
+    ap (λ (j : ℕ). getD l j 0) (sym place)
+    ∙ sym (each-at width w n l m thing)
+    ∙ ap (λ (words : List ℕ). getD words m 0) (each w (mod-lt i (some-words width n i inside)))
+    ∙ each-at width w n more m thing
+    ∙ ap (λ (j : ℕ). getD more j 0) place)

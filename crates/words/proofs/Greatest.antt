@@ -41,3 +41,9 @@ pub greatest-more : (n : ℕ) (f : ℕ → ℕ) → greatestTo (suc n) f ≡ max
 unfolding greatestTo
 greatest-more zero f = omega arith
 greatest-more (suc n) f = omega (arith, greatest-more n (λ (u : ℕ). f (suc u)))
+
+-- the greatest of the greater of two is the greater of both greatest
+pub greatest-of-both : (n : ℕ) (f g : ℕ → ℕ) → greatestTo n (λ (v : ℕ). max (f v) (g v)) ≡ max (greatestTo n f) (greatestTo n g)
+unfolding greatestTo
+greatest-of-both zero f g = refl
+greatest-of-both (suc n) f g = omega (arith, greatest-of-both n (λ (v : ℕ). f (suc v)) (λ (v : ℕ). g (suc v)))

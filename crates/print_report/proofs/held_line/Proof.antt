@@ -1,6 +1,8 @@
--- `print_report::held_line` meets its contract: a refusal, the counts or a row, by the line's number. Assumes nothing.
+-- `print_report::held_line` meets its contract: a refusal, the counts, a row or the rounds, by the line's number. Assumes nothing.
+use mathlib.Core.Path.{ap}
 use native.Mathlib.Omega.{arith}
-use Rattle.print_report.proofs.HeldLaws.{given-line, graded-count, refused-line, counts-line, row-line-held}
+use Rattle.grading.specs.Grading.{Counts}
+use Rattle.print_report.proofs.HeldLaws.{given-line, refused-line, counts-line, row-line-held, rounds-line-held}
 use Rattle.print_report.specs.Held.{heldRow}
 use borrow.Author.Needs.{needs}
 use Rattle.print_report.proofs.held_line.Statement.{statement}
@@ -49,25 +51,40 @@ returns-2 c =
     given-line _ _ (counts-line (start .args .answer) _ (numbered .number-of .ensures) _ _ _ _ (start .pre .1) (omega arith) _ (counted .counts-of .ensures) (omega arith))
     (line .first-line .ensures)
 
-sub-held-row : tie.Need-sub-held-row
-sub-held-row c = search needs
-
-held-row-requires : tie.Need-held-row-requires
-held-row-requires c κs =
-    let counted = c .before .before in
-    let rows = graded-count _ _ (counted .before .before .number-of .ensures) (omega arith) in search needs
+rounds-line-requires : tie.Need-rounds-line-requires
+rounds-line-requires c κs = search needs
 
 same-length-3 : tie.Need-same-length-3
 same-length-3 c = search needs
 
 returns-3 : tie.Need-returns-3
-unfolding heldRow
 returns-3 c =
     let line = c .before .before in
-    let counted = line .before .before .before in
+    let counted = line .before .before .before .before .before in
     let numbered = counted .before .before in
     let start = start-of numbered in
-    given-line _ _ (row-line-held (start .args .answer) _ (numbered .number-of .ensures) _ _ _ _ (start .pre .1) (omega arith) _ (counted .counts-of .ensures) (omega arith))
+    given-line _ _ (rounds-line-held (start .args .answer) _ (numbered .number-of .ensures) _ _ _ _ (start .pre .1) (omega arith) _ (counted .counts-of .ensures) (omega arith))
+    (line .rounds-line .ensures)
+
+sub-held-row : tie.Need-sub-held-row
+sub-held-row c = search needs
+
+held-row-requires : tie.Need-held-row-requires
+held-row-requires c κs =
+    let counted = c .before .before .before .before in
+    let rows = ap (λ (m : Counts). m .faults) (counted .counts-of .ensures) in search needs
+
+same-length-4 : tie.Need-same-length-4
+same-length-4 c = search needs
+
+returns-4 : tie.Need-returns-4
+unfolding heldRow
+returns-4 c =
+    let line = c .before .before in
+    let counted = line .before .before .before .before .before in
+    let numbered = counted .before .before in
+    let start = start-of numbered in
+    given-line _ _ (row-line-held (start .args .answer) _ (numbered .number-of .ensures) _ _ _ _ (start .pre .1) (omega arith) _ (counted .counts-of .ensures) (omega arith) (omega arith))
     (line .held-row .ensures)
 
 pub held-line-spec : {M : Type 1} → statement M
@@ -83,7 +100,10 @@ held-line-spec =
     first-line-requires
     same-length-2
     returns-2
+    rounds-line-requires
+    same-length-3
+    returns-3
     sub-held-row
     held-row-requires
-    same-length-3
-    returns-3)
+    same-length-4
+    returns-4)

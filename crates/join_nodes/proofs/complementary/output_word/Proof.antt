@@ -11,9 +11,9 @@ use Rattle.join_nodes.specs.Model.{OutputTold, WideJoined}
 use Rattle.join_nodes.proofs.complementary.output_word.Statement.{statement}
 use Rattle.join_nodes.proofs.complementary.output_word.Tie as tie
 
-output-told : (firsts seconds gates planes : List ℕ) (n o rail : ℕ) (joined : List ℕ) → WideJoined firsts seconds gates planes n 1 rail joined
+output-told : (firsts seconds gates planes : List ℕ) (n o rail : ℕ) (joined : List ℕ) (rounds : ℕ) → WideJoined firsts seconds gates planes n 1 rail joined rounds
     → OutputTold firsts seconds gates planes n o rail (getD joined o 0)
-output-told firsts seconds gates planes n o rail joined told ws are =
+output-told firsts seconds gates planes n o rail joined rounds told ws are =
     rw (sym (one-each 32 joined (told .long)) ∙ told .each 0 (omega arith) ws are)
 
 -- the start, from where the rail's words are asked for
@@ -42,7 +42,7 @@ returns : tie.Need-returns
 returns c =
     let told = c .before .before in
     let x = start (told .before) .args in
-    output-told (now (x .firsts)) (now (x .seconds)) (now (x .gates)) (now (x .planes)) (x .count) (x .output) (x .rail) _ (told .joined-to .ensures .0)
+    output-told (now (x .firsts)) (now (x .seconds)) (now (x .gates)) (now (x .planes)) (x .count) (x .output) (x .rail) _ _ (told .joined-to .ensures .0)
 
 pub output-word-spec : {M : Type 1} → statement M
 output-word-spec =

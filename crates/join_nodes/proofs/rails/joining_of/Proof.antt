@@ -1,4 +1,5 @@
--- `join_nodes::rails::joining_of` meets its contract: the rounds' words over the columns are those of any type with these edges. Assumes nothing.
+-- `join_nodes::rails::joining_of` meets its contract: the rounds' words over the columns, and how many rounds there
+-- were, are those of any type with these edges. Assumes nothing.
 use mathlib.Core.Path.{refl}
 use native.Mathlib.Omega.{arith}
 use borrow.Author.Needs.{needs}
@@ -53,12 +54,16 @@ joined-to-requires-2 c κs =
     let planes = planes-told (supplied c .before) in
     (start planes .pre, ((omega arith, planes .gate-planes .ensures .long), (omega arith, (refl, refl))))
 
+greater-requires : tie.Need-greater-requires
+greater-requires c κs = search needs
+
 returns : tie.Need-returns
 returns c =
-    let second = c .before .before in
+    let second = c .before .before .before in
     let first = supplied (second .before) in
     let planes = planes-told (first .before) in
-    rails-told _ _ _ _ (start planes .pre) (planes .gate-planes .ensures) _ _ (first .joined-to .ensures .0) (second .joined-to2 .ensures .0)
+    rw (c .greater .ensures)
+    (rails-told _ _ _ _ (start planes .pre) (planes .gate-planes .ensures) _ _ _ _ (first .joined-to .ensures .0) (second .joined-to2 .ensures .0))
 
 pub joining-of-spec : {M : Type 1} → statement M
 joining-of-spec =
@@ -75,4 +80,5 @@ joining-of-spec =
     slice-aggregate-joined-to-5
     slice-aggregate-joined-to-6
     joined-to-requires-2
+    greater-requires
     returns)

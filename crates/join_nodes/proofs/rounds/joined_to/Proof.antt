@@ -1,35 +1,35 @@
--- `join_nodes::rounds::joined_to` meets its contract. The loop's invariant: for each word of a node, a node has a bit only where it is joined to the rail,
--- and the rail has all (`WideReached`); `next` is as `joined`. The measure: how far the sum of the words is from its bound. Assumes nothing.
+-- `join_nodes::rounds::joined_to` meets its contract. The loop's invariant: for each word of a node, a node has a bit exactly where a path of at most
+-- `rounds` links joins it to the rail (`WideReached`), and `rounds` is not above the greatest distance; `next` is as `joined`. The measure: what is left
+-- of 32 rounds. Assumes nothing.
 use mathlib.Core.Path.{_≡_, ap, sym, _∙_}
 use mathlib.Core.List.{List}
 use mathlib.Core.Logic.{_↔_}
-use Prim.Native.Nat.{ℕ, _-_, _*_, _^_, _≤_}
+use Prim.Native.Nat.{ℕ, suc, _-_, _*_, _≤_, _<_}
 use native.Mathlib.Nat.{mul-le-mul-left}
+use native.Mathlib.Numerals.{add-one}
 use native.Mathlib.Omega.{arith}
 use lib.ListN.{length, length-replicate}
 use denote.Ref.{now}
 use Rattle.join_nodes.specs.Model.{onesTo, wideRoundTo, RoundTaken}
-use Rattle.join_nodes.proofs.RoundLaws.{total}
 use Rattle.join_nodes.proofs.WideRounds.{
   all-nodes,
   rail-room,
   WideReached,
   wide-first,
   wide-again,
-  wide-all,
-  wide-more,
-  wide-within,
   settled-all,
   settled-same,
 }
+use Rattle.join_nodes.proofs.RoundCounts.{NotAbove, none-above, RoundsMade, none-made, made-more, below-nodes, one-more, wide-all}
 use Rattle.join_nodes.proofs.rounds.joined_to.Statement.{statement}
 use Rattle.join_nodes.proofs.rounds.joined_to.Tie as tie
 
 abbrev Inv-loop : tie.InvT-loop
-Inv-loop firsts seconds gates planes count width nodes rail joined₀ next₀ joined next = (next ≡ joined) × WideReached firsts seconds gates planes count width rail joined
+Inv-loop firsts seconds gates planes count width nodes rail joined₀ next₀ rounds₀ joined next rounds =
+    (next ≡ joined) × WideReached firsts seconds gates planes count width rail rounds joined × NotAbove firsts seconds gates planes count width rail rounds × RoundsMade firsts seconds gates planes count width rail rounds joined
 
 abbrev μ-loop : tie.MeasureT-loop
-μ-loop firsts seconds gates planes count width nodes rail joined₀ next₀ joined next = width * 32 * 2 ^ 64 - total joined
+μ-loop firsts seconds gates planes count width nodes rail joined₀ next₀ rounds₀ joined next rounds = 32 - rounds
 
 -- ---- where things stand
 
@@ -62,17 +62,20 @@ module _ (turn : tie.At-loop Inv-loop μ-loop) where
   abbrev start : tie.Start Inv-loop μ-loop
   start = start-second (second-begun (turn .before) .before)
 
-  abbrev Reached-by : List ℕ → Type 0
-  Reached-by words = let x = start .args in WideReached (now (x .firsts)) (now (x .seconds)) (now (x .gates)) (now (x .planes)) (x .count) (x .width) (x .rail) words
+  abbrev Reached-by : ℕ → List ℕ → Type 0
+  Reached-by k words = let x = start .args in WideReached (now (x .firsts)) (now (x .seconds)) (now (x .gates)) (now (x .planes)) (x .count) (x .width) (x .rail) k words
 
   -- the words that a round leaves
   after : List ℕ
   after = let x = start .args in wideRoundTo (now (x .firsts)) (now (x .seconds)) (now (x .gates)) (now (x .planes)) (x .width) (turn .loop .joined) (x .count)
 
   -- of which the invariant holds again
-  again : Reached-by after
+  again : Reached-by (suc (turn .loop .rounds)) after
   unfolding after
   again = wide-again (start .pre .0) (turn .loop .inv .1)
+
+  few-rounds : turn .loop .rounds < 32
+  few-rounds = below-nodes (start .pre .0) (start .pre .1 .1 .0) (turn .loop .inv .2)
 
   -- as many places as the nodes have are there
   places : start .args .width * start .args .nodes ≤ start .args .width * 32
@@ -124,8 +127,12 @@ loop-holds c =
     let x = s .args in
     let begun : List ℕ → List ℕ = λ words. onesTo words (x .width * x .rail) (x .width) in
     let one = first-begun (second .before) .begin .ensures ∙ ap begun (s .pre .1 .1 .1 .0) in
-    let two = second .begin2 .ensures ∙ ap begun (s .pre .1 .1 .1 .1) in
-    (two ∙ sym one, rw one (wide-first (x .width) (x .rail) (s .pre .1 .1 .0) (now (x .firsts)) (now (x .seconds)) (now (x .gates)) (now (x .planes)) (x .count)))
+    let two = second .begin2 .ensures ∙ ap begun (s .pre .1 .1 .1 .1) in (
+      two ∙ sym one,
+      rw one (wide-first (x .width) (x .rail) (s .pre .1 .1 .0) (now (x .firsts)) (now (x .seconds)) (now (x .gates)) (now (x .planes)) (x .count)),
+      none-above (now (x .firsts)) (now (x .seconds)) (now (x .gates)) (now (x .planes)) (x .count) (x .width) (x .rail),
+      rw one (none-made (now (x .firsts)) (now (x .seconds)) (now (x .gates)) (now (x .planes)) (x .count) (x .width) (x .rail)),
+    )
 
 round-requires : tie.Need-round-requires Inv-loop μ-loop
 round-requires c κs =
@@ -161,21 +168,25 @@ unfolding after
 returns c =
     let end = settled (c .before) in
     let same = tells end .0 (c .if1 .taken) in
-    (rw (settles end ∙ sym same) (wide-all (start (turn end) .pre .0) (turn end .loop .inv .1) same), both-settled end)
+    let s = start (turn end) in
+    let inv = turn end .loop .inv in
+    (rw (settles end ∙ sym same) (wide-all (s .pre .0) (s .pre .1 .1 .0) (inv .1) (inv .2) (inv .3) same), both-settled end)
+
+add-rounds : tie.Need-add-rounds Inv-loop μ-loop
+add-rounds c = omega (arith, few-rounds (turn (settled (c .before))))
 
 loop-less : tie.Need-loop-less Inv-loop μ-loop
-unfolding after
-loop-less c =
-    let end = settled (c .before) in
-    omega (
-      arith,
-      ap total (settles end),
-      wide-within (again (turn end)),
-      wide-more (start (turn end) .pre .0) (turn end .loop .inv .1) (λ same. c .if1 .left (tells end .1 same)),
-    )
+loop-less c = omega (arith, few-rounds (turn (settled (c .before))))
 
 loop-again : tie.Need-loop-again Inv-loop μ-loop
-loop-again c = let end = settled (c .before) in (both-settled end, rw (settles end) (again (turn end)))
+unfolding after
+loop-again c =
+    let end = settled (c .before) in
+    let s = start (turn end) in
+    let inv = turn end .loop .inv in
+    let apart : turn end .loop .joined ≡ after (turn end) → ⊥ = λ same. c .if1 .left (tells end .1 same) in
+    let further = one-more (s .pre .0) (s .pre .1 .1 .0) (inv .1) apart in
+    (both-settled end, rw (settles end, add-one) (again (turn end)), rw add-one further, rw (settles end, add-one) (made-more (inv .3) apart))
 
 pub joined-to-spec : {M : Type 1} → statement M
 joined-to-spec =
@@ -192,5 +203,6 @@ joined-to-spec =
     same-length
     same-length-2
     returns
+    add-rounds
     loop-less
     loop-again)

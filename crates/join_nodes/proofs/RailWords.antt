@@ -2,7 +2,7 @@
 -- edges that are on are the type's links, since tags conduct nothing. Assumes nothing.
 use Prim.Native.Nat.{ℕ, _/_, _%_, _<_, max}
 use native.Mathlib.Omega.{arith}
-use mathlib.Core.Path.{_≡_, refl, sym, ap, ap₂, subst, fun-ext, _∙_}
+use mathlib.Core.Path.{_≡_, sym, ap, ap₂, subst, fun-ext, _∙_}
 use mathlib.Core.List.{List, map}
 use lib.ListN.{getD}
 use Rattle.words.specs.Bits.{bit, ofBool, greatestTo}

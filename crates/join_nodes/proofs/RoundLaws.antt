@@ -1,14 +1,14 @@
 -- Rounds of joining, as lists of words: what a round adds to the words; after k rounds they tell which nodes paths of at most k links reach; words that
 -- a round leaves as they are tell which nodes are joined to the rail. Assumes nothing.
-use Prim.Native.Nat.{ℕ, zero, suc, _+_, _-_, _*_, _^_, _≤_, _<_, zero-le, max}
-use native.Mathlib.Nat.{not-suc-le-zero, le-of-suc-le-suc, eq-or-lt-of-le, le-refl, le-suc, le-trans, lt-of-le-of-lt, suc-mul, lt-of-not-le}
+use Prim.Native.Nat.{ℕ, zero, suc, _-_, _^_, _≤_, _<_, zero-le, max}
+use native.Mathlib.Nat.{not-suc-le-zero, le-of-suc-le-suc, eq-or-lt-of-le, le-refl, le-suc, le-trans, lt-of-le-of-lt}
 use native.Mathlib.Decide.{ℕ-discrete}
 use native.Mathlib.Omega.{arith}
 use mathlib.Core.Path.{_≡_, refl, sym, ap, _∙_}
 use mathlib.Core.Bool.{Bool, true, false}
 use mathlib.Core.Logic.{_⊎_, inl, inr, ⊎-elim}
-use mathlib.Core.List.{List, [], _∷_}
-use lib.Bits.{bitAnd, bitOr, and-le-l, and-le-r, or-add-and, or-lt}
+use mathlib.Core.List.{List}
+use lib.Bits.{bitAnd, bitOr, and-le-l, or-lt}
 use lib.Dec.{T}
 use lib.ListN.{length, getD, set, replicate, length-set, length-replicate}
 use lib.Seq.{getD-set-same, getD-set-other, ext-getD}
@@ -31,9 +31,6 @@ pub record NodesInRange (firsts seconds : List ℕ) (n : ℕ) : Type 0 where
 
 -- ---- a word added to one of the words
 
-or-grows : (a b : ℕ) → a ≤ bitOr a b
-or-grows a b = omega (arith, or-add-and a b, and-le-r a b)
-
 one-of-max : (x y : ℕ) → max x y ≡ 1 → (x ≡ 1) ⊎ (y ≡ 1)
 one-of-max x y e = at (ℕ-discrete x 1)
   where
@@ -54,9 +51,6 @@ module _ (words : List ℕ) (m w : ℕ) (l : m < length words) where
       at : Dec (n ≡ m) → ((n ≡ m) × (getD (added words m w) n 0 ≡ bitOr (getD words n 0) w)) ⊎ (getD (added words m w) n 0 ≡ getD words n 0)
       at (yes e) = inl (e, rw e added-here)
       at (no e) = inr (getD-set-other words m n (bitOr (getD words m 0) w) 0 e)
-
-  pub added-grows : (n : ℕ) → getD words n 0 ≤ getD (added words m w) n 0
-  added-grows n = ⊎-elim (λ e. rw (e .1) (or-grows (getD words n 0) w)) (λ e. rw e (le-refl (getD words n 0))) (added-at n)
 
   pub added-fits : (k : ℕ) → ((n : ℕ) → getD words n 0 < 2 ^ k) → w < 2 ^ k → (n : ℕ) → getD (added words m w) n 0 < 2 ^ k
   added-fits k f h n = ⊎-elim (λ e. rw (e .1) (or-lt k (getD words n 0) w (f n) h)) (λ e. rw e (f n)) (added-at n)

@@ -1,7 +1,7 @@
 -- Rounds over nodes and gates that have some words each: word w of each node has the round of RoundLaws over word w of each gate, for no place of one word
 -- of a node is a place of another; so what holds of rounds over one word each holds here. And taking a round's words over. Assumes nothing.
-use Prim.Native.Nat.{ℕ, zero, suc, _+_, _-_, _*_, _/_, _%_, _^_, _≤_, _<_}
-use native.Mathlib.Nat.{le-refl, le-trans, not-suc-le-zero, eq-or-lt-of-le, le-of-suc-le-suc, lt-of-le-of-lt, lt-of-not-le, mul-le-mul-left, mod-lt, div-add-mod}
+use Prim.Native.Nat.{ℕ, zero, suc, _+_, _-_, _*_, _^_, _≤_, _<_}
+use native.Mathlib.Nat.{le-refl, not-suc-le-zero, eq-or-lt-of-le, le-of-suc-le-suc, lt-of-le-of-lt}
 use native.Mathlib.Decide.{ℕ-discrete, decLt}
 use native.Mathlib.Omega.{arith}
 use mathlib.Core.Path.{_≡_, refl, sym, ap, ap₂, _∙_}
@@ -20,7 +20,6 @@ use Rattle.switch.proofs.Depths.{AllWithin}
 use Rattle.join_nodes.proofs.RoundLaws.{
   NodesInRange,
   added-here,
-  added-grows,
   added-fits,
   Reached,
   firstWords,
@@ -120,12 +119,6 @@ module _ (planes : List ℕ) (at : ℕ) (joined : List ℕ) (from : ℕ) (next :
         getD-set-other (handedTo planes at joined from next to n) (to + n) (to + w) _ 0 (λ e. omega arith) ∙ handed-here n w (omega arith) k)
         (eq-or-lt-of-le (le-of-suc-le-suc l))
 
-    handed-grows : (n i : ℕ) → n ≤ width → getD next i 0 ≤ getD (handedTo planes at joined from next to n) i 0
-    unfolding handedTo
-    handed-grows zero i h = le-refl (getD next i 0)
-    handed-grows (suc n) i h =
-        le-trans (handed-grows n i (omega arith)) (added-grows (handedTo planes at joined from next to n) (to + n) _ (in-handed n h) i)
-
     handed-fits : ((i : ℕ) → getD joined i 0 < 2 ^ 64) → ((i : ℕ) → getD next i 0 < 2 ^ 64) → (n : ℕ) → n ≤ width
         → (i : ℕ) → getD (handedTo planes at joined from next to n) i 0 < 2 ^ 64
     unfolding handedTo
@@ -212,12 +205,6 @@ module _ {firsts seconds gates : List ℕ} {count nodes : ℕ} (edges : ColumnsF
         step (width * getD gates i 0) a b (edges .second i h) half
         (omega (arith, each-before width b 32 (in-range .second i h), handed-length planes (width * getD gates i 0) old (width * b) (after i) (width * a) width))
         (step (width * getD gates i 0) b a (edges .first i h) (after i) (omega (arith, each-before width a 32 (in-range .first i h))) (wide-ind P start step i (omega arith)))
-
-    wide-grows : (n : ℕ) → getD old n 0 ≤ getD (after count) n 0
-    wide-grows n =
-        wide-ind (λ (words : List ℕ). getD old n 0 ≤ getD words n 0) (le-refl (getD old n 0))
-        (λ at a b l words room p. le-trans p (handed-grows planes at old (width * a) words (width * b) width room width n (le-refl width)))
-        count (le-refl count)
 
     wide-fits : ((n : ℕ) → getD old n 0 < 2 ^ 64) → (n : ℕ) → getD (after count) n 0 < 2 ^ 64
     wide-fits f =

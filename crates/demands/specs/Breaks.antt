@@ -18,6 +18,7 @@ use Rattle.demands.specs.Calls.{Call, Accepts}
 use Rattle.demands.specs.One.{One, RestKept}
 use Rattle.demands.specs.Two.{MatrixCell, rowOfCell, vectorOfCell, markIn, CellsTell, ClassesTell, AlikeButVectors}
 use Rattle.demands.specs.Three.{Refined, Three}
+use Rattle.demands.specs.Rounds.{RoundsTold}
 use Rattle.demands.specs.NoConverse.{Filling}
 use Rattle.demands.specs.Graders.{Grader, called, Work, gradesBy, rightly}
 use Rattle.demands.specs.Wrong.{marking, refusesEvery, skips, marksAll, marksNever, leavesMatrix, firstWordOnly, inventsFound}
@@ -45,6 +46,12 @@ abbrev pub MeetsClasses : Grader → Type 0
 MeetsClasses grader =
     (file : List ℕ) (before : Buffers) (c : Circuit) → Accepts file c → T (isGraded (grader file before .answer))
     → ClassesTell (called grader file before) c
+
+-- and 02's rounds
+abbrev pub MeetsRounds : Grader → Type 0
+MeetsRounds grader =
+    (file : List ℕ) (before : Buffers) (c : Circuit) → Accepts file c → T (isGraded (grader file before .answer))
+    → RoundsTold (called grader file before) c
 
 -- demand 3, over what the grader itself marks: of two files that it grades, alike but for their vectors, and these refined in the second
 abbrev pub MeetsThree : Grader → Type 0
@@ -81,6 +88,7 @@ pub record RightlyMeetsAll : Type 0 where
   pub rest : MeetsRest rightly
   pub cells : MeetsCells rightly
   pub classes : MeetsClasses rightly
+  pub rounds : MeetsRounds rightly
   pub three : MeetsThree rightly
   pub three-by-paths : MeetsThreeByPaths rightly
   pub fillings : MeetsFillings rightly

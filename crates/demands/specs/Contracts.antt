@@ -1,5 +1,6 @@
 -- Contracts as terms: what the `requires` of a function asks and its `ensures` tells, as the kit makes them of the source and as the proof
--- meets them. Then those of `grade` and of the entries for C that grade in the words of the demands, so that these are on the code: the kernel compares.
+-- meets them. Then those of `grade`, and of the entries for C that grade, in the words of the demands, so that these are on the code: the
+-- kernel compares.
 --   NAME.signature, NAME.ended   the types of the arguments, of the result, and of what is lent to be written
 --   NAME.Reads.Asked             what the `requires` clauses ask of the arguments
 --   NAME.Reads.Learnt            what the `ensures` clauses tell of the arguments, the result, and what was lent, as it is at exit
@@ -73,7 +74,7 @@ pub record GradeIsKept : Type 2 where
   pub routine-keeps : (M : Type 1) → RoutineTells M grade.Symbol.routine grade.ended (λ κs a r e. Kept (callOf κs a r e))
   pub routine-meets-demands : (M : Type 1) → RoutineTells M grade.Symbol.routine grade.ended (λ κs a r e. MeetsDemands (callOf κs a r e))
 
--- ---- the entry for C
+-- ---- the entries for C that grade
 
 -- number, place, vectors, faults, classes, found
 unfoldable pub sixOf : Answer → List ℕ
@@ -125,6 +126,8 @@ pub record NumbersAreCall (file : List ℕ) (before : Buffers) (numbers numbers�
   pub kept : Kept call
   pub to-buffers : call .after ≡ after
   pub numbers-are : numbers′ ≡ over (take (length numbers) (numbersOf (call .answer))) numbers
+  pub refusal-counts-nothing : (number place : ℕ) → Refuses (call .answer) number place
+      → numbers′ ≡ over (take (length numbers) (number ∷ place ∷ 0 ∷ 0 ∷ 0 ∷ 0 ∷ 0 ∷ [])) numbers
 
 abbrev pub ofNumbers : (κs : Lfts 4) → Args togyamiru-grade-numbers.signature κs → AtExit togyamiru-grade-numbers.ended κs
     → (List ℕ → Buffers → List ℕ → List ℕ → Buffers → Type 0) → Type 0

@@ -255,7 +255,12 @@ inverterLines =
 -- all at label 0
 abbrev pub chainFields : ℕ → List ℕ
 chainFields h =
-    typeField h 2 1 ++ edgeField 1 2 (0 ∷ []) ++ joinLists (table (h - 2) (λ (i : ℕ). edgeField (i + 2) (i + 3) (0 ∷ []))) ++ edgeField h 0 (0 ∷ [])
+    typeField h 2 1 ++ edgeField 1 2 (0 ∷ []) ++ joinLists (table (h - 2) (λ (i : ℕ). edgeField (i + 2) (i + 3) (0 ∷ [])))
+    ++ edgeField h 0 (0 ∷ [])
+
+-- one with the highest node that there may be, with a choice, under 1
+abbrev pub chainChoosing : Choice → List ℕ
+chainChoosing choice = inputsField 1 ++ chainFields 31 ++ instanceField 1 choice (primary 1 ∷ []) ++ vectorField "1"
 
 -- a NAND with two ways from supply to the output: h=4, o=3, k=2; edge 1-3 label 0; edges 1-2 and 2-3 label 1; edges 3-4 label 0 and 4-0
 -- label 1

@@ -2,7 +2,7 @@
 --   OneWire                 what a wire is, and that rows of one class are equal; the counts are of the shorts listed
 --   Files                   small circuit files, put together field by field
 --   Claims, KnownResults    the table of known results, and what its lines claim; PassResults those on pass transistors
---   Rounds, RoundResults    the greatest distance of a joined node from its rail, what it hangs on, and known results
+--   Rounds, RoundResults    the greatest distance of a joined node from its rail, what it hangs on, and known results; WrongRounds
 --   AlikeFiles, SplitFiles  demand 3 and the column clause of two files, byte by byte; why files are split as they are there
 --   NoConverse              demand 3 has no converse
 --   Determined              the demands leave one outcome only, which is the promise's
@@ -33,6 +33,7 @@ pub mod RoundResults
 pub mod Determined
 pub mod Wrong
 pub mod Breaks
+pub mod WrongRounds
 pub mod ModuleCheck
 pub mod SingleTransistors
 pub mod PassTransistors

@@ -27,8 +27,9 @@ use Rattle.demands.specs.ModuleCheck.{NineAsBefore, WrongChecksAreWrong}
 use Rattle.demands.specs.SingleTransistors.{AnsweredAsBefore, AcceptedAsBefore, GroupedFieldsRead, WrongEdgesAreWrong}
 use Rattle.demands.specs.PassTransistors.{TypesAreFields, EndsKeepTheRules, RailsApartInFiles, TagsChangeNoAnswer, OnlyPassesChange}
 use Rattle.demands.specs.PassTransistors.{NumbersOfEdges, PassFieldsRead, WrongPassesAreWrong}
-use Rattle.demands.specs.Rounds.{RoundsAreTheGreatestDistance, RoundsAreFew, RoundsAskForNoFaults, MoreVectorsNoFewerRounds}
-use Rattle.demands.specs.Rounds.{WrongRoundsAreWrong}
+use Rattle.demands.specs.Rounds.{RoundsAreTheGreatestDistance, StepsCountTheRounds, JoiningCountsDistances, RoundsAreFew}
+use Rattle.demands.specs.Rounds.{RoundsAskForNoFaults, MoreVectorsNoFewerRounds, FillingMayLowerRounds}
+use Rattle.demands.specs.WrongRounds.{WrongRoundsAreWrong}
 use Rattle.demands.specs.Contracts.{GradeIsKept, EntryIsKept, NumbersAreKept}
 use Rattle.demands.specs.CircuitCalls.{CircuitIsGradedAsFile, CircuitAnswersAsFile, GradeCircuitIsKept}
 use Rattle.demands.specs.CircuitCalls.{CircuitsMeetTwo, CircuitColumnIsOfItsVector, CircuitsMeetThree}
@@ -125,9 +126,12 @@ pub record AllProved : Type 2 where
   pub at-most-below-highest : AtMostBelowHighest
   pub rounds-tell : RoundsTell
   pub rounds-are-the-greatest-distance : RoundsAreTheGreatestDistance
+  pub steps-count-the-rounds : StepsCountTheRounds
+  pub joining-counts-distances : JoiningCountsDistances
   pub rounds-are-few : RoundsAreFew
   pub rounds-ask-for-no-faults : RoundsAskForNoFaults
   pub more-vectors-no-fewer-rounds : MoreVectorsNoFewerRounds
+  pub filling-may-lower-rounds : FillingMayLowerRounds
   pub rounds-known : RoundsKnown
   pub wrong-rounds-are-wrong : WrongRoundsAreWrong
   -- the code

@@ -2,8 +2,10 @@
 -- the proof, by computation, is in proofs/RoundsKnownProof.
 use mathlib.Core.List.{List, [], _∷_, _++_}
 use lib.ListN.{replicate}
+use Rattle.circuit.specs.Circuit.{no-faults}
 use Rattle.demands.specs.Files.{oneUnder, inverterUnder, nandUnder, norUnder, nand3Fields, branchesFields, gatesFields}
-use Rattle.demands.specs.Files.{chainFields, detourFields, nandThenInverter}
+use Rattle.demands.specs.Files.{chainFields, chainChoosing, detourFields, nandThenInverter}
+use Rattle.demands.specs.KnownResults.{nine}
 use Rattle.demands.specs.Claims.{Claim, takes, reports, AllHold}
 
 abbrev pub roundResults : List Claim
@@ -17,15 +19,17 @@ roundResults =
     ∷ takes (nandUnder ("01" ∷ [])) 1
     ∷ takes (nandUnder ("10" ∷ [])) 2
     ∷ takes (nandUnder ("11" ∷ [])) 2
-    -- with an X, by what is on then; under 1X an edge is on, but no node is joined to a rail
+    -- with an X, by what is on then; under 1X an edge is on, but no other node is joined to a rail
     ∷ takes (nandUnder ("0X" ∷ [])) 1
     ∷ takes (nandUnder ("1X" ∷ [])) 0
     ∷ takes (nandUnder ("XX" ∷ [])) 0
-    -- the greatest over the vectors, wherever it stands: first, last, 64th, 65th
+    ∷ takes (nandUnder nine) 2
+    -- the greatest over the vectors, wherever it stands: first, last, 64th, 65th, 256th
     ∷ takes (nandUnder ("11" ∷ "00" ∷ [])) 2
     ∷ takes (nandUnder ("00" ∷ "11" ∷ [])) 2
     ∷ takes (inverterUnder (replicate 63 "X" ++ ("0" ∷ []))) 1
     ∷ takes (inverterUnder (replicate 64 "X" ++ ("0" ∷ []))) 1
+    ∷ takes (inverterUnder (replicate 255 "X" ++ ("0" ∷ []))) 1
     -- and over the instances, also those without faults
     ∷ reports (nandThenInverter ("11" ∷ []))
     ("vectors 1 faults 6 classes 6 found 4"
@@ -50,10 +54,10 @@ roundResults =
     -- filling an X may lower the number
     ∷ takes (oneUnder 2 detourFields ("X0" ∷ [])) 2
     ∷ takes (oneUnder 2 detourFields ("00" ∷ [])) 1
-    -- a chain of transistors through all nodes reaches h - 1
+    -- a chain of transistors through all nodes but supply reaches h - 1, up to the highest that a node may be
     ∷ takes (oneUnder 1 (chainFields 3) ("1" ∷ [])) 2
     ∷ takes (oneUnder 1 (chainFields 6) ("1" ∷ [])) 5
-    ∷ takes (oneUnder 1 (chainFields 31) ("1" ∷ [])) 30
+    ∷ reports (chainChoosing no-faults) ("vectors 1 faults 0 classes 0 found 0" ∷ "rounds 30" ∷ [])
     ∷ []
 
 abbrev pub RoundsKnown : Type 0

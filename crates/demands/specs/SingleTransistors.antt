@@ -1,7 +1,7 @@
--- 02, "No more grouped transistors", on files. The grader as it was before: 01's, with the classes of 02, "One wire, one short". It took an
--- edge field for one group of parallel transistors, with 01's limits of 32,768 bytes and 64 edge fields a type. Every file is answered as
--- it was, answer and buffers, but for those that `Changed` names, and these are not. The proofs are in proofs/GroupsGrade, GroupsRead,
--- SingleTransistorsProof and WrongEdges.
+-- 02, "No more grouped transistors", on files. The grader as it was before: 01's, with the classes of 02, "One wire, one short", and with
+-- the rounds of "How many rounds joining takes", had they been asked for then. It took an edge field for one group of parallel
+-- transistors, with 01's limits of 32,768 bytes and 64 edge fields a type. Every file is answered as it was, answer and buffers, but for
+-- those that `Changed` names, and these are not. The proofs are in proofs/GroupsGrade, GroupsRead, SingleTransistorsProof and WrongEdges.
 use Prim.Native.Nat.{ℕ, _+_, _-_, _^_, _<_, _≤_}
 use mathlib.Core.Path.{_≡_}
 use mathlib.Core.Bool.{Bool, true, false, cond, not, _&&_, _||_, Bool·beq}
@@ -202,7 +202,7 @@ pub record AnsweredAsBefore : Type 0 where
   pub changed : (file : List ℕ) (before : Buffers) → Changed file → Kept (called groupwise file before) → ⊥
 
 -- what was accepted is accepted, as the same circuit, each type of which has the edges of its groups, in order; so its rows are the same,
--- and the report, which is made of them and of the outcome
+-- and the report, which is made of them and of the outcome; a report of that time had no line for the rounds
 abbrev pub AcceptedAsBefore : Type 0
 AcceptedAsBefore =
     (file : List ℕ) (c : Circuit) (groups : List (List Group)) → groupsReading file ≡ accepted-with c groups

@@ -13,7 +13,7 @@ use Rattle.words.specs.Rows.{rowOf}
 use Rattle.switch.specs.Conduction.{Value, at0, at1, atX, Link, ground, supply}
 use Rattle.switch.specs.Modules.{ModuleType, linksOf}
 use Rattle.switch.specs.Bridges.{Bridge, nodes, input, closing}
-use Rattle.switch.specs.Modules.{anyOf}
+use Rattle.switch.specs.Depth.{isAmong}
 use Rattle.switch.specs.Deciding as deciding
 use Rattle.switch.specs.Deciding.{joins, levelIn, isMarked}
 use Rattle.circuit.specs.Fields.{Field}
@@ -130,9 +130,6 @@ putIn w (u ∷ us) = let later = putIn w us in cond (leb (lowerNode w) (lowerNod
 unfoldable pub inNodeOrder : List Link → List Link
 inNodeOrder [] = []
 inNodeOrder (w ∷ ws) = putIn w (inNodeOrder ws)
-
-unfoldable pub isAmong : ℕ → List ℕ → Bool
-isAmong m reached = anyOf (eqb m) reached
 
 unfoldable pub handedOn : Link → List ℕ → List ℕ
 handedOn w reached = cond (isAmong (w .0) reached) (w .1 ∷ reached) (cond (isAmong (w .1) reached) (w .0 ∷ reached) reached)

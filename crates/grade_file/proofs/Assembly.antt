@@ -1,7 +1,7 @@
--- Grading a circuit instance by instance: what stands in signals, matrix and codes after the first instances (`Turned`), that one turn of the loop goes from
+-- Grading a circuit instance by instance: what stands in signals, matrix, codes and rounds after the first instances (`Turned`), that one turn of the loop goes from
 -- one instance to the next, given what each call answers, and that with all rows classed after the last the circuit is graded. Assumes nothing.
-use Prim.Native.Nat.{ℕ, suc, _+_, _-_, _*_, _/_, _<_, _≤_}
-use mathlib.Core.Path.{_≡_, refl, sym, ap, _∙_}
+use Prim.Native.Nat.{ℕ, suc, _+_, _-_, _*_, _/_, _<_, _≤_, max}
+use mathlib.Core.Path.{_≡_, refl, sym, ap, ap₂, _∙_}
 use mathlib.Core.List.{List, _++_, map, map-append}
 use native.Mathlib.Nat.{zero-add}
 use native.Mathlib.Numerals.{add-one}
@@ -9,7 +9,9 @@ use native.Mathlib.Omega.{arith}
 use lib.Dec.{T, eqb}
 use lib.ListN.{length, getD, take, length-append, length-map}
 use lib.Seq.{length-take-le, take-append-le, take-take}
+use Rattle.words.specs.Bits.{greatestTo}
 use Rattle.words.specs.Written.{written}
+use Rattle.words.proofs.Greatest.{greatest-more}
 use Rattle.words.proofs.Tables.{length-table}
 use Rattle.words.proofs.WrittenLaws.{written-nothing, length-written, written-written}
 use Rattle.switch.specs.Modules.{ModuleType}
@@ -30,6 +32,7 @@ use Rattle.circuit.proofs.TypeLaws.{type-back, type-given}
 use Rattle.grading.specs.Given.{CircuitGiven}
 use Rattle.grading.specs.Rows.{Row, noInstance, rowsOfInstance, rowsFrom, rowsOf, rowWords, matrixOf}
 use Rattle.grading.specs.Classes.{largest, classesBy, classesOf, foundCount}
+use Rattle.grading.specs.Rounds.{instanceRounds, roundsOf}
 use Rattle.grading.specs.Grading.{over, countsOfCircuit}
 use Rattle.grading.specs.Codes.{codeOf}
 use Rattle.grading.proofs.ValueLaws.{InstanceAt, good-at, type-at, type-ranges}
@@ -45,6 +48,7 @@ use Rattle.grade_marks.specs.Model.{InstanceGiven}
 use Rattle.grade_inputs.specs.Inputs.{onesOf, zerosOf, inputWords}
 use Rattle.grade_marks.proofs.SignalMeaning.{wordsOf, signals-start, signals-more}
 use Rattle.grade_marks.proofs.RowMeaning.{rows-words}
+use Rattle.grade_marks.proofs.RoundMeaning.{rounds-meant}
 use Rattle.grade_classes.specs.Model.{labelNumbers, keysOf, foundFrom, RowsClassed}
 use Rattle.grade_classes.specs.declared.Classed.{Classed}
 use Rattle.grade_classes.proofs.ClassLaws.{keyed-long, keyed-take}
@@ -55,13 +59,15 @@ use Rattle.grade_file.specs.Model.{Graded}
 
 -- ---- after the first instances
 
--- what the loop changes: signals, the matrix, codes with keys in the place of those that are marked, and where the next instance and its rows begin
+-- what the loop changes: signals, the matrix, codes with keys in the place of those that are marked, the most rounds so far, and where the next
+-- instance and its rows begin
 pub record State : Type 0 where
   pub ones : List ℕ
   pub zeros : List ℕ
   pub matrix : List ℕ
   pub codes : List ℕ
   pub from : ℕ
+  pub rounds : ℕ
   pub place : ℕ
 
 abbrev matrixTo : Circuit → ℕ → List ℕ
@@ -75,6 +81,7 @@ pub record Turned (c : Circuit) (matrix₀ : List ℕ) (s : State) : Type 0 wher
   pub matrix-is : s .matrix ≡ written matrix₀ 0 (joinLists (map (rowWords c) (rowsBefore c (s .place))))
   pub codes-long : length (s .codes) ≡ 2048
   pub keys-are : take (s .from) (s .codes) ≡ map rowKey (rowsBefore c (s .place))
+  pub rounds-are : s .rounds ≡ greatestTo (s .place) (instanceRounds c)
 
 -- the buffers are long enough
 pub record Room (m : CircuitRecord) (matrix classes : List ℕ) : Type 0 where
@@ -112,8 +119,8 @@ module _ (c : Circuit) (m : CircuitRecord) (is : m ≡ circuitRecord c) where
   pub turned-none : (matrix ones zeros codes : List ℕ) → length codes ≡ 2048
       → ones ≡ inputWords (onesOf (m .vectors)) ((m .«vector_count» + 63) / 64)
       → zeros ≡ inputWords (zerosOf (m .vectors)) ((m .«vector_count» + 63) / 64)
-      → Turned c matrix record { ones = ones; zeros = zeros; matrix = matrix; codes = codes; from = 0; place = 0 }
-  unfolding circuitRecord joinLists rowsFrom
+      → Turned c matrix record { ones = ones; zeros = zeros; matrix = matrix; codes = codes; from = 0; rounds = 0; place = 0 }
+  unfolding circuitRecord joinLists rowsFrom greatestTo
   turned-none matrix ones zeros codes long e g = record {
     inside = omega arith;
     ones-are = e ∙ ap (λ (x : CircuitRecord). inputWords (onesOf (x .vectors)) ((x .«vector_count» + 63) / 64)) is ∙ signals-start c .0;
@@ -122,6 +129,7 @@ module _ (c : Circuit) (m : CircuitRecord) (is : m ≡ circuitRecord c) where
     matrix-is = sym (written-nothing matrix 0);
     codes-long = long;
     keys-are = refl;
+    rounds-are = refl;
   }
 
 -- ---- at any turn
@@ -149,8 +157,9 @@ module _ (m : CircuitRecord) (told : CircuitGiven m) (matrix₀ classes₀ : Lis
   -- after the last, with the rows classed
   pub turned-end : m .«instance_count» ≤ s .place → (r : Classed) (classes′ : List ℕ)
       → RowsClassed (take (s .from) (s .codes)) (s .matrix) classes₀ r classes′
-      → Graded c record { vectors = m .«vector_count»; faults = m .faults; classes = r .count; found = r .found } matrix₀ classes₀ (s .matrix) classes′
-  unfolding countsOfCircuit matrixOf written
+      → Graded c record { vectors = m .«vector_count»; faults = m .faults; classes = r .count; found = r .found; rounds = s .rounds }
+      matrix₀ classes₀ (s .matrix) classes′
+  unfolding countsOfCircuit matrixOf written roundsOf
   turned-end past r classes′ classed =
       record {
         counts-are = λ j. record {
@@ -158,13 +167,20 @@ module _ (m : CircuitRecord) (told : CircuitGiven m) (matrix₀ classes₀ : Lis
           faults = faults-are c m (told .is) j;
           classes = count-is j;
           found = found-is j;
+          rounds = rounds-are j;
         };
         matrix-is = matrix-is ∙ over-is (matrixOf c) matrix₀;
         classes-are = classes-are ∙ over-is (classesOf (rowsOf c)) classes₀;
       }
     where
+      last : s .place ≡ length (c .instances)
+      last = omega (arith, so-far .inside, instances-are c m (told .is))
+
       all : rows ≡ rowsOf c
-      all = rows-all c (s .place) (omega (arith, so-far .inside, instances-are c m (told .is)))
+      all = rows-all c (s .place) (omega (arith, last))
+
+      rounds-are : s .rounds ≡ greatestTo (length (c .instances)) (instanceRounds c)
+      rounds-are = so-far .rounds-are ∙ ap (λ (n : ℕ). greatestTo n (instanceRounds c)) last
 
       keys : take (s .from) (s .codes) ≡ map rowKey (rowsOf c)
       keys = so-far .keys-are ∙ ap (map rowKey) all
@@ -342,9 +358,10 @@ module _ (m : CircuitRecord) (told : CircuitGiven m) (matrix₀ classes₀ : Lis
     }
 
     -- what the calls of a turn answer
-    module _ (ones′ zeros′ matrix′ : List ℕ)
-        (marked : InstanceMarked type′ (its .references) i (m .«vector_count») codes (s .from) to (s .ones) (s .zeros) (s .matrix) ones′ zeros′ matrix′)
-        (codes′ : List ℕ) (keyed : codes′ ≡ written codes (s .from) (keysOf codes (i + 1) (type′ .output) (labelNumbers (its .references)) (s .from) to)) where
+    module _ (ones′ zeros′ matrix′ : List ℕ) (its-rounds : ℕ)
+        (marked : InstanceMarked type′ (its .references) i (m .«vector_count») codes (s .from) to (s .ones) (s .zeros) (s .matrix) ones′ zeros′ matrix′ its-rounds)
+        (codes′ : List ℕ) (keyed : codes′ ≡ written codes (s .from) (keysOf codes (i + 1) (type′ .output) (labelNumbers (its .references)) (s .from) to))
+        (rounds′ : ℕ) (greatest : rounds′ ≡ max (s .rounds) its-rounds) where
       stand : Bridge
       stand = nodes 0 0
 
@@ -408,7 +425,14 @@ module _ (m : CircuitRecord) (told : CircuitGiven m) (matrix₀ classes₀ : Lis
           ∙ rw (old-here, keys-here)
           (sym (map-append rowKey (rowsBefore d i) new) ∙ ap (map rowKey) (sym grown))
 
-      turned : Turned d matrix₀ record { ones = ones′; zeros = zeros′; matrix = matrix′; codes = codes′; from = to; place = suc i }
+      -- the rounds
+      rounds-next : rounds′ ≡ greatestTo (suc i) (instanceRounds d)
+      rounds-next =
+          let its-own : its-rounds ≡ instanceRounds d i
+          = marked .rounds-are ∙ ap (λ (r : InstanceWords). r .rounds) words-here ∙ rounds-meant d good i h in
+          greatest ∙ ap₂ max (so-far .rounds-are) its-own ∙ sym (greatest-more i (instanceRounds d))
+
+      turned : Turned d matrix₀ record { ones = ones′; zeros = zeros′; matrix = matrix′; codes = codes′; from = to; rounds = rounds′; place = suc i }
       turned =
           let signals = signals-more d i (inst d good m is i h) (at d good m is i h) in
           record {
@@ -423,7 +447,8 @@ module _ (m : CircuitRecord) (told : CircuitGiven m) (matrix₀ classes₀ : Lis
             matrix-is = matrix-next;
             codes-long = ap length keyed ∙ keyed-long codes (i + 1) (type′ .output) labels (s .from) to inside ∙ turn-fits .codes-long;
             keys-are = keys-next;
+            rounds-are = rounds-next;
           }
 
-      pub turn : Turned d matrix₀ record { ones = ones′; zeros = zeros′; matrix = matrix′; codes = codes′; from = to; place = i + 1 }
+      pub turn : Turned d matrix₀ record { ones = ones′; zeros = zeros′; matrix = matrix′; codes = codes′; from = to; rounds = rounds′; place = i + 1 }
       turn = rw (add-one i) turned

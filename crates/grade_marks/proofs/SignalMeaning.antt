@@ -296,7 +296,7 @@ module _ (c : Circuit) (i : ℕ) (inst : Instance) where
   unfolding labelPlanes
   label-at plane l w h k = four-at 12 (labelsOf plane c i inst) l w h k
 
-  labels-again : (plane : Value → ℕ) (w : ℕ) → w < 4 → wordOfEach 4 w 12 (planesOfLabels plane) ≡ labelsOf plane c i inst w
+  pub labels-again : (plane : Value → ℕ) (w : ℕ) → w < 4 → wordOfEach 4 w 12 (planesOfLabels plane) ≡ labelsOf plane c i inst w
   unfolding labelPlanes labelWords
   labels-again plane w k = word-of-four 12 (labelsOf plane c i inst) w k (length-table 12 _)
 

@@ -1,4 +1,4 @@
--- The theorems on classes and on the promise, and the laws of rows, values and records that the crates which grade share.
+-- The theorems on classes, on rounds and on the promise, and the laws of rows, values and records that the crates which grade share.
 pub mod Everywhere
 pub mod Lists
 pub mod ValueLaws
@@ -16,4 +16,5 @@ pub mod SameClass
 pub mod ClassLists
 pub mod ClassNumbering
 pub mod FoundLaws
+pub mod RoundLaws
 pub mod PromiseLaws

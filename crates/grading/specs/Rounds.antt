@@ -1,24 +1,31 @@
 -- 02, "How many rounds joining takes": the greatest distance, in on edges along a shortest path, of any joined node from its rail, over all
 -- instances and vectors. Both rails count, and instances with choice 0; under a vector with X's, what is on then.
-use Prim.Native.Nat.{ℕ, _<_}
+use Prim.Native.Nat.{ℕ, _+_, _*_, _<_}
 use mathlib.Core.List.{List, []}
 use lib.ListN.{length, getD}
 use Rattle.words.specs.Bits.{greatestTo}
+use Rattle.words.specs.Each.{wordOfEach}
 use Rattle.switch.specs.Conduction.{Value, Link}
-use Rattle.switch.specs.Modules.{linksOf}
+use Rattle.switch.specs.Modules.{ModuleType, mostLabels, linksOf}
 use Rattle.switch.specs.Distances.{IsRail, DistanceFrom}
 use Rattle.switch.specs.Depth.{deepest}
-use Rattle.circuit.specs.Circuit.{Circuit, Instance, typeOfInstance}
+use Rattle.switch.specs.Promises.{PlanesHold}
+use Rattle.circuit.specs.Circuit.{Circuit, typeOfInstance}
 use Rattle.grading.specs.Values.{labelValues, outputsOf}
 use Rattle.grading.specs.Rows.{noInstance}
 
--- the links of an instance's edges that are on under a vector
-unfoldable pub linksUnder : Circuit → List Value → Instance → List Link
-linksUnder c vector i = linksOf (typeOfInstance (c .types) i) (labelValues vector (outputsOf (c .types) vector (c .instances)) i)
+-- the type of the instance at a place, from 0; the values of its labels under the vector at a place; and the links of its edges that are on
+-- then
+unfoldable pub typeAt : Circuit → ℕ → ModuleType
+typeAt c i = typeOfInstance (c .types) (getD (c .instances) i noInstance)
 
--- those of the instance and under the vector at two places, from 0
+unfoldable pub valuesAt : Circuit → ℕ → ℕ → ℕ → Value
+valuesAt c i v =
+    let vector = getD (c .vectors) v [] in
+    labelValues vector (outputsOf (c .types) vector (c .instances)) (getD (c .instances) i noInstance)
+
 unfoldable pub linksAt : Circuit → ℕ → ℕ → List Link
-linksAt c i v = linksUnder c (getD (c .vectors) v []) (getD (c .instances) i noInstance)
+linksAt c i v = linksOf (typeAt c i) (valuesAt c i v)
 
 -- d is the distance of some joined node from its rail, in some instance under some vector
 pub record DistanceIn (c : Circuit) (d : ℕ) : Type 0 where
@@ -36,3 +43,10 @@ instanceRounds c i = greatestTo (length (c .vectors)) (λ (v : ℕ). deepest (li
 
 unfoldable pub roundsOf : Circuit → ℕ
 roundsOf c = greatestTo (length (c .instances)) (instanceRounds c)
+
+-- ---- what the joining step is given of an instance
+
+-- four words of each label in each plane hold the labels' values at each of 256 places, whether or not a vector stands there
+pub record PlanesAt (c : Circuit) (i : ℕ) (ones zeros : List ℕ) : Type 0 where
+  pub hold : (w v : ℕ) → w < 4 → v < 64
+      → PlanesHold (wordOfEach 4 w mostLabels ones) (wordOfEach 4 w mostLabels zeros) v (valuesAt c i (64 * w + v))

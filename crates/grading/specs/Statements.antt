@@ -9,6 +9,7 @@ use lib.Dec.{T}
 use lib.ListN.{length, getD}
 use Rattle.switch.specs.Conduction.{Value}
 use Rattle.switch.specs.Distances.{GreatestIs}
+use Rattle.switch.specs.Promises.{fourRounds}
 use Rattle.circuit.specs.Circuit.{Circuit}
 use Rattle.circuit.specs.Reading.{accepted, readingOf}
 use Rattle.circuit.specs.Records.{circuitRecord}
@@ -17,7 +18,7 @@ use Rattle.grading.specs.Buffers.{Buffers}
 use Rattle.grading.specs.Rows.{Row, rowsOf, cell}
 use Rattle.grading.specs.Wires.{wireOf, one-end, other-end, carried, leaks}
 use Rattle.grading.specs.Classes.{sameClass, largest, classesBy, classesOf}
-use Rattle.grading.specs.Rounds.{linksAt, DistanceIn, roundsOf}
+use Rattle.grading.specs.Rounds.{typeAt, linksAt, DistanceIn, instanceRounds, roundsOf, PlanesAt}
 use Rattle.grading.specs.Promise.{Promise}
 use Rattle.grading.specs.CircuitPromise.{PromiseOfCircuit}
 use Rattle.grading.specs.declared.Answer.{Answer}
@@ -75,11 +76,15 @@ ClassNumbers c = NumbersTell sameClass (rowsOf c) (classesOf (rowsOf c))
 
 -- ---- 02, "How many rounds joining takes"
 
--- the rounds of a good circuit are its greatest distance. Joining handles 256 places together; those past the last vector add nothing to
--- it, since no vector stands there: every label is X there, and nothing is on
 pub record RoundsTell : Type 0 where
+  -- the rounds of a good circuit are its greatest distance
   pub greatest : (c : Circuit) → CircuitGood c → GreatestIs (DistanceIn c) (roundsOf c)
+  -- joining handles 256 places together. Those past the last vector add nothing: no vector stands there, so that every label is X and
+  -- nothing is on
   pub nothing-on : (c : Circuit) → CircuitGood c → (i v : ℕ) → i < length (c .instances) → length (c .vectors) ≤ v → linksAt c i v ≡ []
+  -- so the step's count, over planes that hold what the labels are at each of the 256 places, is the instance's
+  pub step-counts : (c : Circuit) → CircuitGood c → (i : ℕ) → i < length (c .instances) → (ones zeros : List ℕ) → PlanesAt c i ones zeros
+      → fourRounds (typeAt c i) ones zeros ≡ instanceRounds c i
 
 -- a circuit's promise is that of every file that is read as it
 abbrev pub CircuitPromiseIsFiles : Type 0

@@ -168,7 +168,8 @@ pub record WideJoined (firsts seconds gates planes : List ℕ) (n width rail : �
   pub after-rounds : joined ≡ wordsAfter firsts seconds gates planes n width rail rounds
   pub each-added : (r : ℕ) → r < rounds
       → wordsAfter firsts seconds gates planes n width rail (suc r) ≡ wordsAfter firsts seconds gates planes n width rail r → ⊥
-  pub then-nothing : wordsAfter firsts seconds gates planes n width rail (suc rounds) ≡ wordsAfter firsts seconds gates planes n width rail rounds
+  pub then-nothing :
+      wordsAfter firsts seconds gates planes n width rail (suc rounds) ≡ wordsAfter firsts seconds gates planes n width rail rounds
   pub rounds-are : (ws : ℕ → ℕ → List Link)
       → ((w : ℕ) → w < width → LinksAre firsts seconds (gateWord width w gates planes) n (ws w))
       → rounds ≡ greatestTo width (λ (w : ℕ). greatestTo 64 (λ (v : ℕ). depth (ws w v) rail))

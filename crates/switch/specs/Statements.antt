@@ -169,8 +169,8 @@ abbrev pub RoundsAreDistances : Type 0
 RoundsAreDistances =
     (t : ModuleType) → T (inRange t) → (ones zeros : List ℕ) → GreatestIs (DistanceUnder t ones zeros) (fourRounds t ones zeros)
 
--- at most h - 1 in a type with the highest node h, by values: of its h + 1 nodes a path from one rail does not reach the other, and a shortest path
--- does not come to a node twice
+-- at most h - 1 in a type with the highest node h, by values: of its h + 1 nodes a path from one rail does not reach the other, and a
+-- shortest path does not come to a node twice
 abbrev pub AtMostBelowHighest : Type 0
 AtMostBelowHighest =
     (t : ModuleType) → Accepted t → (values : ℕ → Value) (rail : ℕ) → IsRail rail → (d : ℕ)

@@ -6,11 +6,19 @@ use mathlib.Core.List.{List, [], _∷_, _++_}
 use lib.ListN.{length, take}
 use Rattle.grading.specs.Buffers.{Buffers, roomOf}
 use Rattle.grading.specs.Grading.{Grading, gradingOf, countsIn, buffersAfter, over}
+use Rattle.grading.specs.Promise.{numberOf, placeOf, countsOf}
+use Rattle.grading.specs.declared.Answer.{Answer}
 use Rattle.togyamiru.specs.Entry.{sixNumbers}
 
 -- number, place, vectors, faults, classes, found, rounds
 unfoldable pub allNumbers : Grading → List ℕ
 allNumbers g = sixNumbers g ++ (countsIn g .rounds ∷ [])
+
+-- the same of an answer
+unfoldable pub numbersOf : Answer → List ℕ
+numbersOf answer =
+    let counts = countsOf answer in
+    numberOf answer ∷ placeOf answer ∷ counts .vectors ∷ counts .faults ∷ counts .classes ∷ counts .found ∷ counts .rounds ∷ []
 
 -- places past the last number keep their contents
 pub record NumbersMeet (g : Grading) (before : Buffers) (numbers numbers′ : List ℕ) (after : Buffers) : Type 0 where

@@ -6,6 +6,9 @@ use grade_file::grade::grade_read;
 use grade_rows::rows_of;
 use grading::Answer;
 use grading::Counts;
+use grading::answers::counts_of;
+use grading::answers::number_of;
+use grading::answers::place_of;
 use read_file::read::read_stages;
 ghost use Prim.Native.Nat.{_≤_};
 ghost use mathlib.Core.Bool.{true, false};
@@ -15,6 +18,7 @@ ghost use Rattle.grading.specs.Buffers.{buffersOf};
 ghost use Rattle.grading.specs.Grading.{over};
 ghost use Rattle.grading.specs.Given.{Read};
 ghost use Rattle.grading.specs.Promise.{Promise};
+ghost use Rattle.togyamiru.specs.NumbersEntry.{numbersOf};
 ghost use Rattle.togyamiru.specs.RowsModel.{RowsAnswer, RowsAnswerOfRead};
 
 // The first codes, at the front of the rows.
@@ -71,7 +75,23 @@ pub fn answer_to(
     grade_read(reading, matrix, classes)
 }
 
-// The numbers of an answer, as many as have room.
+// The numbers of an answer: the refusal's number and its place, 0 and 0 where there is none, the counts of vectors, faults, classes and found, and the rounds.
+pub fn numbers_of(answer: Answer) -> [u64; 7]
+    ensures { λ r. ⌜ r ≡ numbersOf answer ⌝ }
+{
+    let counts = counts_of(answer);
+    [
+        number_of(answer) as u64,
+        place_of(answer) as u64,
+        counts.vectors as u64,
+        counts.faults as u64,
+        counts.classes as u64,
+        counts.found as u64,
+        counts.rounds as u64,
+    ]
+}
+
+// As many of them as have room.
 pub fn put_numbers(all: [u64; 7], numbers: &mut [u64])
     ensures { λ _. ⌜ now (numbers .exit) ≡ over (take (length (now (numbers .entry))) all) (now (numbers .entry)) ⌝ }
 {

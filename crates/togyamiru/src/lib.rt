@@ -2,6 +2,7 @@
 mod answering;
 
 use crate::answering::answer_to;
+use crate::answering::numbers_of;
 use crate::answering::put_numbers;
 use grading::answers::counts_of;
 use grading::answers::number_of;
@@ -22,16 +23,8 @@ pub extern "C" fn togyamiru_grade(
     ensures { λ _. ⌜ EntryPromise (now (file .entry)) (buffersOf (now (matrix .entry)) (now (classes .entry))) (now (answer .exit)) (buffersOf (now (matrix .exit)) (now (classes .exit))) ⌝ }
 {
     let mut rows = [0u32; 1];
-    let given = answer_to(file, false, &mut rows, matrix, classes);
-    let counts = counts_of(given);
-    *answer = [
-        number_of(given) as u64,
-        place_of(given) as u64,
-        counts.vectors as u64,
-        counts.faults as u64,
-        counts.classes as u64,
-        counts.found as u64,
-    ];
+    let all = numbers_of(answer_to(file, false, &mut rows, matrix, classes));
+    *answer = [all[0], all[1], all[2], all[3], all[4], all[5]];
 }
 
 // Grades as `togyamiru_grade` does. The answer is as many numbers as there is room for: those six, then the rounds of joining.
@@ -45,17 +38,7 @@ pub extern "C" fn togyamiru_grade_numbers(
     ensures { λ _. ⌜ NumbersPromise (now (file .entry)) (buffersOf (now (matrix .entry)) (now (classes .entry))) (now (numbers .entry)) (now (numbers .exit)) (buffersOf (now (matrix .exit)) (now (classes .exit))) ⌝ }
 {
     let mut rows = [0u32; 1];
-    let given = answer_to(file, false, &mut rows, matrix, classes);
-    let counts = counts_of(given);
-    let all = [
-        number_of(given) as u64,
-        place_of(given) as u64,
-        counts.vectors as u64,
-        counts.faults as u64,
-        counts.classes as u64,
-        counts.found as u64,
-        counts.rounds as u64,
-    ];
+    let all = numbers_of(answer_to(file, false, &mut rows, matrix, classes));
     put_numbers(all, numbers);
 }
 

@@ -1,8 +1,9 @@
--- The greatest of a function over the positions below a number: at least each, at most what each is at most, and one of them unless it is 0. Assumes nothing.
-use Prim.Native.Nat.{ℕ, zero, suc, _<_, _≤_, max}
-use mathlib.Core.Path.{_≡_, refl, ap₂}
+-- The greatest of a function over the positions below a number: at least each, at most what each is at most, and one of them unless it is 0;
+-- and of positions that are taken 64 to a word. Assumes nothing.
+use Prim.Native.Nat.{ℕ, zero, suc, _+_, _*_, _/_, _%_, _<_, _≤_, max}
+use mathlib.Core.Path.{_≡_, refl, ap, ap₂}
 use mathlib.Core.Logic.{_⊎_, inl, inr}
-use native.Mathlib.Decide.{ℕ-discrete}
+use native.Mathlib.Decide.{ℕ-discrete, decLt}
 use native.Mathlib.Omega.{arith}
 use Rattle.words.specs.Bits.{greatestTo}
 
@@ -41,6 +42,34 @@ pub greatest-more : (n : ℕ) (f : ℕ → ℕ) → greatestTo (suc n) f ≡ max
 unfolding greatestTo
 greatest-more zero f = omega arith
 greatest-more (suc n) f = omega (arith, greatest-more n (λ (u : ℕ). f (suc u)))
+
+-- over the positions of `words` words, where f is 0 from n on: it is that over the positions below n
+pub greatest-by-words : (words n : ℕ) (f : ℕ → ℕ) → n ≤ 64 * words → ((v : ℕ) → n ≤ v → f v ≡ 0)
+    → greatestTo words (λ (w : ℕ). greatestTo 64 (λ (v : ℕ). f (64 * w + v))) ≡ greatestTo n f
+greatest-by-words words n f few past = omega (arith, most, least)
+  where
+    in-word : ℕ → ℕ
+    in-word w = greatestTo 64 (λ (v : ℕ). f (64 * w + v))
+
+    each : (u : ℕ) → Dec (u < n) → f u ≤ greatestTo n f
+    each u (yes h) = greatest-part n f u h
+    each u (no h) = omega (arith, past u (omega arith))
+
+    most : greatestTo words in-word ≤ greatestTo n f
+    most =
+        greatest-most words in-word (greatestTo n f) (λ w h.
+        greatest-most 64 (λ (v : ℕ). f (64 * w + v)) (greatestTo n f) (λ v k. each (64 * w + v) (decLt (64 * w + v) n)))
+
+    least : greatestTo n f ≤ greatestTo words in-word
+    least =
+        greatest-most n f (greatestTo words in-word) (λ u h.
+        let place : 64 * (u / 64) + u % 64 ≡ u = omega arith in
+        omega (
+          arith,
+          ap f place,
+          greatest-part 64 (λ (v : ℕ). f (64 * (u / 64) + v)) (u % 64) (omega arith),
+          greatest-part words in-word (u / 64) (omega arith),
+        ))
 
 -- the greatest of the greater of two is the greater of both greatest
 pub greatest-of-both : (n : ℕ) (f g : ℕ → ℕ) → greatestTo n (λ (v : ℕ). max (f v) (g v)) ≡ max (greatestTo n f) (greatestTo n g)

@@ -1,5 +1,5 @@
--- `grade_file::grade::fill_buffers` meets its contract. The loop's invariant: whatever good circuit the record tells, its first `i` instances are marked and
--- their rows keyed (`Turned`). The measure is what is left of the instances. Assumes nothing.
+-- `grade_file::grade::fill_buffers` meets its contract. The loop's invariant: whatever good circuit the record tells, its first `i` instances are marked,
+-- their rows keyed and their rounds known (`Turned`). The measure is what is left of the instances. Assumes nothing.
 use Prim.Native.Nat.{ℕ, _+_, _-_, _≤_, _<_}
 use mathlib.Core.Path.{_≡_, refl}
 use mathlib.Core.List.{List}
@@ -19,12 +19,12 @@ use Rattle.grade_file.proofs.grade.fill_buffers.Statement.{statement}
 use Rattle.grade_file.proofs.grade.fill_buffers.Tie as tie
 
 abbrev Inv-loop : tie.InvT-loop
-Inv-loop c matrix₀ classes types bridges instances count vectors ones₀ zeros₀ codes₀ from₀ i₀ matrix ones zeros codes from i =
+Inv-loop c matrix₀ classes types bridges instances count vectors ones₀ zeros₀ codes₀ from₀ rounds₀ i₀ matrix ones zeros codes from rounds i =
     (told : CircuitGiven c)
-    → Turned (told .circuit) matrix₀ record { ones = ones; zeros = zeros; matrix = matrix; codes = codes; from = from; place = i }
+    → Turned (told .circuit) matrix₀ record { ones = ones; zeros = zeros; matrix = matrix; codes = codes; from = from; rounds = rounds; place = i }
 
 abbrev μ-loop : tie.MeasureT-loop
-μ-loop c matrix₀ classes types bridges instances count vectors ones₀ zeros₀ codes₀ from₀ i₀ matrix ones zeros codes from i = c .«instance_count» - i
+μ-loop c matrix₀ classes types bridges instances count vectors ones₀ zeros₀ codes₀ from₀ rounds₀ i₀ matrix ones zeros codes from rounds i = c .«instance_count» - i
 
 -- ---- where things stand
 
@@ -48,8 +48,8 @@ marked-keying c = c .before .before .before
 abbrev listed-keying : tie.After-codes3 Inv-loop μ-loop → tie.After-list-rows Inv-loop μ-loop
 listed-keying c = listed-marking (marked-keying c .before)
 
-abbrev turn-keyed : tie.After-write-keys Inv-loop μ-loop → tie.In-loop Inv-loop μ-loop
-turn-keyed c = turn-listing (listed-keying (c .before) .before)
+abbrev turn-keyed : tie.After-greater Inv-loop μ-loop → tie.In-loop Inv-loop μ-loop
+turn-keyed c = turn-listing (listed-keying (c .before .before) .before)
 
 -- behind the loop: its end, before the rows are classed
 abbrev loop-classing : tie.After-class-rows-arg2 Inv-loop μ-loop → tie.After-loop Inv-loop μ-loop
@@ -86,6 +86,7 @@ module _ (c : tie.At-loop Inv-loop μ-loop) where
     matrix = c .loop .matrix;
     codes = c .loop .codes;
     from = c .loop .from;
+    rounds = c .loop .rounds;
     place = c .loop .i;
   }
 
@@ -143,23 +144,25 @@ module _ (c : tie.After-list-rows Inv-loop μ-loop) where
       assembly.turn-fits (whole l) (known l) (matrix₀ l) (classes₀ l) (roomy l) (state l) (so-far l (known l)) (here turn (known l)) pastInstance pastType
       codes to (c .list-rows .ensures)
 
--- and its rows marked and keyed
-turned : (c : tie.After-write-keys Inv-loop μ-loop) → let l = at (turn-keyed c) in
+-- and its rows marked and keyed, and its rounds known
+turned : (c : tie.After-greater Inv-loop μ-loop) → let l = at (turn-keyed c) in
     (told : CircuitGiven (whole l))
     → Turned (told .circuit) (matrix₀ l) record {
-      ones = marked-keying (c .before) .mark-instance .last .1 .1 .1 .1 .1 .1 .1 .0;
-      zeros = marked-keying (c .before) .mark-instance .last .1 .1 .1 .1 .1 .1 .1 .1 .0;
-      matrix = marked-keying (c .before) .mark-instance .last .1 .1 .1 .1 .1 .1 .1 .1 .1 .0;
-      codes = c .write-keys .last .0;
-      from = to (listed-keying (c .before));
+      ones = marked-keying (c .before .before) .mark-instance .last .1 .1 .1 .1 .1 .1 .1 .0;
+      zeros = marked-keying (c .before .before) .mark-instance .last .1 .1 .1 .1 .1 .1 .1 .1 .0;
+      matrix = marked-keying (c .before .before) .mark-instance .last .1 .1 .1 .1 .1 .1 .1 .1 .1 .0;
+      codes = c .before .write-keys .last .0;
+      from = to (listed-keying (c .before .before));
+      rounds = c .greater .result;
       place = place (turn-keyed c) + 1;
     }
 turned c told =
-    let marked = marked-keying (c .before) in
-    let listed = listed-keying (c .before) in
+    let keyed = c .before in
+    let marked = marked-keying (keyed .before) in
+    let listed = listed-keying (keyed .before) in
     let l = at (turn listed) in
     assembly.turn (whole l) told (matrix₀ l) (classes₀ l) (roomy l) (state l) (so-far l told) (here (turn listed) told) pastInstance pastType
-    (codes listed) (to listed) (listed .list-rows .ensures) _ _ _ (marked .mark-instance .ensures) _ (c .write-keys .ensures)
+    (codes listed) (to listed) (listed .list-rows .ensures) _ _ _ _ (marked .mark-instance .ensures) _ (keyed .write-keys .ensures) _ (c .greater .ensures)
 
 -- ---- the needs
 
@@ -210,6 +213,9 @@ write-keys-requires c κs =
     let listed = listed-keying c in
     let marks = fits listed .marks in
     ((marks .order, marks .most, marks .placed), (fits listed .codes-long, marks .codes))
+
+greater-requires : tie.Need-greater-requires Inv-loop μ-loop
+greater-requires c κs = search needs
 
 add-i : tie.Need-add-i Inv-loop μ-loop
 add-i c = omega (arith, few (turn-keyed c))
@@ -265,6 +271,7 @@ fill-buffers-spec =
     list-rows-requires
     mark-instance-requires
     write-keys-requires
+    greater-requires
     add-i
     loop-less
     loop-again

@@ -24,12 +24,13 @@ marked : (t : TypeRecord) (references : List Reference) (ones zeros labelOnes la
     → ones′ ≡ written ones (4 * (64 + place)) (outputOnes (rails .supply) (rails .ground) (t .output))
     → zeros′ ≡ written zeros (4 * (64 + place)) (outputZeros (rails .supply) (rails .ground) (t .output))
     → matrix′ ≡ written matrix (4 * from) (rowsWords rows (rails .supply) (rails .ground) labelOnes labelZeros vectors from to)
-    → InstanceMarked t references place vectors rows from to ones zeros matrix ones′ zeros′ matrix′
+    → InstanceMarked t references place vectors rows from to ones zeros matrix ones′ zeros′ matrix′ (rails .rounds)
 unfolding typeOf
 marked t references ones zeros labelOnes labelZeros rails e₁ e₀ joined put₁ put₀ rows-put = record {
   rows-are = rows-put ∙ rw (joined, e₁, e₀);
   ones-are = put₁ ∙ rw (joined, e₁, e₀);
   zeros-are = put₀ ∙ rw (joined, e₁, e₀);
+  rounds-are = rw (joined, e₁, e₀);
 }
 
 -- ---- where things stand

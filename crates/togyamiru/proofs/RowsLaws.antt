@@ -72,7 +72,7 @@ module _ (file : List ℕ) (m : CircuitRecord) (here : Accepted file m) where
       rw (here .reads, test, same-faults) record { number = refl; place = refl; faults = refl; rows-at-exit = refl }
 
   pub rows-listed : (rows : List ℕ) → m .faults ≤ length rows → (codes rows′ : List ℕ) → codes ≡ padded 2048 0 (codesOf (rowsOf (here .circuit)))
-      → rows′ ≡ over (take (m .faults) codes) rows → RowsAnswer file rows (Graded record { vectors = 0; faults = m .faults; classes = 0; found = 0 }) rows′
+      → rows′ ≡ over (take (m .faults) codes) rows → RowsAnswer file rows (Graded record { vectors = 0; faults = m .faults; classes = 0; found = 0; rounds = 0 }) rows′
   unfolding rowsAfterReading rowsBufferAfter numberIn placeIn countsIn countsOfCircuit numberOf placeOf countsOf
   rows-listed rows fits codes rows′ are put =
       let c = here .circuit in

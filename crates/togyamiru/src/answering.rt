@@ -96,12 +96,12 @@ pub fn put_numbers(all: [u64; 7], numbers: &mut [u64])
     ensures { λ _. ⌜ now (numbers .exit) ≡ over (take (length (now (numbers .entry))) all) (now (numbers .entry)) ⌝ }
 {
     let room = numbers.len();
-    let mut i: usize = 0;
-    while i < 7 {
-        if room <= i {
+    let mut n: usize = 0;
+    while n < 7 {
+        if room <= n {
             return;
         }
-        numbers[i] = all[i];
-        i += 1;
+        numbers[n] = all[n];
+        n += 1;
     }
 }

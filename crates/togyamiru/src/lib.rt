@@ -24,7 +24,7 @@ pub extern "C" fn togyamiru_grade(
 {
     let mut rows = [0u32; 1];
     let all = numbers_of(answer_to(file, false, &mut rows, matrix, classes));
-    *answer = [all[0], all[1], all[2], all[3], all[4], all[5]];
+    put_numbers(all, answer);
 }
 
 // Grades as `togyamiru_grade` does. The answer is as many numbers as there is room for: those six, then the rounds of joining.

@@ -1,5 +1,7 @@
--- `togyamiru::togyamiru_grade` meets its contract: the numbers of the answer in their order, and the buffers as grading leaves them. Assumes nothing.
+-- `togyamiru::togyamiru_grade` meets its contract: the numbers of the answer in their order, of which six have room, and the buffers as grading leaves them.
+-- Assumes nothing.
 use mathlib.Core.Path.{refl}
+use denote.Ref.{now}
 use borrow.Author.Needs.{needs}
 use Rattle.togyamiru.proofs.Numbers.{six-numbers}
 use Rattle.togyamiru.proofs.togyamiru_grade.Statement.{statement}
@@ -11,17 +13,11 @@ slice-aggregate-answer-to c = search needs
 answer-to-requires : tie.Need-answer-to-requires
 answer-to-requires c κs = search needs
 
-counts-of-requires : tie.Need-counts-of-requires
-counts-of-requires c κs = search needs
+numbers-of-requires : tie.Need-numbers-of-requires
+numbers-of-requires c κs = search needs
 
-number-of-requires : tie.Need-number-of-requires
-number-of-requires c κs = search needs
-
-cast-t15 : tie.Need-cast-t15
-cast-t15 c = search needs
-
-place-of-requires : tie.Need-place-of-requires
-place-of-requires c κs = search needs
+put-numbers-requires : tie.Need-put-numbers-requires
+put-numbers-requires c κs = search needs
 
 same-length : tie.Need-same-length
 same-length c = search needs
@@ -32,9 +28,9 @@ same-length-2 c = search needs
 returns : tie.Need-returns
 returns c =
     let numbered = c .before .before in
-    let counted = numbered .before in
-    let answered = counted .before .before .before .before .before .before in
-    six-numbers _ _ _ _ _ _ (counted .counts-of .result) (answered .answer-to .ensures .1 refl) (numbered .number-of .ensures) (c .before .place-of .ensures) (counted .counts-of .ensures)
+    let answered = numbered .before .before .before .before .before .before in
+    let start = answered .before .before .before .before .before .before .before in
+    six-numbers _ _ _ _ _ (answered .answer-to .ensures .1 refl) (numbered .numbers-of .ensures) (now (start .args .answer)) _ (c .put-numbers .ensures) (search needs)
 
 pub togyamiru-grade-spec : {M : Type 1} → statement M
 togyamiru-grade-spec =
@@ -42,10 +38,8 @@ togyamiru-grade-spec =
     (tie.spec
     slice-aggregate-answer-to
     answer-to-requires
-    counts-of-requires
-    number-of-requires
-    cast-t15
-    place-of-requires
+    numbers-of-requires
+    put-numbers-requires
     same-length
     same-length-2
     returns)

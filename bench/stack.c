@@ -14,12 +14,17 @@ static _Alignas(16) uint8_t stack[STACK];
 static uint64_t matrix[TOGYAMIRU_WORDS_A_FAULT * TOGYAMIRU_MOST_FAULTS];
 static uint16_t classes[TOGYAMIRU_MOST_FAULTS];
 static uint32_t rows[TOGYAMIRU_MOST_FAULTS];
-static uint64_t answer[TOGYAMIRU_NUMBERS];
+static uint64_t answer[TOGYAMIRU_ALL_NUMBERS];
 static struct input input;
 
 static void grade(void)
 {
     togyamiru_grade(input.file, input.length, matrix, sizeof matrix / sizeof *matrix, classes, TOGYAMIRU_MOST_FAULTS, answer);
+}
+
+static void grade_numbers(void)
+{
+    togyamiru_grade_numbers(input.file, input.length, matrix, sizeof matrix / sizeof *matrix, classes, TOGYAMIRU_MOST_FAULTS, answer, TOGYAMIRU_ALL_NUMBERS);
 }
 
 static void check(void)
@@ -61,19 +66,19 @@ static size_t depth_of(void (*function)(void))
     return depth();
 }
 
-/* Prints what both take, and says whether it is no more than the header says. */
+/* Prints what each takes, and says whether it is no more than the header says. */
 static int measure(void)
 {
-    size_t graded = depth_of(grade), listed = depth_of(list_rows);
-    printf("%-14s %8zu %8zu   refusal %2d   %s\n", input.name, graded, listed, (int)answer[TOGYAMIRU_NUMBER], input.what);
-    return graded <= TOGYAMIRU_MOST_STACK && listed <= TOGYAMIRU_MOST_STACK;
+    size_t graded = depth_of(grade), numbered = depth_of(grade_numbers), listed = depth_of(list_rows);
+    printf("%-14s %8zu %8zu %8zu   refusal %2d   %s\n", input.name, graded, numbered, listed, (int)answer[TOGYAMIRU_NUMBER], input.what);
+    return graded <= TOGYAMIRU_MOST_STACK && numbered <= TOGYAMIRU_MOST_STACK && listed <= TOGYAMIRU_MOST_STACK;
 }
 
 int main(void)
 {
     static uint8_t long_file[TOGYAMIRU_MOST_BYTES + 1];
     grade(); /* so that the loader has bound what the library calls, which takes stack too */
-    printf("stack used by togyamiru_grade and togyamiru_rows, in bytes\n");
+    printf("stack used by togyamiru_grade, togyamiru_grade_numbers and togyamiru_rows, in bytes\n");
     input = (struct input){"long", "one byte too long, refused at once", long_file, sizeof long_file};
     int within = measure();
     input = make_judged_type();

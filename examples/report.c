@@ -27,18 +27,19 @@ static void print_row(uint32_t code, unsigned class_number, const uint64_t *matr
 /* Prints the report of a file with so many faults; 2 where there is no memory. */
 static int report(size_t length, size_t faults)
 {
-    uint64_t answer[TOGYAMIRU_NUMBERS], about_rows[TOGYAMIRU_ROWS_NUMBERS];
+    uint64_t answer[TOGYAMIRU_ALL_NUMBERS], about_rows[TOGYAMIRU_ROWS_NUMBERS];
     /* one more of each, since no pointer may be null, also where there are no faults */
     uint64_t *matrix = malloc((faults + 1) * TOGYAMIRU_WORDS_A_FAULT * sizeof *matrix);
     uint16_t *classes = malloc((faults + 1) * sizeof *classes);
     uint32_t *rows = malloc((faults + 1) * sizeof *rows);
     if (matrix && classes && rows) {
-        togyamiru_grade(file, length, matrix, faults * TOGYAMIRU_WORDS_A_FAULT, classes, faults, answer);
+        togyamiru_grade_numbers(file, length, matrix, faults * TOGYAMIRU_WORDS_A_FAULT, classes, faults, answer, TOGYAMIRU_ALL_NUMBERS);
         togyamiru_rows(file, length, rows, faults, about_rows);
         printf("vectors %u faults %u classes %u found %u\n", (unsigned)answer[TOGYAMIRU_VECTORS], (unsigned)answer[TOGYAMIRU_FAULTS],
                (unsigned)answer[TOGYAMIRU_CLASSES], (unsigned)answer[TOGYAMIRU_FOUND]);
         for (size_t r = 0; r < about_rows[TOGYAMIRU_ROWS_FAULTS]; r++)
             print_row(rows[r], classes[r], matrix, r, answer[TOGYAMIRU_VECTORS]);
+        printf("rounds %u\n", (unsigned)answer[TOGYAMIRU_ROUNDS]);
     }
     int status = matrix && classes && rows ? 0 : 2;
     free(matrix);

@@ -18,7 +18,7 @@
 extern "C" {
 #endif
 
-/* The places of the six numbers of an answer. */
+/* The places of the six numbers of togyamiru_grade's answer. */
 enum {
     TOGYAMIRU_NUMBER,  /* the refusal's number, 0 where the file is graded */
     TOGYAMIRU_PLACE,   /* the refusal's place: an offset in the file; with 15 the words needed, with 22 the faults; else 0 */
@@ -27,6 +27,12 @@ enum {
     TOGYAMIRU_CLASSES,
     TOGYAMIRU_FOUND,
     TOGYAMIRU_NUMBERS
+};
+
+/* The place of the number that togyamiru_grade_numbers gives behind those six, and how many it has in all. */
+enum {
+    TOGYAMIRU_ROUNDS = TOGYAMIRU_NUMBERS, /* the rounds that joining took: the most edges between a joined node and its rail (docs/REPORT.md) */
+    TOGYAMIRU_ALL_NUMBERS
 };
 
 /* The refusal numbers. docs/FORMAT.md has each with its place and an example. */
@@ -77,6 +83,18 @@ enum {
  */
 void togyamiru_grade(const uint8_t *file, size_t file_length, uint64_t *matrix, size_t matrix_words, uint16_t *classes,
                      size_t class_entries, uint64_t answer[TOGYAMIRU_NUMBERS]);
+
+/*
+ * Grades a circuit file as togyamiru_grade does, with the same refusals and the same contents of both buffers at the end, and gives more of the answer.
+ *
+ *   numbers   number_entries numbers. As many as have room are written, from the front: the six of togyamiru_grade, then the rounds; after a refusal all but
+ *             the first two are 0. Later entries keep their contents.
+ *
+ * togyamiru_grade stays as it is for callers that were built with six numbers. Here a later version writes its new numbers behind these, so a caller lends room
+ * for as many as it knows.
+ */
+void togyamiru_grade_numbers(const uint8_t *file, size_t file_length, uint64_t *matrix, size_t matrix_words, uint16_t *classes,
+                             size_t class_entries, uint64_t *numbers, size_t number_entries);
 
 /* The places of the three numbers of an answer about rows: the first two as above, then the faults, 0 where the file is refused. */
 enum { TOGYAMIRU_ROWS_FAULTS = 2, TOGYAMIRU_ROWS_NUMBERS = 3 };

@@ -1,10 +1,16 @@
-//! Conduction in one module: which edges are on, which nodes are joined, what
-//! the output is, and whether a closed bridge makes a path from supply to ground.
+//! Conduction in one module: which edges are on, which nodes are joined and how far
+//! apart they are, what the output is, and whether a closed bridge makes a path from
+//! supply to ground.
+
+use std::collections::VecDeque;
 
 use crate::circuit::{Bridge, Channel, Edge, Kind, ModuleType, Value};
+use crate::format::HIGHEST_NODE;
 
 pub const GROUND: u8 = 0;
 pub const SUPPLY: u8 = 1;
+
+const NODES: usize = HIGHEST_NODE as usize + 1;
 
 /// The channel that an edge of tag 3 has by its ends, or none if they are equal or
 /// break the channel rule. Nodes above the highest node are refused before this is asked.
@@ -33,7 +39,7 @@ pub fn is_on(edge: &Edge, labels: &[Value]) -> bool {
 /// Nodes and the wires between them; bit b of `near[a]` is a wire from a to b.
 #[derive(Clone, Copy, Debug, Default)]
 pub struct Graph {
-    near: [u32; 32],
+    near: [u32; NODES],
 }
 
 impl Graph {
@@ -67,6 +73,25 @@ impl Graph {
             waiting = (waiting & !(1 << node)) | fresh;
         }
         false
+    }
+
+    /// The distance of each node from this one, counted in wires along a shortest
+    /// path; none if they are not joined. Nodes wait in a queue, nearer ones before
+    /// those further on, so the first path that reaches a node is a shortest one.
+    pub fn distances(&self, from: u8) -> [Option<usize>; NODES] {
+        let mut distances = [None; NODES];
+        distances[usize::from(from)] = Some(0);
+        let mut queue = VecDeque::from([(usize::from(from), 0)]);
+        while let Some((node, distance)) = queue.pop_front() {
+            for (next, reached) in distances.iter_mut().enumerate() {
+                let is_near = self.near[node] >> next & 1 == 1;
+                if is_near && reached.is_none() {
+                    *reached = Some(distance + 1);
+                    queue.push_back((next, distance + 1));
+                }
+            }
+        }
+        distances
     }
 }
 

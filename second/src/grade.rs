@@ -1,8 +1,9 @@
 //! Grading an accepted circuit: the marks of each row under each vector, the
-//! classes, the counts, and refusals 15 and 22 for lent buffers that are short.
+//! classes, the counts, the greatest distance of a node from its rail, and refusals
+//! 15 and 22 for lent buffers that are short.
 
 use crate::circuit::{Bridge, Circuit, Value};
-use crate::conduction::{conducts_with, output_value, Graph};
+use crate::conduction::{conducts_with, output_value, Graph, GROUND, SUPPLY};
 use crate::faults::faults_of;
 use crate::nets::{Nets, Point};
 use crate::read::read;
@@ -38,6 +39,9 @@ pub struct Graded {
     pub rows: Vec<Row>,
     pub classes: u16,
     pub found: usize,
+    /// The greatest distance of a node from a rail that it is joined to, in any
+    /// instance under any vector.
+    pub rounds: usize,
 }
 
 /// Grades a file into a matrix of `matrix_len` words and a class buffer of
@@ -48,8 +52,11 @@ pub fn grade(bytes: &[u8], matrix_len: usize, class_len: usize) -> Result<Graded
     let words = WORDS_A_ROW * rows.len();
     refuse_if(matrix_len < words, 15, words)?;
     refuse_if(class_len < rows.len(), 22, rows.len())?;
+    let mut rounds = 0;
     for vector in &circuit.vectors {
-        mark_rows(&circuit, vector, &mut rows);
+        let conducting = conduct(&circuit, vector);
+        mark_rows(&conducting, &mut rows);
+        rounds = rounds.max(greatest_distance(&conducting));
     }
     let classes = number_classes(&circuit, &mut rows);
     Ok(Graded {
@@ -57,6 +64,7 @@ pub fn grade(bytes: &[u8], matrix_len: usize, class_len: usize) -> Result<Graded
         found: count_found(&rows, classes),
         rows,
         classes,
+        rounds,
     })
 }
 
@@ -81,14 +89,6 @@ struct Conducting {
     labels: Vec<Value>,
 }
 
-fn mark_rows(circuit: &Circuit, vector: &[Value], rows: &mut [Row]) {
-    let conducting = conduct(circuit, vector);
-    for row in rows {
-        let Conducting { graph, labels } = &conducting[row.instance - 1];
-        row.marks.push(conducts_with(graph, &row.bridge, labels));
-    }
-}
-
 fn conduct(circuit: &Circuit, vector: &[Value]) -> Vec<Conducting> {
     let mut outputs: Vec<Value> = Vec::new();
     let mut conducting = Vec::new();
@@ -108,6 +108,25 @@ fn conduct(circuit: &Circuit, vector: &[Value]) -> Vec<Conducting> {
         conducting.push(Conducting { graph, labels });
     }
     conducting
+}
+
+fn mark_rows(conducting: &[Conducting], rows: &mut [Row]) {
+    for row in rows {
+        let Conducting { graph, labels } = &conducting[row.instance - 1];
+        row.marks.push(conducts_with(graph, &row.bridge, labels));
+    }
+}
+
+/// Instances without faults count too: a module is as deep whether it has rows or not.
+fn greatest_distance(conducting: &[Conducting]) -> usize {
+    let mut greatest = 0;
+    for Conducting { graph, .. } in conducting {
+        for rail in [GROUND, SUPPLY] {
+            let joined = graph.distances(rail).into_iter().flatten();
+            greatest = joined.fold(greatest, usize::max);
+        }
+    }
+    greatest
 }
 
 /// Rows are one class when they join the same two nets.

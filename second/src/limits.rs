@@ -1,8 +1,8 @@
 //! Files made by hand at every limit and one past it, around every range end, with
 //! pass transistors between all nodes, with types that fail under some settings only,
-//! with wires that many instances share, and with faults that meet in one field, so that
-//! two programs can be compared there. The numbers stand as in the paper and are not
-//! taken from the reader.
+//! with wires that many instances share, with nodes at every distance from their rail, and
+//! with faults that meet in one field, so that two programs can be compared there. The
+//! numbers stand as in the paper and are not taken from the reader.
 
 use std::fmt::Display;
 
@@ -21,6 +21,7 @@ mod lengths;
 mod orders;
 mod passes;
 mod references;
+mod rounds;
 mod settings;
 mod tags;
 mod type_numbers;
@@ -51,6 +52,7 @@ pub fn limit_files() -> Vec<NamedFile> {
         choices::files(),
         references::files(),
         wires::files(),
+        rounds::files(),
         vectors::files(),
         tags::files(),
         orders::files(),

@@ -12,11 +12,13 @@ use crate::format::{
 use crate::networks::Drawn;
 use crate::passes::{drawn_with_passes, renumbered, with_passes};
 use crate::random::Random;
-use crate::types::{crowded_type, full_type, gate, made_type, MOST_OLD_FIELDS};
+use crate::types::{crowded_type, full_type, gate, long_type, made_type, MOST_OLD_FIELDS};
 use crate::write::{bytes_of, fields_of, grouped, LooseField};
 
 const FULL_SIZE_EVERY: u64 = 32;
 const CROWDED_TYPE_ONE_IN: usize = 16;
+const LONG_TYPE_ONE_IN: usize = 8;
+const NEARLY_UNKNOWN_ONE_IN: usize = 10;
 /// Sizes of the lists of a full-size file; together 256 bridges, and any number
 /// of faults up to 2,048 is a sum of few of them.
 const FULL_LISTS: [usize; 9] = [128, 64, 32, 16, 8, 4, 2, 1, 1];
@@ -85,7 +87,7 @@ pub fn small_circuit(random: &mut Random) -> Made {
         let drawn = if has_passes && !random.one_in(3) {
             passing_type(random)
         } else {
-            small_or_crowded_type(random)
+            any_type(random)
         };
         made.add_type(drawn);
     }
@@ -104,12 +106,17 @@ pub fn small_circuit(random: &mut Random) -> Made {
     choose_lists(random, circuit);
     let vectors = vector_count(random);
     add_vectors(random, circuit, vectors);
+    if random.one_in(NEARLY_UNKNOWN_ONE_IN) {
+        make_unknown(random, &mut circuit.vectors);
+    }
     made
 }
 
-/// Now and then a type with more edges than a type once had fields.
-fn small_or_crowded_type(random: &mut Random) -> Drawn {
-    if random.one_in(CROWDED_TYPE_ONE_IN) {
+/// Now and then a type with long series, or with more edges than a type once had fields.
+fn any_type(random: &mut Random) -> Drawn {
+    if random.one_in(LONG_TYPE_ONE_IN) {
+        long_type(random)
+    } else if random.one_in(CROWDED_TYPE_ONE_IN) {
         let edges = random.between(MOST_OLD_FIELDS + 1, MOST_EDGES);
         crowded_type(random, edges)
     } else {
@@ -122,11 +129,11 @@ fn small_or_crowded_type(random: &mut Random) -> Drawn {
 fn passing_type(random: &mut Random) -> Drawn {
     match random.below(4) {
         0 => {
-            let drawn = small_or_crowded_type(random);
+            let drawn = any_type(random);
             with_passes(random, drawn)
         }
         1 => {
-            let drawn = small_or_crowded_type(random);
+            let drawn = any_type(random);
             renumbered(random, drawn)
         }
         _ => drawn_with_passes(random),
@@ -180,11 +187,16 @@ fn filled(random: &mut Random, inputs: usize, full: fn(&mut Random) -> Drawn) ->
     made
 }
 
-/// A chain 128 deep of simple gates, so that values come through to its end.
+/// A chain 128 deep of simple gates, some with long series, so that values come through
+/// to its end.
 fn deep_circuit(random: &mut Random) -> Made {
     let mut made = Made::of_inputs(random.between(1, 6));
     for _ in 0..random.between(1, 3) {
-        let drawn = gate(random);
+        let drawn = if random.one_in(3) {
+            long_type(random)
+        } else {
+            gate(random)
+        };
         made.add_type(if random.one_in(2) {
             renumbered(random, drawn)
         } else {
@@ -385,5 +397,21 @@ fn add_vectors(random: &mut Random, circuit: &mut Circuit, count: usize) {
             })
             .collect();
         circuit.vectors.push(vector);
+    }
+}
+
+/// Leaves none of the vectors as it was, or one, or those from some place on, so that no
+/// other joins a node to a rail.
+fn make_unknown(random: &mut Random, vectors: &mut [Vec<Value>]) {
+    let place = random.below(vectors.len());
+    let kept = match random.below(3) {
+        0 => 0..0,
+        1 => place..place + 1,
+        _ => place..vectors.len(),
+    };
+    for (place, vector) in vectors.iter_mut().enumerate() {
+        if !kept.contains(&place) {
+            vector.fill(Value::X);
+        }
     }
 }

@@ -215,6 +215,21 @@ impl Sketch {
         }
     }
 
+    /// Draws the edges of one group out into a series through up to this many new nodes.
+    /// Each stretch of it is on where the group was, so the same ends stay joined.
+    pub fn draw_out(&mut self, random: &mut Random, nodes: usize) {
+        let chosen = random.below(self.groups.len());
+        for _ in 0..nodes {
+            let ([from, to], labels) = self.groups[chosen].clone();
+            if !self.has_free_node() || self.edges() + labels.len() > MOST_EDGES {
+                return;
+            }
+            let middle = self.add_inner(channel_of([from, to]));
+            self.groups[chosen].0 = [from, middle];
+            self.groups.push(([middle, to], labels));
+        }
+    }
+
     /// Adds a node that no edge reaches.
     pub fn add_idle_node(&mut self, random: &mut Random) {
         if self.has_free_node() {

@@ -1,6 +1,6 @@
 //! Types with pass transistors: networks of both channels, multiplexers of what such
-//! networks drive, gates that are always or never on, and types of any kind in which
-//! the numbers of the nodes do not tell the channels.
+//! networks drive, gates that are always or never on, long rows of them, and types of
+//! any kind in which the numbers of the nodes do not tell the channels.
 
 use crate::circuit::{Channel, Edge, ModuleType};
 use crate::conduction::{channel, is_complementary, GROUND, SUPPLY};
@@ -13,6 +13,7 @@ const OUTPUT: u8 = 2;
 /// Trials judge many types, so their settings are kept few.
 const MOST_TRIED_LABELS: u8 = 6;
 const TRIALS: usize = 12;
+const LENGTHENED_ONE_IN: usize = 8;
 
 /// A transistor not yet laid.
 #[derive(Clone, Copy)]
@@ -127,13 +128,26 @@ impl Plan {
     }
 
     /// Puts a gate into one end of an edge: both channels at one label, so one is on.
-    fn split(&mut self, random: &mut Random) {
-        let (edge, end) = (random.below(self.edges.len()), random.below(2));
+    fn split(&mut self, random: &mut Random, edge: usize) {
+        let end = random.below(2);
         let (old, new) = (self.edges[edge].ends[end], self.add_node());
         self.edges[edge].ends[end] = new;
         let switch = self.any_switch(random);
         self.add([old, new], switch);
         self.add([new, old], switch.turned());
+    }
+
+    /// Puts gates into one edge, as many as there is room for, so that a path is long.
+    fn lengthen(&mut self, random: &mut Random) {
+        let chosen = random.below(self.edges.len());
+        for _ in 0..random.between(1, usize::from(HIGHEST_NODE)) {
+            let before = self.clone();
+            self.split(random, chosen);
+            if !self.has_room() {
+                *self = before;
+                return;
+            }
+        }
     }
 
     /// Both channels at one label in series, between any two nodes: never on.
@@ -153,11 +167,12 @@ impl Plan {
 
     fn decorate(&mut self, random: &mut Random) {
         let before = self.clone();
+        let chosen = random.below(self.edges.len());
         match random.below(5) {
-            0 => self.split(random),
+            0 => self.split(random, chosen),
             1 => self.add_never(random),
             2 => self.add_branch(random),
-            3 => self.edges.push(random.pick(&before.edges)),
+            3 => self.edges.push(before.edges[chosen]),
             _ => {
                 self.add_node();
             }
@@ -197,6 +212,9 @@ pub fn drawn_with_passes(random: &mut Random) -> Drawn {
     }
     if plan.labels <= MOST_TRIED_LABELS && random.one_in(2) {
         plan.try_edges(random);
+    }
+    if random.one_in(LENGTHENED_ONE_IN) {
+        plan.lengthen(random);
     }
     random.shuffle(&mut plan.edges);
     for edge in &mut plan.edges {

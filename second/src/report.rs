@@ -1,5 +1,5 @@
-//! The report of a grading, byte for byte: a first line and a line for each row,
-//! or the one line of a refusal.
+//! The report of a grading, byte for byte: a first line, a line for each row and a last
+//! line with the rounds, or the one line of a refusal.
 
 use crate::format::MOST_FAULTS;
 use crate::grade::{grade, Graded, Row, WORDS_A_ROW};
@@ -20,6 +20,7 @@ pub fn report(answer: &Result<Graded, Refusal>) -> String {
 fn lines(graded: &Graded) -> Vec<String> {
     let mut lines = vec![counts_line(graded)];
     lines.extend(graded.rows.iter().map(row_line));
+    lines.push(format!("rounds {}\n", graded.rounds));
     lines
 }
 

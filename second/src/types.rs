@@ -1,6 +1,7 @@
 //! Recipes for complementary module types: series-parallel ones with their
 //! duals, bridge networks, mirror adders, cut networks and types found by search;
-//! and full ones, by the limits of old files and by those of today.
+//! ones with long series; and full ones, by the limits of old files and by those of
+//! today.
 
 use crate::circuit::{Channel, ModuleType};
 use crate::conduction::is_complementary;
@@ -41,6 +42,21 @@ pub fn gate(random: &mut Random) -> Drawn {
 
 pub fn gate_type(random: &mut Random) -> ModuleType {
     gate(random).module
+}
+
+/// A type with one or two long series, up to one through all nodes that there may be.
+/// Few leaves have few labels, so most vectors turn some series on as a whole.
+pub fn long_type(random: &mut Random) -> Drawn {
+    let leaves = random.pick(&[1, 1, 2, 3, 6, 12]);
+    let mut sketch = series_parallel(random, leaves, MOST_LABELS);
+    for _ in 0..random.below(3) {
+        decorate(random, &mut sketch);
+    }
+    for _ in 0..random.between(1, 2) {
+        let nodes = random.between(1, usize::from(HIGHEST_NODE));
+        sketch.draw_out(random, nodes);
+    }
+    sketch.numbered(random)
 }
 
 /// A type with 64 groups of edges and, as far as the nodes reach, the highest node 31.

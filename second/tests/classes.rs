@@ -22,6 +22,7 @@ fn an_output_and_the_input_that_it_feeds() {
 vectors 4 faults 2 classes 1 found 1
 1 n 0 2 1 1010 2 1
 2 i 0 1 1 1010 2 1
+rounds 1
 ";
     assert_eq!(report_of(&file.bytes), expected);
 }
@@ -48,6 +49,7 @@ vectors 3 faults 12 classes 9 found 9
 2 i 0 0 2 100 1 1
 2 i 1 0 3 010 1 2
 2 i 2 0 9 110 2 1
+rounds 1
 ";
     assert_eq!(report_of(&file.bytes), expected);
 }
@@ -73,6 +75,7 @@ vectors 3 faults 12 classes 9 found 9
 2 i 0 0 4 010 1 2
 2 i 1 0 5 100 1 1
 2 i 2 0 9 110 2 1
+rounds 1
 ";
     assert_eq!(report_of(&file.bytes), expected);
 }
@@ -102,6 +105,7 @@ vectors 4 faults 10 classes 8 found 8
 2 n 2 3 6 0100 1 2
 2 n 2 0 7 1110 3 1
 2 i 3 1 8 0111 3 2
+rounds 2
 ";
     assert_eq!(report_of(&file.bytes), expected);
 }
@@ -125,6 +129,7 @@ vectors 2 faults 4 classes 1 found 1
 2 n 1 0 1 11 2 1
 3 n 0 1 1 11 2 1
 4 n 1 0 1 11 2 1
+rounds 1
 ";
     assert_eq!(report_of(&file.bytes), expected);
 }
@@ -157,6 +162,7 @@ vectors 2 faults 8 classes 3 found 3
 2 i 0 1 1 10 1 1
 2 i 2 1 3 11 2 1
 2 i 2 0 3 11 2 1
+rounds 2
 ";
     assert_eq!(report_of(&file.bytes), expected);
 }
@@ -187,6 +193,7 @@ vectors 3 faults 8 classes 6 found 6
 3 i 0 0 3 111 3 1
 3 n 0 2 5 110 2 1
 3 n 0 3 6 110 2 1
+rounds 2
 ";
     assert_eq!(report_of(&file.bytes), expected);
 }
@@ -210,6 +217,7 @@ vectors 2 faults 4 classes 4 found 3
 2 i 0 1 2 10 1 1
 2 i 3 0 3 00 0 0
 2 i 3 1 4 11 2 1
+rounds 2
 ";
     assert_eq!(report_of(&file.bytes), expected);
 }
@@ -246,6 +254,7 @@ vectors 2 faults 12 classes 7 found 7
 6 n 0 2 6 10 1 1
 6 n 1 2 7 01 1 2
 6 n 0 1 5 11 2 1
+rounds 1
 ";
     assert_eq!(report_of(&file.bytes), expected);
 }

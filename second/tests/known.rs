@@ -28,6 +28,7 @@ vectors 3 faults 6 classes 6 found 6
 1 i 0 0 4 010 1 2
 1 i 1 0 5 100 1 1
 1 i 2 0 6 110 2 1
+rounds 1
 ";
 
 fn bytes_from_hex(text: &str) -> Vec<u8> {
@@ -222,17 +223,18 @@ vectors 2 faults 5 classes 3 found 2
 1 n 2 3 1 00 0 0
 1 i 2 0 2 11 2 1
 2 n 0 1 3 11 2 1
+rounds 2
 ";
     assert_eq!(report(&answer(&file.bytes)), expected);
 }
 
 #[test]
-fn no_faults_is_a_first_line_alone() {
+fn no_faults_is_a_first_line_and_the_rounds() {
     let file = FileBuilder::inputs(1)
         .inverter()
         .instance(1, 0, &[1])
         .vectors(&["X", "0"]);
-    let graded = answer(&file.bytes);
-    assert_eq!(report(&graded), "vectors 2 faults 0 classes 0 found 0\n");
+    let expected = "vectors 2 faults 0 classes 0 found 0\nrounds 1\n";
+    assert_eq!(report(&answer(&file.bytes)), expected);
     assert!(second::grade::grade(&file.bytes, 0, 0).is_ok());
 }

@@ -218,8 +218,8 @@ fn files_are_the_same_everywhere() {
             (sum ^ u64::from(byte)).wrapping_mul(0x100_0000_01b3)
         })
     };
-    assert_eq!(checksum(made_file), 0xb01d_f9d0_155f_45bb);
-    assert_eq!(checksum(damaged_file), 0x81b9_a5df_d193_7554);
+    assert_eq!(checksum(made_file), 0xe239_f7c9_dfec_fafb);
+    assert_eq!(checksum(damaged_file), 0x3b72_165a_77a9_9c34);
 }
 
 /// In an exhaustive list the bridges to the rails show which nodes and labels are

@@ -25,6 +25,7 @@ vectors 3 faults 6 classes 6 found 5
 1 i 0 0 4 010 1 2
 1 i 1 0 5 100 1 1
 1 i 2 0 6 000 0 0
+rounds 1
 ";
 
 #[test]

@@ -12,6 +12,7 @@ use second::samples::sample_files;
 use second::show::show_of;
 use second::starts::nand_under;
 use second::write::{bytes_of, fields_of};
+use support::distances::greatest;
 use support::{answer, digits, sample_file, Accepted};
 
 fn first_line(name: &str) -> String {
@@ -25,6 +26,41 @@ fn graded(name: &str) -> Graded {
 
 fn circuit(name: &str) -> Circuit {
     read(&sample_file(name)).expect("samples are accepted")
+}
+
+/// The greatest distance of a node from its rail, by hand; the full-size sample is too
+/// large for that. Of a NAND it is 2 under 10, where node 3 is behind the output, and
+/// under 11, where the output is behind node 3; else it is 1, or 0 under 1X and XX, where
+/// nothing is joined to a rail. The labels in `reconvergent` are 10 where the input is 1.
+///
+/// In the multiplexer the output is behind node 2 or node 3. In the adder it is the sum
+/// under 000: supply, nodes 2 to 5, then node 6 since the carry's complement is 1.
+const ROUNDS: [(&str, usize); 16] = [
+    ("inverter", 1),
+    ("nand", 2),
+    ("grouped", 2),
+    ("reconvergent", 2),
+    ("both_ends", 2),
+    ("floating", 2),
+    ("tied", 2),
+    ("driven", 2),
+    ("unfixed", 1),
+    ("guessed", 2),
+    ("outputs", 2),
+    ("nor", 2),
+    ("repeated", 2),
+    ("fillings", 2),
+    ("mux", 2),
+    ("adder", 5),
+];
+
+#[test]
+fn rounds() {
+    for (name, rounds) in ROUNDS {
+        assert_eq!(graded(name).rounds, rounds, "{name}");
+    }
+    assert_eq!(graded("full").rounds, greatest(&circuit("full")));
+    assert_eq!(sample_files().len(), ROUNDS.len() + 1);
 }
 
 fn document(name: &str) -> String {
@@ -319,6 +355,7 @@ vectors 10 faults 25 classes 25 found 24
 1 i 4 0 23 0111110110 7 2
 1 i 4 1 24 0100000100 2 2
 1 i 4 2 25 0010011100 4 3
+rounds 2
 ";
 
 const MUX_SHOWN: &str = "\

@@ -154,6 +154,7 @@ int main(void)
     test_inverter();
     test_full();
     test_refusals();
+    test_numbers();
     test_rows();
     test_words();
     printf("%d passed, %d failed\n", passed, failed);

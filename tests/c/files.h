@@ -17,7 +17,8 @@ void expect(int holds, const char *what);
 void inverter(void);
 void full(void);
 
-/* The tests of the other files: what the rows are; the refusals in words. */
+/* The tests of the other files: what the numbers and the rows are; the refusals in words. */
+void test_numbers(void);
 void test_rows(void);
 void test_words(void);
 

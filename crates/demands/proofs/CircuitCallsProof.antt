@@ -8,7 +8,7 @@ use Rattle.grading.specs.CircuitPromise.{PromiseOfCircuit}
 use Rattle.grading.proofs.PromiseLaws.{circuit-promise-is-files}
 use Rattle.demands.specs.CircuitCalls.{CircuitCall, onFile, CircuitGraded, CircuitIsGradedAsFile, CircuitAnswersAsFile, GradeCircuitIsKept}
 use Rattle.demands.specs.CircuitCalls.{CircuitsMeetTwo, CircuitColumnIsOfItsVector, CircuitsMeetThree}
-use Rattle.demands.proofs.Gave.{Gave, gave-of-circuit}
+use Rattle.demands.proofs.Gave.{Gave, gave-of-circuit, rounds-given}
 use Rattle.demands.proofs.OneProof.{rest-kept}
 use Rattle.demands.proofs.Cells.{cells-tell}
 use Rattle.demands.proofs.Columns.{same-column}
@@ -34,7 +34,7 @@ gave-there call c given = gave-of-circuit (onFile [] call) c (given .good) (give
 pub circuits-meet-two : CircuitsMeetTwo
 circuits-meet-two call c given =
     let here = gave-there call c given in
-    record { cells = cells-tell _ c here; classes = classes-tell _ c here; rest = rest-kept _ c here }
+    record { cells = cells-tell _ c here; classes = classes-tell _ c here; rounds = rounds-given _ c here; rest = rest-kept _ c here }
 
 pub circuit-column-is-of-its-vector : CircuitColumnIsOfItsVector
 circuit-column-is-of-its-vector one other c d given given′ = same-column _ _ c d (gave-there one c given) (gave-there other d given′)

@@ -3,14 +3,14 @@
 use Prim.Native.Nat.{ℕ}
 use mathlib.Core.List.{List}
 use lib.ListN.{replicate}
-use Rattle.words.specs.Bits.{bit, pack, word, sumTo}
+use Rattle.words.specs.Bits.{bit, pack, word, sumTo, greatestTo}
 use Rattle.words.specs.Tables.{table, upTo}
 use Rattle.words.specs.Rows.{rowOf}
 use Rattle.switch.specs.Conduction.{channelBit, channelBy, between, pEnds, nEnd, nEnds, badEnds, channelOf, transistorOn, edgesFor, edgeOn, links}
-use Rattle.switch.specs.Modules.{allOf, typeInRange, edgeInRange, linksOf, valueOfBit, settingOf}
+use Rattle.switch.specs.Modules.{allOf, anyOf, typeInRange, edgeInRange, linksOf, valueOfBit, settingOf}
 use Rattle.switch.specs.Bridges.{toLabel, closing}
-use Rattle.switch.specs.Modules.{anyOf}
 use Rattle.switch.specs.Deciding.{rename, partIn, renamings, joins, allBelow, oneRail, isComplementary, levelIn, isMarked}
+use Rattle.switch.specs.Depth.{isAmong, handedOver, nextNodes, nodesWithin, allJoinedAmong, reachesAll, leastFrom, depth, deepest}
 use Rattle.circuit.specs.Fields.{twoBytes, cutIn, cutFrom}
 use Rattle.circuit.specs.Circuit.{Circuit, numbered, joinLists, nodePairs, nodeInputs, exhaustiveList, exhaustiveSize, userList, chosen, chosenSize, faultsOf, faultCount}
 use Rattle.circuit.specs.Numbers.{signed, choiceOf, choiceInRange, referenceOf, referenceGood}
@@ -24,6 +24,7 @@ use Rattle.grading.specs.Values.{valueAt, labelValues, outputsAfter, outputsOf}
 use Rattle.grading.specs.Rows.{rowsOfInstance, rowsFrom, rowsOf, rowValues, cell, markOf, rowWords, matrixOf}
 use Rattle.grading.specs.Wires.{nodeWire, referenceWire, labelWire, wireAt, carried, leaks}
 use Rattle.grading.specs.Classes.{wireSort, wireOwner, wireNode, sameWire, samePair, sameClass, classAmongBy, largest, classesAfterBy, classesBy, hasMarkBy, classFoundBy, foundBy, foundCount}
+use Rattle.grading.specs.Rounds.{typeAt, valuesAt, linksAt, instanceRounds, roundsOf}
 use Rattle.grading.specs.Grading.{countsOfCircuit, gradingOfCircuit, afterReading, gradingOf, countsIn, numberIn, placeIn, over, buffersAfter}
 use Rattle.grading.specs.Promise as promise
 use Rattle.circuit.specs.Refusals.{refusalNumber}
@@ -31,12 +32,13 @@ use Rattle.demands.specs.Graders.{refusalOf, refusing, outcomeOf, grades
 
 -- to unfold a definition is to unfold what its line names
 unfoldable pub computing : Unit {0}
-unfolding bit pack word sumTo table upTo rowOf choiceByte
+unfolding bit pack word sumTo greatestTo table upTo rowOf choiceByte
     channelBit channelBy between pEnds nEnd nEnds badEnds channelOf transistorOn edgesFor edgeOn links allOf anyOf typeInRange edgeInRange linksOf valueOfBit settingOf
-    toLabel closing rename partIn renamings joins allBelow oneRail isComplementary levelIn isMarked
+    toLabel closing rename partIn renamings joins allBelow oneRail isComplementary levelIn isMarked isAmong handedOver nextNodes nodesWithin allJoinedAmong reachesAll leastFrom depth deepest
     twoBytes cutIn cutFrom numbered joinLists nodePairs nodeInputs exhaustiveList exhaustiveSize userList chosen chosenSize faultsOf faultCount
     signed choiceOf choiceInRange referenceOf referenceGood
     tagOf isKind isEdge mayFollow typeIn edgesTold edgesIn bridgeOf listedIn referencesIn instanceIn letterOf vectorIn latest withEdges edgesAdded taken typeAtAfter knownAfter
+    typeAt valuesAt linksAt instanceRounds roundsOf
     firstOf unjudged notComplementary bridgeGood listedGood bridgeInRange bridgeSuits isEmpty listUnsuited listEmpty isLetter edgesInRange passInRange
     inputsTests typeTests edgeTestsOf edgeTests bridgeTests instanceTests instanceTestsOf vectorTests bodyTests fieldTests endTests
     unless readFrom readingWith valueAt labelValues outputsAfter outputsOf rowsOfInstance rowsFrom rowsOf rowValues cell markOf rowWords matrixOf

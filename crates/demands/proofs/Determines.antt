@@ -7,11 +7,13 @@ use mathlib.Core.List.{List}
 use lib.Dec.{T}
 use lib.ListN.{length, drop}
 use Rattle.switch.specs.Modules.{allOf}
+use Rattle.switch.proofs.Depths.{one-greatest}
 use Rattle.circuit.specs.Circuit.{Circuit}
 use Rattle.circuit.specs.Table.{Test}
 use Rattle.circuit.specs.Reading.{readingOf}
 use Rattle.grading.specs.Buffers.{Buffers, Room, roomOf}
 use Rattle.grading.specs.Rows.{rowsOf}
+use Rattle.grading.specs.Rounds.{DistanceIn}
 use Rattle.grading.specs.Grading.{Counts}
 use Rattle.grading.specs.Promise.{isGraded, numberOf, placeOf, countsOf}
 use Rattle.grading.proofs.PromiseLaws.{same-buffers}
@@ -22,6 +24,7 @@ use Rattle.demands.specs.Graders.{called, rightly}
 use Rattle.demands.specs.Determined.{MeetsDemands, DemandsLeaveOneOutcome, DemandsAreThePromise}
 use Rattle.demands.proofs.GradingVerdicts.{graded-is, refuses-is}
 use Rattle.demands.proofs.OneProof.{one-holds, grading-keeps-the-rest}
+use Rattle.demands.proofs.Gave.{gave, rounds-given}
 use Rattle.demands.proofs.Outcomes.{same-answer}
 use Rattle.demands.proofs.Cells.{cell-is-path}
 use Rattle.demands.proofs.ClassCounts.{classes-count-once}
@@ -29,8 +32,10 @@ use Rattle.demands.proofs.RightProof.{rightly-is-right}
 use Rattle.demands.proofs.CellsAgree.{same-lists, RowsAreWords, same-mark, same-word, kept-words}
 use Rattle.demands.proofs.ClassesAgree.{same-class, same-count, same-found}
 
-all-counts : (a b : Counts) → a .vectors ≡ b .vectors → a .faults ≡ b .faults → a .classes ≡ b .classes → a .found ≡ b .found → a ≡ b
-all-counts a b vectors faults classes found = λ i. record { vectors = vectors i; faults = faults i; classes = classes i; found = found i }
+all-counts : (a b : Counts)
+    → a .vectors ≡ b .vectors → a .faults ≡ b .faults → a .classes ≡ b .classes → a .found ≡ b .found → a .rounds ≡ b .rounds → a ≡ b
+all-counts a b vectors faults classes found rounds =
+    λ i. record { vectors = vectors i; faults = faults i; classes = classes i; found = found i; rounds = rounds i }
 
 -- where a call graded, the words of its rows have 64 bits
 abbrev WordsGiven : Call → Type 0
@@ -84,6 +89,7 @@ module _ (one other : Call) (meets : MeetsDemands one) (meets′ : MeetsDemands 
         (numbers .faults ∙ sym (numbers′ .faults))
         (same-count one other c numbers numbers′)
         (same-found one other c numbers numbers′ (same-mark one other c cells cells′))
+        (one-greatest (DistanceIn c) _ _ (meets .rounds c accepts g) (meets′ .rounds c accepts′ g′))
 
     -- as long at exit as each other
     as-long : roomOf (one .after) ≡ roomOf (other .after)
@@ -150,6 +156,7 @@ kept-meets call kept = record {
   one = one-holds call kept;
   cells = λ c e g. cell-is-path call c (as-graded call kept c e g);
   classes = λ c e g. classes-count-once call c (as-graded call kept c e g);
+  rounds = λ c e g. rounds-given call c (gave call c (as-graded call kept c e g));
   rest = λ c e g. grading-keeps-the-rest call c (as-graded call kept c e g);
 }
 

@@ -14,6 +14,7 @@ use Rattle.circuit.proofs.CircuitLaws.{accepted-is-good}
 use Rattle.grading.specs.Buffers.{roomOf}
 use Rattle.grading.specs.Rows.{rowsOf, matrixOf}
 use Rattle.grading.specs.Classes.{classesOf, classCount, foundCount}
+use Rattle.grading.specs.Rounds.{roundsOf}
 use Rattle.grading.specs.Grading.{Grading, graded, refused, gradingOf, gradingOfCircuit, afterReading, over, countsIn, numberIn, buffersAfter}
 use Rattle.grading.specs.Grading as grading
 use Rattle.grading.specs.Promise.{isGraded, numberOf, countsOf, AnswersAs}
@@ -21,8 +22,10 @@ use Rattle.grading.specs.declared.Answer.{Answer}
 use Rattle.grading.specs.declared.Answer.the-variants.{Graded, Refused, ShortMatrix, ShortClasses}
 use Rattle.grading.proofs.PromiseLaws.{matrix-at-exit, classes-at-exit}
 use Rattle.grade_classes.proofs.FoundMeaning.{numbers-are}
+use Rattle.grading.proofs.RoundLaws.{rounds-tell}
 use Rattle.demands.specs.Calls.{Call, GradedAs, classAt}
 use Rattle.demands.specs.One.{AnswerFits}
+use Rattle.demands.specs.Rounds.{RoundsTold}
 
 pub record Gave (call : Call) (c : Circuit) : Type 0 where
   pub good : CircuitGood c
@@ -85,6 +88,13 @@ module _ (call : Call) (c : Circuit) (here : Gave call c) where
   pub found-counted : countsOf (call .answer) .found ≡ foundCount c
   unfolding grading.countsOfCircuit
   found-counted = ap (λ (counts : grading.Counts). counts .found) (here .counts-are)
+
+  pub rounds-counted : countsOf (call .answer) .rounds ≡ roundsOf c
+  unfolding grading.countsOfCircuit
+  rounds-counted = ap (λ (counts : grading.Counts). counts .rounds) (here .counts-are)
+
+  pub rounds-given : RoundsTold call c
+  rounds-given = rw rounds-counted (rounds-tell .greatest c (here .good))
 
   pub class-is : (r : ℕ) → r < length (rowsOf c) → classAt (call .after .classes) r ≡ getD (classesOf (rowsOf c)) r 0
   unfolding classAt over

@@ -7,22 +7,26 @@ use lib.Dec.{T}
 use lib.ListN.{length, getD, List·getD-map}
 use Rattle.words.specs.Bits.{ofBool}
 use Rattle.words.specs.Rows.{rowOf}
+use Rattle.words.proofs.Greatest.{greatest-cong}
 use Rattle.switch.specs.Conduction.{Value, Edge, Switching, byValues, links, Link, Among, ground, supply}
 use Rattle.switch.specs.Modules.{ModuleType, linksOf, settingOf}
 use Rattle.switch.specs.Bridges.{closing}
 use Rattle.switch.specs.Deciding.{joins, allBelow, oneRail, isComplementary, levelIn, isMarked}
+use Rattle.switch.specs.Depth.{deepest}
 use Rattle.switch.specs.Grouped.{Group, groupLinks, ofGroups}
 use Rattle.switch.proofs.Paths.{more-links}
 use Rattle.switch.proofs.Deciding.{joins-decides}
 use Rattle.switch.proofs.Groups.{groups-link-alike, beside}
+use Rattle.switch.proofs.Depths.{deepest-same}
 use Rattle.circuit.specs.Circuit.{Circuit, Instance, numbered, noType, typeOfInstance}
 use Rattle.grading.specs.Values.{labelValues, outputsAfter, outputsOf}
 use Rattle.grading.specs.Rows.{Row, noInstance, rowsOf, rowValues, cell, markOf}
 use Rattle.grading.specs.Classes.{sameClass, classesBy, hasMarkBy, classFoundBy, foundBy}
+use Rattle.grading.specs.Rounds.{typeAt, valuesAt, linksAt, instanceRounds, roundsOf}
 use Rattle.grading.proofs.Everywhere.{Every}
 use Rattle.grading.proofs.RowsPlaced.{rows-placed}
 use Rattle.demands.specs.Graders.{workBy, rightWork}
-use Rattle.demands.specs.SingleTransistors.{groupsComplementary, instanceLinks, groupsOutputs, groupsMark, groupsWork}
+use Rattle.demands.specs.SingleTransistors.{groupsComplementary, instanceLinks, groupsOutputs, groupsMark, groupsRounds, groupsWork}
 
 -- ---- what is joined
 
@@ -108,6 +112,18 @@ module _ (c : Circuit) (groups : List (List Group)) (aligned : Aligned (c .types
   unfolding rowsOf
   marks-alike row m = mark-alike row (rows-placed (c .types) (c .bridges) noInstance 1 (c .instances) row m .type-is)
 
+  -- the groups of an instance link what its edges link, so that distances are the same
+  rounds-alike : groupsRounds groups c ≡ roundsOf c
+  unfolding groupsRounds roundsOf instanceRounds linksAt typeAt valuesAt outputsOf instanceLinks linksOf
+  rounds-alike =
+      greatest-cong (length (c .instances)) _ (instanceRounds c) (λ i h.
+      greatest-cong (length (c .vectors)) _ (λ (v : ℕ). deepest (linksAt c i v)) (λ v k.
+      let inst = getD (c .instances) i noInstance in
+      let vector = getD (c .vectors) v [] in
+      let values = labelValues vector (outputsAfter (c .types) vector [] (c .instances)) inst in
+      rw (outputs-alike (c .types) groups aligned vector [] (c .instances), edges-of (c .types) groups aligned (inst .type))
+      (deepest-same _ _ (groups-link-alike .same-links (byValues values) (numbered groups (inst .type) [])))))
+
 -- rows with equal marks have equal words, and their classes are found alike
 module _ (marks others : Row → ℕ → ℕ) where
   words-alike : (n : ℕ) (rows : List Row) → Every (λ (row : Row). marks row ≡ others row) rows
@@ -132,4 +148,4 @@ work-alike c groups aligned =
     let by-edges : ℕ → ℕ = λ class. ofBool (classFoundBy n (markOf c) (suc class) (rowsOf c) classes) in
     let found : by-groups ≡ by-edges =
     fun-ext (λ class. ap ofBool (found-alike (groupsMark groups c) (markOf c) n (suc class) (rowsOf c) classes same)) in
-    rw (words-alike (groupsMark groups c) (markOf c) n (rowsOf c) same, found)
+    rw (words-alike (groupsMark groups c) (markOf c) n (rowsOf c) same, found, rounds-alike c groups aligned)

@@ -11,7 +11,7 @@
 --   channels      PassTransistorsProof, TagsGraded, PassesBefore; by computing WrongPasses
 --   contracts     ContractsProof, CircuitCallsProof, StepsOnce, CanBeMet, UniqueProof, MetProof
 --   all of them   AllProofs
---   by computing  KnownProof, PassKnownProof, WrongProof, BreaksProof; MeetsProof, what the demands do not break
+--   by computing  KnownProof, PassKnownProof, RoundsKnownProof, WrongProof, BreaksProof; MeetsProof, what the demands do not break
 pub mod Gave
 pub mod Verdicts
 pub mod GradingVerdicts
@@ -46,6 +46,7 @@ pub mod Computing
 pub mod RightProof
 pub mod KnownProof
 pub mod PassKnownProof
+pub mod RoundsKnownProof
 pub mod NoConverseProof
 pub mod WrongProof
 pub mod BreaksProof

@@ -39,7 +39,7 @@ most (TooManyFaults at) = omega arith
 most (Unfinished at) = omega arith
 
 pub same-counts : (r s : CountsRecord) → countsMeant r ≡ countsMeant s → r ≡ s
-same-counts r s e = λ i. record { vectors = e i .vectors; faults = e i .faults; classes = e i .classes; found = e i .found }
+same-counts r s e = λ i. record { vectors = e i .vectors; faults = e i .faults; classes = e i .classes; found = e i .found; rounds = e i .rounds }
 
 same-number : {n p m q : ℕ} → refusedAt n p ≡ refusedAt m q → n ≡ m
 same-number e = cc

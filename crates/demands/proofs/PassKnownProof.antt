@@ -5,7 +5,7 @@ use Rattle.words.specs.Rows.{markAt, marksOf, firstMarkOf}
 use Rattle.print_lines.specs.Decimal.{digitsOf, lengthIn, decimal}
 use Rattle.print_lines.specs.Lines.{refusalLine}
 use Rattle.grading.specs.Codes.{kindOf, firstEnd, secondEnd, codeOf}
-use Rattle.print_report.specs.Lines.{firstLine, kindLetter, digitsOfMarks, rowLine}
+use Rattle.print_report.specs.Lines.{firstLine, kindLetter, digitsOfMarks, rowLine, roundsLine}
 use Rattle.demands.specs.Calls.{cellAt}
 use Rattle.print_report.specs.Report.{lineOf, rowLines, countsLine, reportLines, reportOf}
 use Rattle.demands.specs.Claims.{marksFrom, marksIn, floatsUnder, floatsOf, floatsIn, Holds, AllHold, no-more, _and_}
@@ -14,7 +14,7 @@ use Rattle.demands.proofs.Computing.{computing}
 
 pass-results : AllHold passResults
 unfolding computing kindOf firstEnd secondEnd codeOf cellAt marksFrom marksIn floatsUnder floatsOf floatsIn Holds
-    firstTo markAt marksOf firstMarkOf digitsOf lengthIn decimal firstLine kindLetter digitsOfMarks rowLine refusalLine
+    firstTo markAt marksOf firstMarkOf digitsOf lengthIn decimal firstLine kindLetter digitsOfMarks rowLine roundsLine refusalLine
     lineOf rowLines countsLine reportLines reportOf
 pass-results =
     refl and refl and refl and refl and refl and refl and refl and refl and refl and refl and refl and refl and refl and refl and refl and refl and no-more

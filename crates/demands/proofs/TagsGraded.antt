@@ -8,10 +8,12 @@ use lib.Dec.{ltb}
 use lib.ListN.{length, getD, length-map, List·getD-map}
 use Rattle.words.specs.Bits.{ofBool}
 use Rattle.words.specs.Rows.{rowOf}
+use Rattle.words.proofs.Greatest.{greatest-cong}
 use Rattle.switch.specs.Conduction.{Value, byValues, Link, ground, supply}
 use Rattle.switch.specs.Modules.{ModuleType, linksOf}
 use Rattle.switch.specs.Bridges.{Bridge, nodes, input, closing}
 use Rattle.switch.specs.Deciding.{joins, levelIn, isMarked}
+use Rattle.switch.specs.Depth.{deepest}
 use Rattle.switch.specs.Tags.{untaggedType}
 use Rattle.switch.proofs.Tags.{tags-conduct-nothing}
 use Rattle.circuit.specs.Circuit.{Circuit, Instance, Listed, Choice, exhaustive, no-faults, list}
@@ -19,9 +21,10 @@ use Rattle.circuit.specs.Circuit.{numbered, noType, typeOfInstance, chosen, fau
 use Rattle.circuit.specs.Reading.{Reading}
 use Rattle.grading.specs.Buffers.{Buffers, roomOf}
 use Rattle.grading.specs.Values.{labelValues, outputsAfter, outputsOf}
-use Rattle.grading.specs.Rows.{Row, rowsOfInstance, rowsFrom, rowsOf, rowValues, cell, markOf}
+use Rattle.grading.specs.Rows.{Row, noInstance, rowsOfInstance, rowsFrom, rowsOf, rowValues, cell, markOf}
 use Rattle.grading.specs.Wires.{End, one-end, other-end, wireAt}
 use Rattle.grading.specs.Classes.{sameClass, largest, classesBy, hasMarkBy, classFoundBy, foundBy}
+use Rattle.grading.specs.Rounds.{typeAt, valuesAt, linksAt, instanceRounds, roundsOf}
 use Rattle.grading.specs.Grading.{graded, refused, gradingOfCircuit, afterReading, gradingOf}
 use Rattle.grading.proofs.ClassLists.{classes-keyed}
 use Rattle.demands.specs.Calls.{Call, Kept, Accepts}
@@ -103,6 +106,22 @@ marks-untagged c = fun-ext (λ row. fun-ext (λ v.
     (let values = labelValues vector (outputsAfter (c .types) vector [] (c .instances)) (row .instance) in
     ap (λ (ws : List Link). ofBool (joins (closing (row .bridge) values ++ ws) supply ground)) (links-untagged (row .type) values))))
 
+-- ---- rounds
+
+links-at-untagged : (c : Circuit) (i v : ℕ) → linksAt (untaggedCircuit c) i v ≡ linksAt c i v
+unfolding linksAt typeAt valuesAt outputsOf untaggedCircuit
+links-at-untagged c i v =
+    let vector = getD (c .vectors) v [] in
+    let inst = getD (c .instances) i noInstance in
+    rw (outputs-untagged (c .types) vector [] (c .instances), type-untagged (c .types) (inst .type))
+    (links-untagged (typeOfInstance (c .types) inst) (labelValues vector (outputsAfter (c .types) vector [] (c .instances)) inst))
+
+rounds-untagged : (c : Circuit) → roundsOf (untaggedCircuit c) ≡ roundsOf c
+unfolding roundsOf instanceRounds untaggedCircuit
+rounds-untagged c =
+    greatest-cong (length (c .instances)) _ (instanceRounds c) (λ i h.
+    greatest-cong (length (c .vectors)) _ (λ (v : ℕ). deepest (linksAt c i v)) (λ v k. ap deepest (links-at-untagged c i v)))
+
 -- ---- classes
 
 -- wires ask a type for its output node only
@@ -136,20 +155,21 @@ found-of-images f n marks class (r ∷ rs) (m ∷ ms) = rw (found-of-images f n 
 
 -- ---- the work
 
--- by the number of vectors, the marks and the rows
-workOf : ℕ → (Row → ℕ → ℕ) → List Row → Work
-workOf n marks rows =
+-- by the number of vectors, the rounds, the marks and the rows
+workOf : ℕ → ℕ → (Row → ℕ → ℕ) → List Row → Work
+workOf n rounds marks rows =
     let classes = classesBy sameClass rows in record {
       words = joinLists (map (λ (row : Row). rowOf n (marks row)) rows);
       classes = classes;
       class-count = largest classes;
       found = foundBy n marks rows classes (largest classes);
+      rounds = rounds;
     }
 
-work-of-untagged : (n : ℕ) (marks : Row → ℕ → ℕ) (rows : List Row)
-    → workOf n marks (map untaggedRow rows) ≡ workOf n (λ (row : Row). marks (untaggedRow row)) rows
+work-of-untagged : (n rounds : ℕ) (marks : Row → ℕ → ℕ) (rows : List Row)
+    → workOf n rounds marks (map untaggedRow rows) ≡ workOf n rounds (λ (row : Row). marks (untaggedRow row)) rows
 unfolding workOf foundBy
-work-of-untagged n marks rows =
+work-of-untagged n rounds marks rows =
     let classes = classesBy sameClass rows in
     let of-images : ℕ → ℕ = λ class. ofBool (classFoundBy n marks (suc class) (map untaggedRow rows) classes) in
     let of-rows : ℕ → ℕ = λ class. ofBool (classFoundBy n (λ (row : Row). marks (untaggedRow row)) (suc class) rows classes) in
@@ -160,9 +180,11 @@ work-untagged : (c : Circuit) → rightWork (untaggedCircuit c) ≡ rightWork c
 unfolding rightWork workBy workOf untaggedCircuit
 work-untagged c =
     let n = length (c .vectors) in
-    ap (workOf n (markOf (untaggedCircuit c))) (rows-untagged c)
-    ∙ work-of-untagged n (markOf (untaggedCircuit c)) (rowsOf c)
-    ∙ ap (λ (marks : Row → ℕ → ℕ). workOf n marks (rowsOf c)) (marks-untagged c)
+    let rounds = roundsOf (untaggedCircuit c) in
+    ap (workOf n rounds (markOf (untaggedCircuit c))) (rows-untagged c)
+    ∙ work-of-untagged n rounds (markOf (untaggedCircuit c)) (rowsOf c)
+    ∙ ap (λ (marks : Row → ℕ → ℕ). workOf n rounds marks (rowsOf c)) (marks-untagged c)
+    ∙ ap (λ (m : ℕ). workOf n m (markOf c) (rowsOf c)) (rounds-untagged c)
 
 -- ---- the outcome
 

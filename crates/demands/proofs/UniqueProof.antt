@@ -22,6 +22,7 @@ use Rattle.grading.specs.Grading.{Grading}
 use Rattle.print_lines.specs.Given.{LineGiven}
 use Rattle.print_lines.proofs.PieceLaws.{one-piece}
 use Rattle.togyamiru.specs.Entry.{EntryMeets}
+use Rattle.togyamiru.specs.NumbersEntry.{NumbersMeet}
 use Rattle.togyamiru.proofs.RowsLaws.{rows-once}
 use Rattle.demands.specs.Unique.{Unique}
 use Rattle.read_types.proofs.TypesOnce.{types-once}
@@ -42,10 +43,14 @@ both p q i = (p i, q i)
 given-once : {line out x y : List ℕ} {r s : ℕ} → LineGiven line out r x → LineGiven line out s y → (r ≡ s) × (x ≡ y)
 given-once g h = (g .count-is ∙ sym (h .count-is), g .after-is ∙ sym (h .after-is))
 
--- outcomes of the entry for C: six numbers, and the buffers at exit
+-- outcomes of the entries for C that grade: six numbers, or as many as have room, and the buffers at exit
 entry-once : {g : Grading} {before after after′ : Buffers} {r s : List ℕ}
     → EntryMeets g before r after → EntryMeets g before s after′ → (r ≡ s) × (after ≡ after′)
 entry-once g h = (g .answer-at-exit ∙ sym (h .answer-at-exit), g .buffers-at-exit ∙ sym (h .buffers-at-exit))
+
+numbers-once : {g : Grading} {before after after′ : Buffers} {room r s : List ℕ}
+    → NumbersMeet g before room r after → NumbersMeet g before room s after′ → (r ≡ s) × (after ≡ after′)
+numbers-once g h = (g .numbers-at-exit ∙ sym (h .numbers-at-exit), g .buffers-at-exit ∙ sym (h .buffers-at-exit))
 
 -- a flag is told by the channel, or by the tag, that it stands for
 channel-once : (a b : Bool) → cond a p-channel n-channel ≡ cond b p-channel n-channel → a ≡ b
@@ -65,6 +70,7 @@ unique = record {
   words-marks = record { asks-nothing = λ κs a. tt; one-outcome = λ κs a asked one other p q. both (p ∙ sym q) refl };
   words-first-mark = record { asks-nothing = λ κs a. tt; one-outcome = λ κs a asked one other p q. both (p ∙ sym q) refl };
   words-first-ones = record { asks-nothing = λ κs a. tt; one-outcome = λ κs a asked one other p q. both (p ∙ sym q) refl };
+  words-greater = record { asks-nothing = λ κs a. tt; one-outcome = λ κs a asked one other p q. both (p ∙ sym q) refl };
   print-lines-put-byte = record { can-be-met = λ κs. ((lent (0 ∷ []), (0, (0, tt))), omega arith); one-outcome = λ κs a asked one other p q. both (p .0 ∙ sym (q .0)) (ap (λ x. (x, (tt, (tt, tt)))) (p .1 ∙ sym (q .1))) };
   print-lines-put-bytes = record { can-be-met = λ κs. ((lent [], (0, (lent [], tt))), omega arith); one-outcome = λ κs a asked one other p q. both (p .0 ∙ sym (q .0)) (ap (λ x. (x, (tt, (tt, tt)))) (p .1 ∙ sym (q .1))) };
   print-lines-put-number = record { can-be-met = λ κs. ((lent (replicate 20 0), (0, (0, tt))), omega arith); one-outcome = λ κs a asked one other p q. both (p .0 ∙ sym (q .0)) (ap (λ x. (x, (tt, (tt, tt)))) (p .1 ∙ sym (q .1))) };
@@ -168,7 +174,7 @@ unique = record {
   grade-marks-mark-instance = record {
     can-be-met = λ κs. ((bareType, (record { «type_number» = 0; choice = 0; references = firstInput }, (0, (0, (lent (replicate 2048 0), (0, (0, (lent (replicate 768 0), (lent (replicate 768 0), (lent [], tt)))))))))), instance-given);
     one-outcome = λ κs a asked one other p q.
-        both refl (λ i. (
+        both (p .rounds-are ∙ sym (q .rounds-are)) (λ i. (
           tt,
           (
             tt,
@@ -227,6 +233,10 @@ unique = record {
     asks-nothing = λ κs a. tt;
     one-outcome = λ κs a asked one other p q. let same = given-once p q in both (same .0) (λ i. (tt, (tt, (tt, (same .1 i, tt)))));
   };
+  print-report-rounds-line = record {
+    asks-nothing = λ κs a. tt;
+    one-outcome = λ κs a asked one other p q. let same = given-once p q in both (same .0) (λ i. (tt, (same .1 i, tt)));
+  };
   print-report-report-piece = record {
     can-be-met = λ κs. ((ShortMatrix 0, (lent [], (lent [], (lent [], (0, (lent [], tt)))))), rows-held);
     one-outcome = λ κs a asked one other p q.
@@ -250,6 +260,10 @@ unique = record {
   togyamiru-grade = record {
     asks-nothing = λ κs a. tt;
     one-outcome = λ κs a asked one other p q. let same = entry-once p q in both refl (λ i. (tt, (same .1 i .matrix, (same .1 i .classes, (same .0 i, tt)))));
+  };
+  togyamiru-grade-numbers = record {
+    asks-nothing = λ κs a. tt;
+    one-outcome = λ κs a asked one other p q. let same = numbers-once p q in both refl (λ i. (tt, (same .1 i .matrix, (same .1 i .classes, (same .0 i, tt)))));
   };
   bench-check = record { asks-nothing = λ κs a. tt; one-outcome = λ κs a asked one other p q. both (p ∙ sym q) refl };
   togyamiru-rows = record {

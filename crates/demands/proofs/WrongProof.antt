@@ -13,7 +13,7 @@ use Rattle.grading.specs.Promise.{isGraded}
 use Rattle.demands.specs.Files.{inverter, inverterUnder, inverterListed, nandListed, nandOfOne, oneListed, nand3Fields, splitRails, driverAndInput, twoNands, twinNands}
 use Rattle.demands.specs.Graders.{Grader, MeetsPromise}
 use Rattle.demands.specs.Wrong.{refusesEvery, without, skips, marksAll, marksNever, leavesMatrix, firstWordOnly, inventsFound}
-use Rattle.demands.specs.Wrong.{labelMarked, markedBy, lowerNode, putIn, inNodeOrder, isAmong, handedOn, swept, sweepsOnce, isOne, unlike, onePlaneMarked, onePlane}
+use Rattle.demands.specs.Wrong.{labelMarked, markedBy, lowerNode, putIn, inNodeOrder, handedOn, swept, sweepsOnce, isOne, unlike, onePlaneMarked, onePlane}
 use Rattle.demands.specs.Wrong.{isZero, sameLevel, unequalEnds, marksFloating, rowsFound, countsRows, packed63, spills, packedFirst, wraps, goesOn}
 use Rattle.demands.specs.Wrong.{changesOutput, watchesOutputs, held, rowValuesAt, levelAt, heldLevel, heldMarked, holdsLevels}
 use Rattle.demands.specs.Wrong.{sameAsWritten, countsTwice, sameLabelToo, countsLabels, zeroForX, zeroed, readsXAsZero, keepsApart, withoutInstance, mixesInner, inputOfInstance, splitsInputs, clearingNext, writesPast, clearsFirst}
@@ -26,7 +26,7 @@ use Rattle.demands.proofs.Computing.{grader-computing, blank}
 unfoldable pub wrong-computing : Unit {0}
 unfolding grader-computing
     refusesEvery without marksAll marksNever leavesMatrix firstWordOnly inventsFound
-    labelMarked markedBy lowerNode putIn inNodeOrder isAmong handedOn swept sweepsOnce isOne unlike onePlaneMarked onePlane
+    labelMarked markedBy lowerNode putIn inNodeOrder handedOn swept sweepsOnce isOne unlike onePlaneMarked onePlane
     isZero sameLevel unequalEnds marksFloating rowsFound countsRows packed63 spills packedFirst wraps goesOn
     changesOutput watchesOutputs held rowValuesAt levelAt heldLevel heldMarked holdsLevels
     sameAsWritten countsTwice sameLabelToo countsLabels zeroForX zeroed readsXAsZero keepsApart withoutInstance mixesInner inputOfInstance splitsInputs isGraded clearingNext writesPast clearsFirst

@@ -6,6 +6,7 @@ mod families;
 mod meetings;
 mod packings;
 mod passes;
+mod rounds;
 mod settings;
 #[path = "../support/mod.rs"]
 mod support;
@@ -38,6 +39,6 @@ fn every_number_is_reached() {
         tally[usize::from(number)] += 1;
     }
     // As the README says.
-    assert_eq!((files.len(), tally[0]), (6_024, 1_400));
+    assert_eq!((files.len(), tally[0]), (7_090, 2_466));
     assert!(tally.iter().all(|&count| count >= 17), "{tally:?}");
 }

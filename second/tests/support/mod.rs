@@ -9,6 +9,7 @@ use second::limits::limit_files;
 use second::refusal::Refusal;
 use second::samples::sample_files;
 
+pub mod distances;
 pub mod nets;
 pub mod wires;
 

@@ -29,19 +29,26 @@ use Rattle.demands.proofs.OtherVectors.{other-vectors-are-accepted}
 use Rattle.demands.proofs.FileSplits.{accepted-is-split, split-once}
 use Rattle.demands.proofs.AlikeFilesExamples.{not-any-head, nand-refined}
 use Rattle.demands.proofs.Determines.{demands-leave-one-outcome, demands-are-the-promise}
-use Rattle.demands.proofs.ContractsProof.{grade-is-kept, entry-is-kept}
+use Rattle.demands.proofs.ContractsProof.{grade-is-kept, entry-is-kept, numbers-are-kept}
 use Rattle.demands.proofs.CircuitCallsProof.{circuit-is-graded-as-file, circuit-answers-as-file, grade-circuit-is-kept}
 use Rattle.demands.proofs.CircuitCallsProof.{circuits-meet-two, circuit-column-is-of-its-vector, circuits-meet-three}
 use Rattle.demands.proofs.UniqueProof.{unique}
 use Rattle.demands.proofs.MetProof.{met-by-every-file}
 use Rattle.demands.proofs.KnownProof.{all-known, edges-known}
 use Rattle.demands.proofs.PassKnownProof.{passes-known}
+use Rattle.demands.proofs.RoundsKnownProof.{rounds-known}
+use Rattle.demands.proofs.RoundsProof.{rounds-are-the-greatest-distance, steps-count-the-rounds, joining-counts-distances}
+use Rattle.demands.proofs.RoundsProof.{rounds-are-few, rounds-ask-for-no-faults, more-vectors-no-fewer-rounds, filling-may-lower-rounds}
+use Rattle.demands.proofs.WrongRoundsProof.{wrong-rounds-are-wrong}
 use Rattle.demands.proofs.PassTransistorsProof.{types-are-fields, ends-keep-the-rules, rails-apart-in-files, numbers-of-edges}
 use Rattle.demands.proofs.TagsGraded.{tags-change-no-answer}
 use Rattle.demands.proofs.PassesBefore.{only-passes-change}
 use Rattle.demands.proofs.WrongPasses.{pass-fields-read, wrong-passes-are-wrong}
 use Rattle.switch.proofs.Blocks.{blocks-tell}
 use Rattle.switch.proofs.Tags.{tags-conduct-nothing}
+use Rattle.switch.proofs.Depths.{one-greatest, depth-is-distance}
+use Rattle.switch.proofs.DepthBounds.{rounds-are-distances, at-most-below-highest}
+use Rattle.grading.proofs.RoundLaws.{rounds-tell}
 use Rattle.switch.proofs.Groups.{groups-link-alike}
 use Rattle.demands.proofs.ModuleCheckProof.{nine-as-before, wrong-checks-are-wrong}
 use Rattle.demands.proofs.SingleTransistorsProof.{answered-as-before, accepted-as-before}
@@ -116,8 +123,23 @@ all-proved = record {
   pass-fields-read = pass-fields-read;
   passes-known = passes-known;
   wrong-passes-are-wrong = wrong-passes-are-wrong;
+  one-greatest = one-greatest;
+  depth-is-distance = depth-is-distance;
+  rounds-are-distances = rounds-are-distances;
+  at-most-below-highest = at-most-below-highest;
+  rounds-tell = rounds-tell;
+  rounds-are-the-greatest-distance = rounds-are-the-greatest-distance;
+  steps-count-the-rounds = steps-count-the-rounds;
+  joining-counts-distances = joining-counts-distances;
+  rounds-are-few = rounds-are-few;
+  rounds-ask-for-no-faults = rounds-ask-for-no-faults;
+  more-vectors-no-fewer-rounds = more-vectors-no-fewer-rounds;
+  filling-may-lower-rounds = filling-may-lower-rounds;
+  rounds-known = rounds-known;
+  wrong-rounds-are-wrong = wrong-rounds-are-wrong;
   grade-is-kept = grade-is-kept;
   entry-is-kept = entry-is-kept;
+  numbers-are-kept = numbers-are-kept;
   grade-circuit-is-kept = grade-circuit-is-kept;
   circuit-is-graded-as-file = circuit-is-graded-as-file;
   circuit-answers-as-file = circuit-answers-as-file;

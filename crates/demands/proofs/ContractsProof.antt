@@ -1,8 +1,9 @@
--- The contracts of `grade` and of the entry for C say what the demands speak of.
+-- The contracts of `grade` and of the entries for C that grade say what the demands speak of.
 use Prim.Native.Nat.{ℕ}
 use mathlib.Core.Path.{_≡_, refl, sym, ap, ap₂, _∙_}
 use mathlib.Core.List.{List, [], _∷_}
 use lib.Dec.{T}
+use lib.ListN.{length, take}
 use base.Logic.{emp}
 use prog.Routine.{Routine}
 use contract.Lifetimes.{Lfts}
@@ -13,18 +14,20 @@ use denote.Triple.Clauses.{Ended, AtExit, atExit}
 use denote.Triple.Entry.{Args, Res}
 use denote.Triple.Weaken.{weaken}
 use Rattle.grading.specs.Buffers.{Buffers, roomOf}
-use Rattle.grading.specs.Grading.{Grading, gradingOf, countsIn, numberIn, placeIn, buffersAfter}
+use Rattle.grading.specs.Grading.{Counts, Grading, gradingOf, countsIn, numberIn, placeIn, over, buffersAfter}
 use Rattle.grading.specs.Promise.{isGraded, numberOf, placeOf, countsOf}
 use Rattle.grading.specs.declared.Answer.{Answer}
 use Rattle.grading.specs.declared.Answer.the-variants.{Graded, Refused, ShortMatrix, ShortClasses}
 use Rattle.grade_file.proofs.grade.grade as grade
 use Rattle.togyamiru.specs.Entry.{sixNumbers, EntryPromise}
+use Rattle.togyamiru.specs.NumbersEntry.{allNumbers, NumbersPromise}
 use Rattle.togyamiru.proofs.togyamiru_grade as togyamiru-grade
+use Rattle.togyamiru.proofs.togyamiru_grade_numbers as togyamiru-grade-numbers
 use Rattle.demands.specs.Calls.{Kept, Refuses}
 use Rattle.demands.specs.One.{CanBeMet}
 use Rattle.demands.specs.Determined.{MeetsDemands}
-use Rattle.demands.specs.Contracts.{ToldBy, RoutineTells, callOf, GradeIsKept, sixOf, EntryIsCall, ofEntry, EntryIsKept}
-use Rattle.togyamiru.proofs.Numbers.{numbers}
+use Rattle.demands.specs.Contracts.{ToldBy, RoutineTells, callOf, GradeIsKept}
+use Rattle.demands.specs.Contracts.{sixOf, numbersOf, EntryIsCall, ofEntry, EntryIsKept, NumbersAreCall, ofNumbers, NumbersAreKept}
 use Rattle.demands.proofs.Determines.{kept-meets}
 use Rattle.demands.proofs.RightProof.{promise-can-be-met}
 
@@ -49,20 +52,21 @@ grade-is-kept = record {
       (λ κs a r e. kept-meets (callOf κs a r e)) grade.Met.met;
 }
 
-six-are : (g : Grading) (answer : Answer) → numberOf answer ≡ numberIn g → placeOf answer ≡ placeIn g → countsOf answer ≡ countsIn g
-    → sixNumbers g ≡ sixOf answer
-unfolding sixNumbers sixOf
-six-are g answer n p counts =
-    ap (λ (m : ℕ). numbers m (placeIn g) (countsIn g)) (sym n)
-    ∙ ap (λ (m : ℕ). numbers (numberOf answer) m (countsIn g)) (sym p)
-    ∙ ap (numbers (numberOf answer) (placeOf answer)) (sym counts)
+-- ---- the numbers of an answer, of which the first six are those of the older entry
+
+abbrev numbers : ℕ → ℕ → Counts → List ℕ
+numbers n p counts = n ∷ p ∷ counts .vectors ∷ counts .faults ∷ counts .classes ∷ counts .found ∷ counts .rounds ∷ []
+
+numbers-refused : (answer : Answer) (number place : ℕ) → Refuses answer number place → numbersOf answer ≡ number ∷ place ∷ 0 ∷ 0 ∷ 0 ∷ 0 ∷ 0 ∷ []
+unfolding numbersOf sixOf Refuses numberOf placeOf countsOf
+numbers-refused (Graded counts) number place r = absurd r
+numbers-refused (Refused refusal) number place (n, p) = λ i. n i ∷ p i ∷ 0 ∷ 0 ∷ 0 ∷ 0 ∷ 0 ∷ []
+numbers-refused (ShortMatrix words) number place (n, p) = λ i. n i ∷ p i ∷ 0 ∷ 0 ∷ 0 ∷ 0 ∷ 0 ∷ []
+numbers-refused (ShortClasses faults) number place (n, p) = λ i. n i ∷ p i ∷ 0 ∷ 0 ∷ 0 ∷ 0 ∷ 0 ∷ []
 
 six-refused : (answer : Answer) (number place : ℕ) → Refuses answer number place → sixOf answer ≡ number ∷ place ∷ 0 ∷ 0 ∷ 0 ∷ 0 ∷ []
-unfolding sixOf Refuses numberOf placeOf countsOf
-six-refused (Graded counts) number place r = absurd r
-six-refused (Refused refusal) number place (n, p) = λ i. n i ∷ p i ∷ 0 ∷ 0 ∷ 0 ∷ 0 ∷ []
-six-refused (ShortMatrix words) number place (n, p) = λ i. n i ∷ p i ∷ 0 ∷ 0 ∷ 0 ∷ 0 ∷ []
-six-refused (ShortClasses faults) number place (n, p) = λ i. n i ∷ p i ∷ 0 ∷ 0 ∷ 0 ∷ 0 ∷ []
+unfolding numbersOf sixOf
+six-refused answer number place r = ap (take 6) (numbers-refused answer number place r)
 
 nothing-refused : (answer : Answer) → T (isGraded answer) → let counts = countsOf answer in
     sixOf answer ≡ 0 ∷ 0 ∷ counts .vectors ∷ counts .faults ∷ counts .classes ∷ counts .found ∷ []
@@ -72,30 +76,44 @@ nothing-refused (Refused refusal) g = absurd g
 nothing-refused (ShortMatrix words) g = absurd g
 nothing-refused (ShortClasses faults) g = absurd g
 
-entry-is-call : (file : List ℕ) (before : Buffers) (six : List ℕ) (after : Buffers) → EntryPromise file before six after → EntryIsCall file before six after
-entry-is-call file before six after promise = go (promise-can-be-met file before)
-  where
-    g : Grading
-    g = gradingOf file (roomOf before)
+-- ---- the entries for C
 
-    go : CanBeMet file before → EntryIsCall file before six after
-    go by =
-        let same : gradingOf (by .call .file) (roomOf (by .call .before)) ≡ g =
-        ap₂ (λ (bytes : List ℕ) (buffers : Buffers). gradingOf bytes (roomOf buffers)) (by .of-file) (by .of-buffers) in
-        let six-numbers : six ≡ sixOf (by .call .answer) =
-        promise .answer-at-exit
-        ∙ six-are g (by .call .answer) (by .kept .number ∙ ap numberIn same) (by .kept .place ∙ ap placeIn same) (by .kept .counts ∙ ap countsIn same)
-        in
-        record {
-          call = by .call;
-          of-file = by .of-file;
-          of-buffers = by .of-buffers;
-          kept = by .kept;
-          to-buffers = by .kept .buffers-at-exit ∙ ap₂ buffersAfter same (by .of-buffers) ∙ sym (promise .buffers-at-exit);
-          six-numbers = six-numbers;
-          refusal-counts-nothing = λ number place r. six-numbers ∙ six-refused (by .call .answer) number place r;
-          grading-refuses-nothing = λ graded. six-numbers ∙ nothing-refused (by .call .answer) graded;
-        }
+-- a call on the same file and buffers that keeps the promise has the numbers and the buffers that an entry promises
+module _ (file : List ℕ) (before : Buffers) (by : CanBeMet file before) where
+  abbrev told : Grading
+  told = gradingOf file (roomOf before)
+
+  same : gradingOf (by .call .file) (roomOf (by .call .before)) ≡ told
+  same = ap₂ (λ (bytes : List ℕ) (buffers : Buffers). gradingOf bytes (roomOf buffers)) (by .of-file) (by .of-buffers)
+
+  all-numbers : allNumbers told ≡ numbersOf (by .call .answer)
+  unfolding allNumbers sixNumbers numbersOf sixOf
+  all-numbers =
+      ap (λ (n : ℕ). numbers n (placeIn told) (countsIn told)) (sym (by .kept .number ∙ ap numberIn same))
+      ∙ ap (λ (p : ℕ). numbers (numberOf (by .call .answer)) p (countsIn told)) (sym (by .kept .place ∙ ap placeIn same))
+      ∙ ap (numbers (numberOf (by .call .answer)) (placeOf (by .call .answer))) (sym (by .kept .counts ∙ ap countsIn same))
+
+  six-numbers : sixNumbers told ≡ sixOf (by .call .answer)
+  unfolding allNumbers sixNumbers numbersOf sixOf
+  six-numbers = ap (take 6) all-numbers
+
+  buffers-are : (after : Buffers) → after ≡ buffersAfter told before → by .call .after ≡ after
+  buffers-are after at-exit = by .kept .buffers-at-exit ∙ ap₂ buffersAfter same (by .of-buffers) ∙ sym at-exit
+
+entry-is-call : (file : List ℕ) (before : Buffers) (six : List ℕ) (after : Buffers) → EntryPromise file before six after → EntryIsCall file before six after
+entry-is-call file before six after promise =
+    let by = promise-can-be-met file before in
+    let are : six ≡ sixOf (by .call .answer) = promise .answer-at-exit ∙ six-numbers file before by in
+    record {
+      call = by .call;
+      of-file = by .of-file;
+      of-buffers = by .of-buffers;
+      kept = by .kept;
+      to-buffers = buffers-are file before by after (promise .buffers-at-exit);
+      six-numbers = are;
+      refusal-counts-nothing = λ number place r. are ∙ six-refused (by .call .answer) number place r;
+      grading-refuses-nothing = λ graded. are ∙ nothing-refused (by .call .answer) graded;
+    }
 
 pub entry-is-kept : EntryIsKept
 entry-is-kept = record {
@@ -104,4 +122,30 @@ entry-is-kept = record {
   routine-is-call = λ M.
       so-of-routine M togyamiru-grade.Symbol.routine togyamiru-grade.ended (λ κs a r e. ofEntry κs a e EntryPromise) (λ κs a r e. ofEntry κs a e EntryIsCall)
       (λ κs a r e promise. entry-is-call _ _ _ _ promise) togyamiru-grade.Met.met;
+}
+
+numbers-are-call : (file : List ℕ) (before : Buffers) (room room′ : List ℕ) (after : Buffers) → NumbersPromise file before room room′ after
+    → NumbersAreCall file before room room′ after
+numbers-are-call file before room room′ after promise =
+    let by = promise-can-be-met file before in
+    let as-many : List ℕ → List ℕ = λ all. over (take (length room) all) room in
+    let are : room′ ≡ as-many (numbersOf (by .call .answer)) = promise .numbers-at-exit ∙ ap as-many (all-numbers file before by) in
+    record {
+      call = by .call;
+      of-file = by .of-file;
+      of-buffers = by .of-buffers;
+      kept = by .kept;
+      to-buffers = buffers-are file before by after (promise .buffers-at-exit);
+      numbers-are = are;
+      refusal-counts-nothing = λ number place r. are ∙ ap as-many (numbers-refused (by .call .answer) number place r);
+    }
+
+pub numbers-are-kept : NumbersAreKept
+numbers-are-kept = record {
+  asks-nothing = λ κs a. tt;
+  is-call = λ κs a r e promise. numbers-are-call _ _ _ _ _ promise;
+  routine-is-call = λ M.
+      so-of-routine M togyamiru-grade-numbers.Symbol.routine togyamiru-grade-numbers.ended
+      (λ κs a r e. ofNumbers κs a e NumbersPromise) (λ κs a r e. ofNumbers κs a e NumbersAreCall)
+      (λ κs a r e promise. numbers-are-call _ _ _ _ _ promise) togyamiru-grade-numbers.Met.met;
 }

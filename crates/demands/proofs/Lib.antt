@@ -9,9 +9,10 @@
 --   number 9      ModuleCheckProof
 --   transistors   GroupsGrade, GroupsRead, SingleTransistorsProof; by computing WrongEdges
 --   channels      PassTransistorsProof, TagsGraded, PassesBefore; by computing WrongPasses
+--   rounds        RoundsProof; by computing WrongRoundsProof, RoundsKnownProof
 --   contracts     ContractsProof, CircuitCallsProof, StepsOnce, CanBeMet, UniqueProof, MetProof
 --   all of them   AllProofs
---   by computing  KnownProof, PassKnownProof, RoundsKnownProof, WrongProof, BreaksProof; MeetsProof, what the demands do not break
+--   by computing  KnownProof, PassKnownProof, WrongProof, BreaksProof; MeetsProof, what the demands do not break
 pub mod Gave
 pub mod Verdicts
 pub mod GradingVerdicts
@@ -51,6 +52,7 @@ pub mod NoConverseProof
 pub mod WrongProof
 pub mod BreaksProof
 pub mod MeetsProof
+pub mod WrongRoundsProof
 pub mod ModuleCheckProof
 pub mod GroupsGrade
 pub mod TagsGraded
@@ -60,6 +62,7 @@ pub mod GroupsRead
 pub mod SingleTransistorsProof
 pub mod WrongEdges
 pub mod WrongPasses
+pub mod RoundsProof
 pub mod CellsAgree
 pub mod ClassesAgree
 pub mod Determines

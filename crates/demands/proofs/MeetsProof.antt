@@ -23,6 +23,7 @@ use Rattle.demands.specs.Two.{CellsTell}
 use Rattle.demands.specs.Graders.{Work, outcomeOf, gradesBy, workBy, rightWork, rightly, called}
 use Rattle.demands.specs.Wrong.{marksAll, marksNever, firstWordOnly, inventsFound, countsRows, countsTwice, countsLabels, keepsApart, mixesInner, splitsInputs}
 use Rattle.demands.specs.Breaks.{MeetsOne, MeetsCells, RightlyMeetsAll, MeetDemandOne, MeetCellClause, MeetDemandThree}
+use Rattle.demands.proofs.Gave.{gave, rounds-given}
 use Rattle.demands.proofs.GradingVerdicts.{answered, answer-is}
 use Rattle.demands.proofs.OneProof.{one-by-the-table, one-holds, grading-keeps-the-rest}
 use Rattle.demands.proofs.Cells.{cell-is-path}
@@ -46,6 +47,7 @@ rightly-meets-all = record {
   rest = λ file before c e g. grading-keeps-the-rest (called rightly file before) c (right-as file before c e g);
   cells = λ file before c e g. cell-is-path (called rightly file before) c (right-as file before c e g);
   classes = λ file before c e g. classes-count-once (called rightly file before) c (right-as file before c e g);
+  rounds = λ file before c e g. rounds-given (called rightly file before) c (gave _ c (right-as file before c e g));
   three = λ file before file′ before′ c d e g e′ g′.
       three-holds (called rightly file before) (called rightly file′ before′) c d
       (right-as file before c e g) (right-as file′ before′ d e′ g′);
@@ -101,13 +103,13 @@ module _ (work : Circuit → Work) (same : (c : Circuit) → work c .words ≡ r
   same-matrix (graded c) before = ap (λ (words : List ℕ). over words (before .matrix)) (same c)
   same-matrix (refused n p) before = refl
 
-  graded-too : (g : Grading) (before : Buffers) → T (isGraded (outcomeOf work g before .answer))
+  pub graded-too : (g : Grading) (before : Buffers) → T (isGraded (outcomeOf work g before .answer))
       → T (isGraded (outcomeOf rightWork g before .answer))
   unfolding outcomeOf isGraded
   graded-too (graded c) before t = tt
   graded-too (refused n p) before t = t
 
-  by-right-words : MeetsCells (gradesBy work)
+  pub by-right-words : MeetsCells (gradesBy work)
   unfolding gradesBy rightly
   by-right-words file before c e is-graded =
       let g = gradingOf file (roomOf before) in

@@ -70,9 +70,8 @@ pub record RoundsAreFew : Type 0 where
 unfoldable pub wiring : Instance → ℕ × List Reference
 wiring i = (i .type, i .references)
 
--- the same circuit under the same vectors, with any bridges and any choices
+-- the same types, instances that are wired alike, and the same vectors, with any bridges and any choices
 pub record AlikeButFaults (c d : Circuit) : Type 0 where
-  pub inputs : c .inputs ≡ d .inputs
   pub types : c .types ≡ d .types
   pub wired : map wiring (c .instances) ≡ map wiring (d .instances)
   pub vectors : c .vectors ≡ d .vectors

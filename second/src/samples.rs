@@ -2,7 +2,7 @@
 //! thing, and a full-size one. `circuits/README.md` of the project explains them. All
 //! have a field for each edge, but for one that shows what an old file is like.
 
-use crate::builder::{FileBuilder, NamedFile, CARRY, N, P, SUM};
+use crate::builder::{EdgeRow, FileBuilder, NamedFile, CARRY, N, P, SUM};
 use crate::make::full_circuit;
 use crate::random::Random;
 use crate::starts::{inverter_file, nand_under, nothing, two_inputs};
@@ -29,6 +29,7 @@ pub fn sample_files() -> Vec<NamedFile> {
         ("repeated", repeated()),
         ("fillings", fillings()),
         ("mux", mux()),
+        ("series", series()),
         ("adder", adder()),
         ("full", full()),
     ];
@@ -163,6 +164,30 @@ pub fn mux() -> FileBuilder {
         .instance(1, -1, &[1, 2, 3])
         .vectors(&["000", "001", "010", "011", "100", "101", "110", "111"])
         .vectors(&["0X1", "00X"])
+}
+
+/// A NAND of four, whose n-channel transistors are in series through nodes 3, 4 and 5.
+const NAND_OF_FOUR: &[EdgeRow] = &[
+    (1, 2, &[0]),
+    (1, 2, &[1]),
+    (1, 2, &[2]),
+    (1, 2, &[3]),
+    (2, 3, &[0]),
+    (3, 4, &[1]),
+    (4, 5, &[2]),
+    (5, 0, &[3]),
+];
+
+/// An AND of four. The NAND has no faults, and the greatest distance from a rail: its
+/// output's from ground under 1111. The inverter behind it has the one fault.
+fn series() -> FileBuilder {
+    FileBuilder::inputs(4)
+        .module(5, 2, 4, NAND_OF_FOUR)
+        .inverter()
+        .bridge(1, 0, 0, 2)
+        .instance(1, 0, &[1, 2, 3, 4])
+        .instance(2, 1, &[-1])
+        .vectors(&["1111", "0111", "XXXX"])
 }
 
 /// The thesis's full adder: the carry's complement drives the sum's.

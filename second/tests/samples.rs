@@ -12,7 +12,7 @@ use second::samples::sample_files;
 use second::show::show_of;
 use second::starts::nand_under;
 use second::write::{bytes_of, fields_of};
-use support::distances::greatest;
+use support::distances::{depths, greatest, slipped, SLIPS};
 use support::{answer, digits, sample_file, Accepted};
 
 fn first_line(name: &str) -> String {
@@ -33,9 +33,10 @@ fn circuit(name: &str) -> Circuit {
 /// under 11, where the output is behind node 3; else it is 1, or 0 under 1X and XX, where
 /// nothing is joined to a rail. The labels in `reconvergent` are 10 where the input is 1.
 ///
-/// In the multiplexer the output is behind node 2 or node 3. In the adder it is the sum
-/// under 000: supply, nodes 2 to 5, then node 6 since the carry's complement is 1.
-const ROUNDS: [(&str, usize); 16] = [
+/// In the multiplexer the output is behind node 2 or node 3. In `series` the NAND's output
+/// is behind nodes 5, 4 and 3 under 1111. In the adder it is the sum under 000: supply,
+/// nodes 2 to 5, then node 6 since the carry's complement is 1.
+const ROUNDS: [(&str, usize); 17] = [
     ("inverter", 1),
     ("nand", 2),
     ("grouped", 2),
@@ -51,6 +52,7 @@ const ROUNDS: [(&str, usize); 16] = [
     ("repeated", 2),
     ("fillings", 2),
     ("mux", 2),
+    ("series", 4),
     ("adder", 5),
 ];
 
@@ -395,6 +397,80 @@ fn mux() {
         };
         let output = output_value(module, &Graph::of_on_edges(module, vector));
         assert_eq!(output == Value::One, is_one, "{vector:?}");
+    }
+}
+
+/// By hand. Under 1111 the NAND's output is at ground, so the inverter's is at supply, and
+/// 0-2 leaks; under 0111 they are the other way round; under XXXX nothing is known.
+///
+/// Under 1111 nodes 5, 4, 3 and 2 of the NAND are 1, 2, 3 and 4 edges from ground. Under
+/// 0111 node 2 is beside supply, and nodes 5, 4 and 3 are 1, 2 and 3 from ground. The
+/// inverter's output is beside a rail, or under XXXX joined to none.
+const SERIES_REPORT: &str = "\
+vectors 3 faults 1 classes 1 found 1
+2 n 0 2 1 100 1 1
+rounds 4
+";
+
+#[test]
+fn series() {
+    assert_eq!(report_of(&sample_file("series")), SERIES_REPORT);
+    let circuit = circuit("series");
+    assert_eq!(circuit.instances[0].choice, 0);
+    let of = |vector: usize, instance: usize| {
+        let all = depths(&circuit);
+        let these = all
+            .iter()
+            .filter(|depth| (depth.vector, depth.instance) == (vector, instance));
+        these.map(|depth| depth.greatest).max()
+    };
+    let of_both = |vector| [of(vector, 0), of(vector, 1)].map(Option::unwrap);
+    assert_eq!([0, 1, 2].map(of_both), [[4, 1], [3, 1], [0, 0]]);
+}
+
+/// docs/LESSONS.md has the node that each round joins to ground under 1111, and that the
+/// fifth joins none.
+#[test]
+fn series_round_by_round() {
+    let circuit = circuit("series");
+    let graph = Graph::of_on_edges(&circuit.types[0], &circuit.vectors[0]);
+    let distances = graph.distances(GROUND);
+    let document = document("LESSONS.md");
+    for round in 1..=5 {
+        let nodes = (0..distances.len()).filter(|&node| distances[node] == Some(round));
+        let names: Vec<String> = nodes.map(|node| format!("node {node}")).collect();
+        let joined = if names.is_empty() {
+            "none".to_string()
+        } else {
+            names.join(", ")
+        };
+        let row = format!("\n| {round} | {joined} |\n");
+        assert!(document.contains(&row), "no row {row:?}");
+    }
+}
+
+/// Sweeps that use at once what they add hang on the order of the edges, the rounds do not.
+/// docs/LESSONS.md has both numbers for the order of the file and for its reverse.
+#[test]
+fn series_swept_in_place() {
+    let (_, sweeps) = SLIPS
+        .into_iter()
+        .find(|slip| slip.0 == "sweeps")
+        .expect("it is among the slips");
+    let document = document("LESSONS.md");
+    let mut circuit = circuit("series");
+    for wanted in [4, 1] {
+        let swept = slipped(&circuit, &depths(&circuit), sweeps);
+        let graded = answer(&bytes_of(&fields_of(&circuit))).expect("any order is accepted");
+        assert_eq!((swept, graded.rounds), (wanted, 4));
+        let series = &mut circuit.types[0].edges[4..];
+        let names: Vec<String> = series
+            .iter()
+            .map(|edge| format!("{}-{}", edge.ends[0], edge.ends[1]))
+            .collect();
+        let row = format!("\n| {} | {swept} | 4 |\n", names.join(", "));
+        assert!(document.contains(&row), "no row {row:?}");
+        series.reverse();
     }
 }
 

@@ -1,12 +1,12 @@
 -- How many rounds add a node: those that were made, as many as the greatest distance from the rail, over all words and their positions, so fewer than there are nodes.
 -- And lists of links that the promise on rounds can be asked of: those of the edges that are on. Assumes nothing.
-use Prim.Native.Nat.{ℕ, zero, suc, _*_, _≤_, _<_, zero-le}
+use Prim.Native.Nat.{ℕ, zero, suc, _≤_, _<_, zero-le}
 use native.Mathlib.Nat.{not-suc-le-zero, le-of-suc-le-suc, eq-or-lt-of-le, le-refl, le-trans, lt-of-not-le}
 use native.Mathlib.Omega.{arith}
 use mathlib.Core.Path.{_≡_, refl, sym, ap, _∙_}
 use mathlib.Core.Logic.{⊎-elim}
 use mathlib.Core.List.{List, [], _∷_, List·Memᴰ·head, List·Memᴰ·tail, List·Memᴰ·cases-cons, List·Memᴰ·not-nil}
-use lib.ListN.{getD, replicate}
+use lib.ListN.{getD}
 use Rattle.words.specs.Bits.{bit, greatestTo}
 use Rattle.words.proofs.Laws.{bit-le-one}
 use Rattle.words.proofs.Greatest.{greatest-part, greatest-most}
@@ -14,7 +14,7 @@ use Rattle.switch.specs.Conduction.{Link, Among}
 use Rattle.switch.specs.Distances.{LinksBelow}
 use Rattle.switch.specs.Depth.{depth}
 use Rattle.switch.proofs.Depths.{within-more, depth-least, depth-within, depth-is-distance}
-use Rattle.join_nodes.specs.Model.{ColumnsFit, gateWord, OnLink, LinksAre, WideJoined, wideRoundTo, onesTo, wordsAfter}
+use Rattle.join_nodes.specs.Model.{ColumnsFit, gateWord, OnLink, LinksAre, WideJoined, wideRoundTo, railAlone, wordsAfter}
 use Rattle.join_nodes.proofs.WideRounds.{WideReached, wide-words, wide-within, wide-same}
 
 -- ---- the links of the edges that are on
@@ -102,7 +102,7 @@ pub record RoundsMade (firsts seconds gates planes : List ℕ) (count width rail
       → wordsAfter firsts seconds gates planes count width rail (suc r) ≡ wordsAfter firsts seconds gates planes count width rail r → ⊥
 
 pub none-made : (firsts seconds gates planes : List ℕ) (count width rail : ℕ)
-    → RoundsMade firsts seconds gates planes count width rail 0 (onesTo (replicate (width * 32) 0) (width * rail) width)
+    → RoundsMade firsts seconds gates planes count width rail 0 (railAlone width rail)
 unfolding wordsAfter
 none-made firsts seconds gates planes count width rail = record { after-rounds = refl; each-added = λ r l same. not-suc-le-zero l }
 

@@ -15,7 +15,7 @@ use Rattle.words.proofs.Laws.{none-or}
 use Rattle.words.proofs.Tables.{is-table, length-table}
 use Rattle.words.proofs.EachLaws.{each-before, each-at, same-words}
 use Rattle.switch.specs.Conduction.{Link}
-use Rattle.join_nodes.specs.Model.{ColumnsFit, gateWord, LinksAre, joinedWords, added, roundTo, handedTo, wideRoundTo, onesTo, RoundTaken}
+use Rattle.join_nodes.specs.Model.{ColumnsFit, gateWord, LinksAre, joinedWords, added, roundTo, handedTo, wideRoundTo, onesTo, railAlone, RoundTaken}
 use Rattle.switch.proofs.Depths.{AllWithin}
 use Rattle.join_nodes.proofs.RoundLaws.{
   NodesInRange,
@@ -324,15 +324,14 @@ module _ (words : List ℕ) (at : ℕ) where
       here before (yes e) = rw (e, getD-set-same (onesTo words at n) (at + n) (2 ^ 64 - 1) 0 (omega (arith, ones-length n))) (omega arith)
       here before (no e) = rw (getD-set-other (onesTo words at n) (at + n) i (2 ^ 64 - 1) 0 e) before
 
-module _ (width rail : ℕ) (rail-in : rail < 32) where
-  -- the words before the first round
-  abbrev begun : List ℕ
-  begun = onesTo (replicate (width * 32) 0) (width * rail) width
+pub begun-long : (width rail : ℕ) → length (railAlone width rail) ≡ width * 32
+begun-long width rail = ones-length (replicate (width * 32) 0) (width * rail) width ∙ length-replicate (width * 32) 0
 
+module _ (width rail : ℕ) (rail-in : rail < 32) where
   pub rail-room : width * rail + width ≤ length {A = ℕ} (replicate (width * 32) 0)
   rail-room = rw length-replicate (each-before width rail 32 rail-in)
 
-  each-begun-at : (w : ℕ) → w < width → (m : ℕ) → m < 32 → Dec (m ≡ rail) → getD (firstWords rail) m 0 ≡ getD begun (width * m + w) 0
+  each-begun-at : (w : ℕ) → w < width → (m : ℕ) → m < 32 → Dec (m ≡ rail) → getD (firstWords rail) m 0 ≡ getD (railAlone width rail) (width * m + w) 0
   each-begun-at w h m k (yes e) = rw e (first-whole rail rail-in ∙ sym (ones-here (replicate (width * 32) 0) (width * rail) width w rail-room h))
   each-begun-at w h m k (no e) =
       getD-set-other (replicate 32 0) rail m (2 ^ 64 - 1) 0 e
@@ -340,11 +339,11 @@ module _ (width rail : ℕ) (rail-in : rail < 32) where
       ∙ sym (zero-at (width * 32) (width * m + w))
       ∙ sym (ones-elsewhere (replicate (width * 32) 0) (width * rail) width (width * m + w) (place-apart width w m rail h e))
 
-  pub wide-first : (firsts seconds gates planes : List ℕ) (count : ℕ) → WideReached firsts seconds gates planes count width rail 0 begun
+  pub wide-first : (firsts seconds gates planes : List ℕ) (count : ℕ) → WideReached firsts seconds gates planes count width rail 0 (railAlone width rail)
   wide-first firsts seconds gates planes count = record {
-    long = ones-length (replicate (width * 32) 0) (width * rail) width ∙ length-replicate (width * 32) 0;
+    long = begun-long width rail;
     fits = ones-fits (replicate (width * 32) 0) (width * rail) width (λ i. rw (zero-at (width * 32) i) (omega arith)) rail-room;
     each = λ w h ws are.
-        rw (← is-of-nodes width w h (firstWords rail) begun (first-long rail rail-in) (λ m k. each-begun-at w h m k (ℕ-discrete m rail)))
+        rw (← is-of-nodes width w h (firstWords rail) (railAlone width rail) (first-long rail rail-in) (λ m k. each-begun-at w h m k (ℕ-discrete m rail)))
         (reached-first rail rail-in ws);
   }

@@ -147,9 +147,13 @@ unfoldable pub onesTo : List ℕ → ℕ → ℕ → List ℕ
 onesTo words at zero = words
 onesTo words at (suc w) = set (onesTo words at w) (at + w) (2 ^ 64 - 1)
 
--- the words after so many rounds over the first n edges. Before the first the rail has every bit, and no other node has one
+-- before the first round the rail has every bit, and no other node has one
+abbrev pub railAlone : ℕ → ℕ → List ℕ
+railAlone width rail = onesTo (replicate (width * mostNodes) 0) (width * rail) width
+
+-- the words after so many rounds over the first n edges
 unfoldable pub wordsAfter : List ℕ → List ℕ → List ℕ → List ℕ → ℕ → ℕ → ℕ → ℕ → List ℕ
-wordsAfter firsts seconds gates planes n width rail zero = onesTo (replicate (width * mostNodes) 0) (width * rail) width
+wordsAfter firsts seconds gates planes n width rail zero = railAlone width rail
 wordsAfter firsts seconds gates planes n width rail (suc r) =
     wideRoundTo firsts seconds gates planes width (wordsAfter firsts seconds gates planes n width rail r) n
 

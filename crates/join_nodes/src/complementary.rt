@@ -3,6 +3,7 @@ use crate::Columns;
 use crate::MOST_GATES;
 use crate::conduction::gate_planes;
 use crate::edges::spread;
+use crate::rounds::begin;
 use crate::rounds::joined_to;
 use crate::settings::setting_ones;
 use crate::settings::setting_zeros;
@@ -36,7 +37,8 @@ fn output_word<'a>(
 {
     let nodes = (highest as usize) + 1;
     let mut joined = [0u64; MOST_NODES];
-    let mut next = [0u64; MOST_NODES];
+    begin(&mut joined, 1, rail);
+    let mut next = joined;
     joined_to(
         firsts,
         seconds,

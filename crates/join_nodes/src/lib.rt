@@ -1,4 +1,4 @@
-// Inside one module, 64 vectors to a word: which nodes are joined to each rail, and whether a type is complementary. What that means is in the crate `switch`.
+// Inside one module, 64 vectors to a word: which nodes are joined to each rail and in how many rounds, and whether a type is complementary. What that means is in the crate `switch`.
 pub mod complementary;
 mod conduction;
 mod edges;

@@ -2,6 +2,7 @@
 use crate::Columns;
 use crate::conduction::gate_planes;
 use crate::edges::spread;
+use crate::rounds::begin;
 use crate::rounds::joined_to;
 use switch::Edge;
 use switch::ModuleType;
@@ -24,7 +25,8 @@ fn joining_of(c: Columns, highest: u8, ones: &[u64; 48], zeros: &[u64; 48]) -> R
     let mut planes = [0u64; 128];
     gate_planes(ones, zeros, 4, &mut planes);
     let mut supply = [0u64; 128];
-    let mut next = [0u64; 128];
+    begin(&mut supply, 4, 1);
+    let mut next = supply;
     let to_supply = joined_to(
         &c.firsts,
         &c.seconds,
@@ -38,7 +40,8 @@ fn joining_of(c: Columns, highest: u8, ones: &[u64; 48], zeros: &[u64; 48]) -> R
         &mut next,
     );
     let mut ground = [0u64; 128];
-    next = [0u64; 128];
+    begin(&mut ground, 4, 0);
+    next = ground;
     let to_ground = joined_to(
         &c.firsts,
         &c.seconds,
@@ -51,10 +54,11 @@ fn joining_of(c: Columns, highest: u8, ones: &[u64; 48], zeros: &[u64; 48]) -> R
         &mut ground,
         &mut next,
     );
+    let rounds = greater(to_supply, to_ground);
     Rails {
+        rounds,
         supply,
         ground,
-        rounds: greater(to_supply, to_ground),
     }
 }
 

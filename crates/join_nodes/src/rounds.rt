@@ -4,7 +4,7 @@ ghost use mathlib.Core.Path.{_≡_};
 ghost use Prim.Native.Nat.{_+_, _*_, _<_, _≤_};
 ghost use lib.ListN.{length, replicate};
 ghost use Rattle.switch.specs.Modules.{mostNodes};
-ghost use Rattle.join_nodes.specs.Model.{mostGates, ColumnsFit, handedTo, wideRoundTo, onesTo, RoundTaken, WideJoined};
+ghost use Rattle.join_nodes.specs.Model.{mostGates, ColumnsFit, handedTo, wideRoundTo, onesTo, railAlone, RoundTaken, WideJoined};
 
 // Hands the words at `from` on to those at `to`, along an edge whose gate's plane stands at `at`.
 fn hand_on(
@@ -69,8 +69,8 @@ fn settle(joined: &mut [u64], next: &[u64], places: usize) -> u64
     added
 }
 
-// The rail is joined to itself under every vector.
-fn begin(words: &mut [u64], width: usize, rail: usize)
+// The rail is joined to itself under every vector. Callers begin, and the compiler puts what is left of joining into each of them, where the width is known.
+pub fn begin(words: &mut [u64], width: usize, rail: usize)
     requires { ⌜ width * rail + width ≤ length (now words) ⌝ }
     ensures { λ _. ⌜ now (words .exit) ≡ onesTo (now (words .entry)) (width * rail) width ⌝ }
 {
@@ -81,7 +81,7 @@ fn begin(words: &mut [u64], width: usize, rail: usize)
     }
 }
 
-// The nodes joined to a rail, where no edge has a node from `nodes` on: rounds go on until one adds nothing. The answer is how many added a node. `next` is used on the way.
+// The nodes joined to a rail, where no edge has a node from `nodes` on: rounds go on until one adds nothing. The answer is how many rounds added a node. Both lists hold the words before the first round; `next` is used on the way.
 pub fn joined_to<'a>(
     firsts: &'a [u8; MOST_EDGES],
     seconds: &'a [u8; MOST_EDGES],
@@ -97,11 +97,9 @@ pub fn joined_to<'a>(
     requires { ⌜ ColumnsFit (now firsts) (now seconds) (now gates) count nodes ⌝ }
     requires { ⌜ (width ≤ 4) × (length (now planes) ≡ width * mostGates) ⌝ }
     requires { ⌜ rail < mostNodes ⌝ }
-    requires { ⌜ (now joined ≡ replicate (width * mostNodes) 0) × (now next ≡ replicate (width * mostNodes) 0) ⌝ }
+    requires { ⌜ (now joined ≡ railAlone width rail) × (now next ≡ railAlone width rail) ⌝ }
     ensures { λ r. ⌜ WideJoined (now (firsts .entry)) (now (seconds .entry)) (now (gates .entry)) (now (planes .entry)) count width rail (now (joined .exit)) r × (now (next .exit) ≡ now (joined .exit)) ⌝ }
 {
-    begin(joined, width, rail);
-    begin(next, width, rail);
     let mut rounds: usize = 0;
     loop {
         round(firsts, seconds, gates, planes, count, width, joined, next);

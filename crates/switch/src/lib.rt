@@ -25,11 +25,12 @@ pub struct ModuleType {
     pub edges: [Edge; MOST_EDGES],
 }
 
-// Four words for each node and each rail: under which of 256 vectors the node is joined to it. And the most rounds that joining took: the greatest distance of a joined node from its rail, under any of them.
+// The most rounds that joining took, which are the greatest distance of a joined node from its rail under any of 256 vectors; and four words for each node and each rail: under which of them the node is joined to it.
+// The number comes first: behind the arrays it makes the compiler keep the record twice.
 pub struct Rails {
+    pub rounds: usize,
     pub supply: [u64; 128],
     pub ground: [u64; 128],
-    pub rounds: usize,
 }
 
 // The known-1 plane and the known-0 plane of one value under 64 vectors.

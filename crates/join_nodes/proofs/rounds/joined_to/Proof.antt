@@ -1,6 +1,6 @@
 -- `join_nodes::rounds::joined_to` meets its contract. The loop's invariant: for each word of a node, a node has a bit exactly where a path of at most
--- `rounds` links joins it to the rail (`WideReached`), and `rounds` is not above the greatest distance; `next` is as `joined`. The measure: what is left
--- of 32 rounds. Assumes nothing.
+-- `rounds` links joins it to the rail (`WideReached`); `rounds` is not above the greatest distance (`NotAbove`); so many rounds were made, and each
+-- added a node (`RoundsMade`); `next` is as `joined`. The measure: what is left of 32 rounds. Assumes nothing.
 use mathlib.Core.Path.{_≡_, ap, sym, _∙_}
 use mathlib.Core.List.{List}
 use mathlib.Core.Logic.{_↔_}
@@ -8,12 +8,12 @@ use Prim.Native.Nat.{ℕ, suc, _-_, _*_, _≤_, _<_}
 use native.Mathlib.Nat.{mul-le-mul-left}
 use native.Mathlib.Numerals.{add-one}
 use native.Mathlib.Omega.{arith}
-use lib.ListN.{length, length-replicate}
+use lib.ListN.{length}
 use denote.Ref.{now}
-use Rattle.join_nodes.specs.Model.{onesTo, wideRoundTo, RoundTaken}
+use Rattle.join_nodes.specs.Model.{wideRoundTo, RoundTaken}
 use Rattle.join_nodes.proofs.WideRounds.{
   all-nodes,
-  rail-room,
+  begun-long,
   WideReached,
   wide-first,
   wide-again,
@@ -26,25 +26,15 @@ use Rattle.join_nodes.proofs.rounds.joined_to.Tie as tie
 
 abbrev Inv-loop : tie.InvT-loop
 Inv-loop firsts seconds gates planes count width nodes rail joined₀ next₀ rounds₀ joined next rounds =
-    (next ≡ joined) × WideReached firsts seconds gates planes count width rail rounds joined × NotAbove firsts seconds gates planes count width rail rounds × RoundsMade firsts seconds gates planes count width rail rounds joined
+    (next ≡ joined)
+    × WideReached firsts seconds gates planes count width rail rounds joined
+    × NotAbove firsts seconds gates planes count width rail rounds
+    × RoundsMade firsts seconds gates planes count width rail rounds joined
 
 abbrev μ-loop : tie.MeasureT-loop
 μ-loop firsts seconds gates planes count width nodes rail joined₀ next₀ rounds₀ joined next rounds = 32 - rounds
 
 -- ---- where things stand
-
--- the start, from where the rail's words begin in the first list, and from where they begin in the second; the words begun in each
-abbrev start-first : tie.After-begin-arg Inv-loop μ-loop → tie.Start Inv-loop μ-loop
-start-first c = c .before .before .before .before
-
-abbrev first-begun : tie.After-begin-arg2 Inv-loop μ-loop → tie.After-begin Inv-loop μ-loop
-first-begun c = c .before .before .before
-
-abbrev second-begun : tie.After-slice-known4 Inv-loop μ-loop → tie.After-begin2 Inv-loop μ-loop
-second-begun c = c .before .before
-
-abbrev start-second : tie.After-begin-arg2 Inv-loop μ-loop → tie.Start Inv-loop μ-loop
-start-second c = start-first (first-begun c .before)
 
 -- a turn, its round, and its words settled
 abbrev turn-of : tie.After-round Inv-loop μ-loop → tie.At-loop Inv-loop μ-loop
@@ -53,14 +43,14 @@ turn-of c = c .before .before .before
 abbrev round-of : tie.After-settle-arg2 Inv-loop μ-loop → tie.After-round Inv-loop μ-loop
 round-of c = c .before .before .before .before
 
-abbrev settled : tie.After-slice-known6 Inv-loop μ-loop → tie.After-settle Inv-loop μ-loop
+abbrev settled : tie.After-slice-known4 Inv-loop μ-loop → tie.After-settle Inv-loop μ-loop
 settled c = c .before .before
 
 -- ---- a turn
 
 module _ (turn : tie.At-loop Inv-loop μ-loop) where
   abbrev start : tie.Start Inv-loop μ-loop
-  start = start-second (second-begun (turn .before) .before)
+  start = turn .before .before .before .before
 
   abbrev Reached-by : ℕ → List ℕ → Type 0
   Reached-by k words = let x = start .args in WideReached (now (x .firsts)) (now (x .seconds)) (now (x .gates)) (now (x .planes)) (x .count) (x .width) (x .rail) k words
@@ -110,26 +100,13 @@ module _ (c : tie.After-settle Inv-loop μ-loop) where
 
 -- ---- the needs
 
-begin-requires : tie.Need-begin-requires Inv-loop μ-loop
-begin-requires c κs =
-    let s = start-first c in
-    omega (arith, ap length (s .pre .1 .1 .1 .0), rail-room (s .args .width) (s .args .rail) (s .pre .1 .1 .0))
-
-begin-requires-2 : tie.Need-begin-requires-2 Inv-loop μ-loop
-begin-requires-2 c κs =
-    let s = start-second c in
-    omega (arith, ap length (s .pre .1 .1 .1 .1), rail-room (s .args .width) (s .args .rail) (s .pre .1 .1 .0))
-
 loop-holds : tie.Need-loop-holds Inv-loop μ-loop
 loop-holds c =
-    let second = second-begun c in
-    let s = start-second (second .before) in
-    let x = s .args in
-    let begun : List ℕ → List ℕ = λ words. onesTo words (x .width * x .rail) (x .width) in
-    let one = first-begun (second .before) .begin .ensures ∙ ap begun (s .pre .1 .1 .1 .0) in
-    let two = second .begin2 .ensures ∙ ap begun (s .pre .1 .1 .1 .1) in (
-      two ∙ sym one,
-      rw one (wide-first (x .width) (x .rail) (s .pre .1 .1 .0) (now (x .firsts)) (now (x .seconds)) (now (x .gates)) (now (x .planes)) (x .count)),
+    let begin = c .before .before .before in
+    let x = begin .args in
+    let one = begin .pre .1 .1 .1 .0 in (
+      begin .pre .1 .1 .1 .1 ∙ sym one,
+      rw one (wide-first (x .width) (x .rail) (begin .pre .1 .1 .0) (now (x .firsts)) (now (x .seconds)) (now (x .gates)) (now (x .planes)) (x .count)),
       none-above (now (x .firsts)) (now (x .seconds)) (now (x .gates)) (now (x .planes)) (x .count) (x .width) (x .rail),
       rw one (none-made (now (x .firsts)) (now (x .seconds)) (now (x .gates)) (now (x .planes)) (x .count) (x .width) (x .rail)),
     )
@@ -155,13 +132,13 @@ same-length : tie.Need-same-length Inv-loop μ-loop
 same-length c =
     let end = settled (c .before) in
     let s = start (turn end) in
-    omega (arith, ap length (settles end), again (turn end) .long, ap length (s .pre .1 .1 .1 .0), length-replicate {A = ℕ} (s .args .width * 32) 0)
+    omega (arith, ap length (settles end), again (turn end) .long, ap length (s .pre .1 .1 .1 .0), begun-long (s .args .width) (s .args .rail))
 
 same-length-2 : tie.Need-same-length-2 Inv-loop μ-loop
 same-length-2 c =
     let end = settled (c .before) in
     let s = start (turn end) in
-    omega (arith, ap length (is-after (rounded end)), again (turn end) .long, ap length (s .pre .1 .1 .1 .1), length-replicate {A = ℕ} (s .args .width * 32) 0)
+    omega (arith, ap length (is-after (rounded end)), again (turn end) .long, ap length (s .pre .1 .1 .1 .1), begun-long (s .args .width) (s .args .rail))
 
 returns : tie.Need-returns Inv-loop μ-loop
 unfolding after
@@ -194,8 +171,6 @@ joined-to-spec =
     (tie.spec
     Inv-loop
     μ-loop
-    begin-requires
-    begin-requires-2
     loop-holds
     round-requires
     mul-settle

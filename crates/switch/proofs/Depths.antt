@@ -1,5 +1,5 @@
 -- How far paths reach. The nodes that paths of so many links reach are those that specs/Depth lists; the depth from a node is the greatest distance from it,
--- below the number of nodes, and it hangs only on which links there are; and the greatest from either rail. Assumes nothing.
+-- below the number of nodes, and it hangs only on which links there are; the greatest from either rail; and so many rounds add a node. Assumes nothing.
 use Prim.Native.Nat.{ℕ, zero, suc, _+_, _≤_, _<_, max}
 use native.Mathlib.Nat.{eq-or-lt-of-le}
 use native.Mathlib.Decide.{decLe}
@@ -11,12 +11,11 @@ use mathlib.Core.List.{List, [], _∷_, _++_, List·Memᴰ·head, List·Memᴰ·
 use lib.Dec.{T, eqb, eqb→eq, eqb-refl}
 use Rattle.words.proofs.Sums.{sum-into, sum-ones}
 use Rattle.switch.specs.Conduction.{Link, Among, LinkPath, Joined, here, forth, back, ground, supply}
-use Rattle.switch.specs.Modules.{allOf}
+use Rattle.switch.specs.Modules.{allOf, anyOf}
 use Rattle.switch.specs.Deciding.{joins}
-use Rattle.switch.specs.Modules.{anyOf}
 use Rattle.switch.specs.Distances.{pathLength, DistanceIs, IsRail, is-ground, is-supply, DistanceFrom, GreatestIs, LinksBelow}
 use Rattle.switch.specs.Depth.{WithinLinks, isAmong, handedOver, nextNodes, nodesWithin, allJoinedAmong, reachesAll, leastFrom, depth, deepest}
-use Rattle.switch.specs.Statements.{OneGreatest, DepthIsDistance}
+use Rattle.switch.specs.Statements.{OneGreatest, DepthIsDistance, RoundsAddNodes}
 use Rattle.switch.proofs.Paths.{carried, both}
 use Rattle.switch.proofs.Deciding.{same-test, and-both, joins-decides}
 use Rattle.switch.proofs.Groups.{paths-alike}
@@ -515,3 +514,46 @@ deepest-greatest ws below = record {
     attained (yes h) s (inr far) = inr (subst Far (omega arith) (ground, is-ground, far))
     attained (no h) (inl z) g = inl (omega arith)
     attained (no h) (inr far) g = inr (subst Far (omega arith) (supply, is-supply, far))
+
+-- ---- rounds that add a node
+
+none-among : (l : List ℕ) → ((m : ℕ) → T (isAmong m l) → ⊥) → l ≡ []
+none-among [] none = refl
+none-among (x ∷ xs) none = absurd (none x (first-among x xs))
+
+module _ (ws : List Link) (a n : ℕ) where
+  abbrev next : List ℕ
+  next = nextNodes (nodesWithin ws n a) ws
+
+  -- where a round adds nothing, a link more reaches nothing more
+  no-further : next ≡ [] → (m : ℕ) → WithinLinks ws (suc n) a m → WithinLinks ws n a m
+  unfolding isAmong anyOf
+  no-further none m w =
+      let here : Bool = isAmong m (nodesWithin ws n a) in
+      within-decides ws n a m .1
+      (⊎-elim
+      (λ (u : T here). u)
+      (λ (u : T (isAmong m next)). absurd (not-among-none m (subst (λ (l : List ℕ). T (isAmong m l)) none u)))
+      (either here (isAmong m next) (rw (one-further ws a n m) at (within-decides ws (suc n) a m .0 w))))
+
+  adds-none : next ≡ [] → depth ws a ≤ n
+  adds-none none = ⊎-elim (depth-least ws a n) far (all-or-further ws a n)
+    where
+      far : DistanceFrom ws a (suc n) → depth ws a ≤ n
+      far d =
+          let m = d .node in
+          let near = no-further none m (record { path = d .is .path; short = omega (arith, d .is .long) }) in
+          absurd (omega (arith, d .is .shortest (near .path), near .short))
+
+  none-added : AllWithin ws a n → next ≡ []
+  none-added all = none-among next (λ m t.
+      let k = next-to (nodesWithin ws n a) m ws t in
+      let from = within-decides ws n a (k .from) .1 (k .is-from) in
+      let joined : Joined ws a m = ⊎-elim (λ u. forth u (from .path)) (λ u. back u (from .path)) (k .tied) in
+      k .is-new (within-decides ws n a m .0 (all m joined)))
+
+pub rounds-add-nodes : RoundsAddNodes
+rounds-add-nodes = record {
+  adds = λ ws a n far none. omega (arith, adds-none ws a n none);
+  adds-no-more = λ ws below a h n near. none-added ws a n (λ m p. within-more near (depth-within ws below a h m p));
+}

@@ -1,6 +1,6 @@
 -- What works out the greatest distance of Distances: the nodes that paths of so many links reach, and the least number of links that
--- reach every joined node. Nothing but `DepthIsDistance` (Statements) says that it is the greatest distance: a reader of the meaning needs
--- Distances and that theorem alone.
+-- reach every joined node. That it is the greatest distance is `DepthIsDistance` (Statements): a reader of the meaning needs Distances and
+-- that theorem alone.
 use Prim.Native.Nat.{ℕ, zero, suc, _≤_, max}
 use mathlib.Core.Bool.{Bool, cond, _&&_, _||_, not}
 use mathlib.Core.List.{List, [], _∷_, _++_}
@@ -32,10 +32,12 @@ unfoldable pub nodesWithin : List Link → ℕ → ℕ → List ℕ
 nodesWithin ws zero a = a ∷ []
 nodesWithin ws (suc n) a = let nearer = nodesWithin ws n a in nearer ++ nextNodes nearer ws
 
--- are all joined nodes among some nodes, a being one of them: each link has both ends joined to a, or none
+-- are all nodes that are joined to a among some nodes, a being one of them. All others of them are ends of links; of a link both ends are
+-- joined to a, or none is, so one end is asked for
 unfoldable pub allJoinedAmong : List Link → ℕ → List ℕ → Bool
 allJoinedAmong ws a nodes = allOf (λ (w : Link). not (joins ws a (w .0)) || isAmong (w .0) nodes && isAmong (w .1) nodes) ws
 
+-- do paths of at most n links reach all of them
 unfoldable pub reachesAll : List Link → ℕ → ℕ → Bool
 reachesAll ws a n = allJoinedAmong ws a (nodesWithin ws n a)
 

@@ -3,7 +3,7 @@ use Prim.Native.Nat.{ℕ, _-_, _^_, _≤_, _<_}
 use mathlib.Core.Path.{_≡_}
 use mathlib.Core.Bool.{false, not}
 use mathlib.Core.Logic.{_⊎_, _↔_}
-use mathlib.Core.List.{List, _++_, map}
+use mathlib.Core.List.{List, [], _++_, map}
 use lib.Dec.{T}
 use lib.ListN.{length, getD}
 use Rattle.words.specs.Bits.{bit}
@@ -15,7 +15,7 @@ use Rattle.switch.specs.Bridges.{Bridge, Marked, MarkedByEnds}
 use Rattle.switch.specs.Deciding.{joins, isComplementary, levelIn, outputValue, isMarked}
 use Rattle.switch.specs.Records.{valueOf, complement, byPlanes}
 use Rattle.switch.specs.Distances.{DistanceFrom, IsRail, GreatestIs, LinksBelow}
-use Rattle.switch.specs.Depth.{depth}
+use Rattle.switch.specs.Depth.{nextNodes, nodesWithin, depth}
 use Rattle.switch.specs.Promises.{railWords, fourRounds, PlanesHold, planes, planesOf}
 
 -- 01, "Conduction": an edge of tag 3 that is not refused is p-channel or n-channel, and not both
@@ -149,8 +149,15 @@ pub record DepthIsDistance : Type 0 where
   pub greatest : (ws : List Link) → LinksBelow mostNodes ws → (a : ℕ) → a < mostNodes → GreatestIs (DistanceFrom ws a) (depth ws a)
   -- it is below the number of nodes
   pub below-nodes : (n : ℕ) (ws : List Link) → LinksBelow n ws → (a : ℕ) → a < n → depth ws a < n
-  -- it tells no more than which links there are
+  -- it hangs only on which links there are
   pub same-links : (ws others : List Link) → ((w : Link) → Among w ws ↔ Among w others) → (a : ℕ) → depth ws a ≡ depth others a
+
+-- rounds from a node: one hands on, along each link, what the link's ends had before it (`nodesWithin`, `nextNodes`). As many of them add a
+-- node as the greatest distance has links, and no later one does
+pub record RoundsAddNodes : Type 0 where
+  pub adds : (ws : List Link) (a n : ℕ) → n < depth ws a → nextNodes (nodesWithin ws n a) ws ≡ [] → ⊥
+  pub adds-no-more : (ws : List Link) → LinksBelow mostNodes ws → (a : ℕ) → a < mostNodes
+      → (n : ℕ) → depth ws a ≤ n → nextNodes (nodesWithin ws n a) ws ≡ []
 
 -- d is the distance of some joined node from its rail, by what four words of each plane switch on at one of 256 positions
 pub record DistanceUnder (t : ModuleType) (ones zeros : List ℕ) (d : ℕ) : Type 0 where

@@ -38,6 +38,15 @@ static int as_grade(size_t room, const uint64_t *six, uint64_t rounds)
     return 1;
 }
 
+/* A NAND without faults, then an inverter with all of its six, under 11: the NAND's output is two edges from ground. */
+static void nand_then_inverter(void)
+{
+    static const uint8_t bytes[] = {1, 0, 2, 0, 2, 2, 0, 3, 2, 2, 1, 3, 0, 3, 1, 2, 0, 3, 0, 3, 0, 2, 0, 2, 0, 3, 3, 2, 2, 3, 0, 3, 1, 2, 0, 3, 0, 3, 1, 2, 1,
+                                    3, 0, 3, 2, 3, 0, 3, 0, 3, 3, 0, 1, 5, 0, 6, 2, 0, 0, 1, 0, 2, 5, 0, 4, 1, 255, 0, 1, 6, 0, 2, '1', '1'};
+    for (length = 0; length < sizeof bytes; length++)
+        file[length] = bytes[length];
+}
+
 void test_numbers(void)
 {
     uint64_t six[TOGYAMIRU_NUMBERS];
@@ -53,4 +62,7 @@ void test_numbers(void)
     file[length - 9] = 'X';
     grade(WORDS, TOGYAMIRU_ALL_NUMBERS, six);
     expect(six[TOGYAMIRU_NUMBER] == TOGYAMIRU_NOT_REFUSED && as_grade(TOGYAMIRU_ALL_NUMBERS, six, 0), "nothing but X: nothing is on, and no round");
+    nand_then_inverter();
+    grade(WORDS, TOGYAMIRU_ALL_NUMBERS, six);
+    expect(six[TOGYAMIRU_FAULTS] == 6 && six[TOGYAMIRU_FOUND] == 4 && as_grade(TOGYAMIRU_ALL_NUMBERS, six, 2), "two rounds of a NAND whose faults are not listed");
 }

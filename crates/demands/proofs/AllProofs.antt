@@ -46,7 +46,7 @@ use Rattle.demands.proofs.PassesBefore.{only-passes-change}
 use Rattle.demands.proofs.WrongPasses.{pass-fields-read, wrong-passes-are-wrong}
 use Rattle.switch.proofs.Blocks.{blocks-tell}
 use Rattle.switch.proofs.Tags.{tags-conduct-nothing}
-use Rattle.switch.proofs.Depths.{one-greatest, depth-is-distance}
+use Rattle.switch.proofs.Depths.{one-greatest, depth-is-distance, rounds-add-nodes}
 use Rattle.switch.proofs.DepthBounds.{rounds-are-distances, at-most-below-highest}
 use Rattle.grading.proofs.RoundLaws.{rounds-tell}
 use Rattle.switch.proofs.Groups.{groups-link-alike}
@@ -125,6 +125,7 @@ all-proved = record {
   wrong-passes-are-wrong = wrong-passes-are-wrong;
   one-greatest = one-greatest;
   depth-is-distance = depth-is-distance;
+  rounds-add-nodes = rounds-add-nodes;
   rounds-are-distances = rounds-are-distances;
   at-most-below-highest = at-most-below-highest;
   rounds-tell = rounds-tell;

@@ -14,20 +14,21 @@ use denote.Triple.Clauses.{Ended, AtExit, atExit}
 use denote.Triple.Entry.{Args, Res}
 use denote.Triple.Weaken.{weaken}
 use Rattle.grading.specs.Buffers.{Buffers, roomOf}
-use Rattle.grading.specs.Grading.{Counts, Grading, gradingOf, countsIn, numberIn, placeIn, over, buffersAfter}
+use Rattle.grading.specs.Grading.{Grading, gradingOf, over, buffersAfter}
 use Rattle.grading.specs.Promise.{isGraded, numberOf, placeOf, countsOf}
 use Rattle.grading.specs.declared.Answer.{Answer}
 use Rattle.grading.specs.declared.Answer.the-variants.{Graded, Refused, ShortMatrix, ShortClasses}
 use Rattle.grade_file.proofs.grade.grade as grade
 use Rattle.togyamiru.specs.Entry.{sixNumbers, EntryPromise}
 use Rattle.togyamiru.specs.NumbersEntry.{allNumbers, NumbersPromise}
+use Rattle.togyamiru.specs.NumbersEntry as entry
+use Rattle.togyamiru.proofs.Numbers.{numbers, numbers-are}
 use Rattle.togyamiru.proofs.togyamiru_grade as togyamiru-grade
 use Rattle.togyamiru.proofs.togyamiru_grade_numbers as togyamiru-grade-numbers
-use Rattle.demands.specs.Calls.{Kept, Refuses}
-use Rattle.demands.specs.One.{CanBeMet}
+use Rattle.demands.specs.Calls.{Call, Kept, Refuses}
 use Rattle.demands.specs.Determined.{MeetsDemands}
 use Rattle.demands.specs.Contracts.{ToldBy, RoutineTells, callOf, GradeIsKept}
-use Rattle.demands.specs.Contracts.{sixOf, numbersOf, EntryIsCall, ofEntry, EntryIsKept, NumbersAreCall, ofNumbers, NumbersAreKept}
+use Rattle.demands.specs.Contracts.{sixOf, numbersOf, CallOn, EntryIsCall, ofEntry, EntryIsKept, NumbersAreCall, ofNumbers, NumbersAreKept}
 use Rattle.demands.proofs.Determines.{kept-meets}
 use Rattle.demands.proofs.RightProof.{promise-can-be-met}
 
@@ -54,9 +55,6 @@ grade-is-kept = record {
 
 -- ---- the numbers of an answer, of which the first six are those of the older entry
 
-abbrev numbers : ℕ → ℕ → Counts → List ℕ
-numbers n p counts = n ∷ p ∷ counts .vectors ∷ counts .faults ∷ counts .classes ∷ counts .found ∷ counts .rounds ∷ []
-
 numbers-refused : (answer : Answer) (number place : ℕ) → Refuses answer number place → numbersOf answer ≡ number ∷ place ∷ 0 ∷ 0 ∷ 0 ∷ 0 ∷ 0 ∷ []
 unfolding numbersOf sixOf Refuses numberOf placeOf countsOf
 numbers-refused (Graded counts) number place r = absurd r
@@ -64,55 +62,61 @@ numbers-refused (Refused refusal) number place (n, p) = λ i. n i ∷ p i ∷ 0 
 numbers-refused (ShortMatrix words) number place (n, p) = λ i. n i ∷ p i ∷ 0 ∷ 0 ∷ 0 ∷ 0 ∷ 0 ∷ []
 numbers-refused (ShortClasses faults) number place (n, p) = λ i. n i ∷ p i ∷ 0 ∷ 0 ∷ 0 ∷ 0 ∷ 0 ∷ []
 
-six-refused : (answer : Answer) (number place : ℕ) → Refuses answer number place → sixOf answer ≡ number ∷ place ∷ 0 ∷ 0 ∷ 0 ∷ 0 ∷ []
-unfolding numbersOf sixOf
-six-refused answer number place r = ap (take 6) (numbers-refused answer number place r)
-
-nothing-refused : (answer : Answer) → T (isGraded answer) → let counts = countsOf answer in
-    sixOf answer ≡ 0 ∷ 0 ∷ counts .vectors ∷ counts .faults ∷ counts .classes ∷ counts .found ∷ []
-unfolding sixOf isGraded numberOf placeOf
+nothing-refused : (answer : Answer) → T (isGraded answer) → numbersOf answer ≡ numbers 0 0 (countsOf answer)
+unfolding numbersOf sixOf isGraded numberOf placeOf
 nothing-refused (Graded counts) g = refl
 nothing-refused (Refused refusal) g = absurd g
 nothing-refused (ShortMatrix words) g = absurd g
 nothing-refused (ShortClasses faults) g = absurd g
 
+six-of : (answer : Answer) {all : List ℕ} → numbersOf answer ≡ all → sixOf answer ≡ take 6 all
+unfolding numbersOf sixOf
+six-of answer e = ap (take 6) e
+
 -- ---- the entries for C
 
--- a call on the same file and buffers that keeps the promise has the numbers and the buffers that an entry promises
-module _ (file : List ℕ) (before : Buffers) (by : CanBeMet file before) where
-  abbrev told : Grading
-  told = gradingOf file (roomOf before)
+-- a call on the same file and buffers is to be graded alike
+same : (file : List ℕ) (before : Buffers) (call : Call) → call .file ≡ file → call .before ≡ before
+    → gradingOf (call .file) (roomOf (call .before)) ≡ gradingOf file (roomOf before)
+same file before call = ap₂ (λ (bytes : List ℕ) (buffers : Buffers). gradingOf bytes (roomOf buffers))
 
-  same : gradingOf (by .call .file) (roomOf (by .call .before)) ≡ told
-  same = ap₂ (λ (bytes : List ℕ) (buffers : Buffers). gradingOf bytes (roomOf buffers)) (by .of-file) (by .of-buffers)
-
-  all-numbers : allNumbers told ≡ numbersOf (by .call .answer)
-  unfolding allNumbers sixNumbers numbersOf sixOf
-  all-numbers =
-      ap (λ (n : ℕ). numbers n (placeIn told) (countsIn told)) (sym (by .kept .number ∙ ap numberIn same))
-      ∙ ap (λ (p : ℕ). numbers (numberOf (by .call .answer)) p (countsIn told)) (sym (by .kept .place ∙ ap placeIn same))
-      ∙ ap (numbers (numberOf (by .call .answer)) (placeOf (by .call .answer))) (sym (by .kept .counts ∙ ap countsIn same))
-
-  six-numbers : sixNumbers told ≡ sixOf (by .call .answer)
-  unfolding allNumbers sixNumbers numbersOf sixOf
-  six-numbers = ap (take 6) all-numbers
-
-  buffers-are : (after : Buffers) → after ≡ buffersAfter told before → by .call .after ≡ after
-  buffers-are after at-exit = by .kept .buffers-at-exit ∙ ap₂ buffersAfter same (by .of-buffers) ∙ sym at-exit
-
-entry-is-call : (file : List ℕ) (before : Buffers) (six : List ℕ) (after : Buffers) → EntryPromise file before six after → EntryIsCall file before six after
-entry-is-call file before six after promise =
+-- an entry leaves the buffers as a call that keeps the promise does
+call-on : (file : List ℕ) (before after : Buffers) → after ≡ buffersAfter (gradingOf file (roomOf before)) before → CallOn file before after
+call-on file before after at-exit =
     let by = promise-can-be-met file before in
-    let are : six ≡ sixOf (by .call .answer) = promise .answer-at-exit ∙ six-numbers file before by in
+    let is = same file before (by .call) (by .of-file) (by .of-buffers) in
     record {
       call = by .call;
       of-file = by .of-file;
       of-buffers = by .of-buffers;
       kept = by .kept;
-      to-buffers = buffers-are file before by after (promise .buffers-at-exit);
+      to-buffers = by .kept .buffers-at-exit ∙ ap₂ buffersAfter is (by .of-buffers) ∙ sym at-exit;
+    }
+
+-- and that call has the numbers that an entry promises
+module _ (file : List ℕ) (before after : Buffers) (by : CallOn file before after) where
+  abbrev told : Grading
+  told = gradingOf file (roomOf before)
+
+  all-numbers : allNumbers told ≡ numbersOf (by .call .answer)
+  unfolding numbersOf sixOf entry.numbersOf
+  all-numbers =
+      ap allNumbers (sym (same file before (by .call) (by .of-file) (by .of-buffers)))
+      ∙ sym (numbers-are _ (by .call .answer) (by .call .before) (by .call .after) (numbersOf (by .call .answer)) (by .kept) refl)
+
+  six-numbers : sixNumbers told ≡ sixOf (by .call .answer)
+  unfolding allNumbers sixNumbers
+  six-numbers = sym (six-of (by .call .answer) (sym all-numbers))
+
+entry-is-call : (file : List ℕ) (before : Buffers) (six : List ℕ) (after : Buffers) → EntryPromise file before six after → EntryIsCall file before six after
+entry-is-call file before six after promise =
+    let by = call-on file before after (promise .buffers-at-exit) in
+    let are : six ≡ sixOf (by .call .answer) = promise .answer-at-exit ∙ six-numbers file before after by in
+    record {
+      by = by;
       six-numbers = are;
-      refusal-counts-nothing = λ number place r. are ∙ six-refused (by .call .answer) number place r;
-      grading-refuses-nothing = λ graded. are ∙ nothing-refused (by .call .answer) graded;
+      refusal-counts-nothing = λ number place r. are ∙ six-of (by .call .answer) (numbers-refused (by .call .answer) number place r);
+      grading-refuses-nothing = λ graded. are ∙ six-of (by .call .answer) (nothing-refused (by .call .answer) graded);
     }
 
 pub entry-is-kept : EntryIsKept
@@ -127,17 +131,14 @@ entry-is-kept = record {
 numbers-are-call : (file : List ℕ) (before : Buffers) (room room′ : List ℕ) (after : Buffers) → NumbersPromise file before room room′ after
     → NumbersAreCall file before room room′ after
 numbers-are-call file before room room′ after promise =
-    let by = promise-can-be-met file before in
+    let by = call-on file before after (promise .buffers-at-exit) in
     let as-many : List ℕ → List ℕ = λ all. over (take (length room) all) room in
-    let are : room′ ≡ as-many (numbersOf (by .call .answer)) = promise .numbers-at-exit ∙ ap as-many (all-numbers file before by) in
+    let are : room′ ≡ as-many (numbersOf (by .call .answer)) = promise .numbers-at-exit ∙ ap as-many (all-numbers file before after by) in
     record {
-      call = by .call;
-      of-file = by .of-file;
-      of-buffers = by .of-buffers;
-      kept = by .kept;
-      to-buffers = buffers-are file before by after (promise .buffers-at-exit);
+      by = by;
       numbers-are = are;
       refusal-counts-nothing = λ number place r. are ∙ ap as-many (numbers-refused (by .call .answer) number place r);
+      grading-refuses-nothing = λ graded. are ∙ ap as-many (nothing-refused (by .call .answer) graded);
     }
 
 pub numbers-are-kept : NumbersAreKept

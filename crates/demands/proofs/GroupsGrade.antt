@@ -7,12 +7,10 @@ use lib.Dec.{T}
 use lib.ListN.{length, getD, List·getD-map}
 use Rattle.words.specs.Bits.{ofBool}
 use Rattle.words.specs.Rows.{rowOf}
-use Rattle.words.proofs.Greatest.{greatest-cong}
 use Rattle.switch.specs.Conduction.{Value, Edge, Switching, byValues, links, Link, Among, ground, supply}
 use Rattle.switch.specs.Modules.{ModuleType, linksOf, settingOf}
 use Rattle.switch.specs.Bridges.{closing}
 use Rattle.switch.specs.Deciding.{joins, allBelow, oneRail, isComplementary, levelIn, isMarked}
-use Rattle.switch.specs.Depth.{deepest}
 use Rattle.switch.specs.Grouped.{Group, groupLinks, ofGroups}
 use Rattle.switch.proofs.Paths.{more-links}
 use Rattle.switch.proofs.Deciding.{joins-decides}
@@ -24,6 +22,7 @@ use Rattle.grading.specs.Rows.{Row, noInstance, rowsOf, rowValues, cell, markOf
 use Rattle.grading.specs.Classes.{sameClass, classesBy, hasMarkBy, classFoundBy, foundBy}
 use Rattle.grading.specs.Rounds.{typeAt, valuesAt, linksAt, instanceRounds, roundsOf}
 use Rattle.grading.proofs.Everywhere.{Every}
+use Rattle.grading.proofs.RoundLaws.{rounds-cong}
 use Rattle.grading.proofs.RowsPlaced.{rows-placed}
 use Rattle.demands.specs.Graders.{workBy, rightWork}
 use Rattle.demands.specs.SingleTransistors.{groupsComplementary, instanceLinks, groupsOutputs, groupsMark, groupsRounds, groupsWork}
@@ -116,13 +115,12 @@ module _ (c : Circuit) (groups : List (List Group)) (aligned : Aligned (c .types
   rounds-alike : groupsRounds groups c ≡ roundsOf c
   unfolding groupsRounds roundsOf instanceRounds linksAt typeAt valuesAt outputsOf instanceLinks linksOf
   rounds-alike =
-      greatest-cong (length (c .instances)) _ (instanceRounds c) (λ i h.
-      greatest-cong (length (c .vectors)) _ (λ (v : ℕ). deepest (linksAt c i v)) (λ v k.
+      rounds-cong (length (c .instances)) (length (c .vectors)) _ (linksAt c) (λ i v.
       let inst = getD (c .instances) i noInstance in
       let vector = getD (c .vectors) v [] in
       let values = labelValues vector (outputsAfter (c .types) vector [] (c .instances)) inst in
       rw (outputs-alike (c .types) groups aligned vector [] (c .instances), edges-of (c .types) groups aligned (inst .type))
-      (deepest-same _ _ (groups-link-alike .same-links (byValues values) (numbered groups (inst .type) [])))))
+      (deepest-same _ _ (groups-link-alike .same-links (byValues values) (numbered groups (inst .type) []))))
 
 -- rows with equal marks have equal words, and their classes are found alike
 module _ (marks others : Row → ℕ → ℕ) where

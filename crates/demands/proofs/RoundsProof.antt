@@ -29,10 +29,9 @@ use Rattle.grading.specs.Buffers.{Buffers, buffersOf}
 use Rattle.grading.specs.Values.{labelValues, outputsAfter, outputsOf}
 use Rattle.grading.specs.Rows.{noInstance}
 use Rattle.grading.specs.Rounds.{typeAt, valuesAt, linksAt, DistanceIn, instanceRounds, roundsOf}
-use Rattle.grading.specs.Grading as grading
 use Rattle.grading.specs.Promise.{isGraded}
 use Rattle.grading.proofs.ValueLaws.{type-good, type-accepted}
-use Rattle.grading.proofs.RoundLaws.{rounds-tell}
+use Rattle.grading.proofs.RoundLaws.{rounds-tell, greatest-here, rounds-cong}
 use Rattle.demands.specs.Calls.{Call, GradedAs}
 use Rattle.demands.specs.Two.{AlikeButVectors}
 use Rattle.demands.specs.Three.{given, Refined}
@@ -40,7 +39,7 @@ use Rattle.demands.specs.Files.{oneUnder, detourFields}
 use Rattle.demands.specs.Graders.{called, rightly}
 use Rattle.demands.specs.Rounds.{roundsGiven, RoundsAreTheGreatestDistance, StepsCountTheRounds, JoiningCountsDistances, RoundsAreFew}
 use Rattle.demands.specs.Rounds.{wiring, RoundsAskForNoFaults, MoreVectorsNoFewerRounds, FillingMayLowerRounds}
-use Rattle.demands.proofs.Gave.{Gave, gave, rounds-counted, rounds-given}
+use Rattle.demands.proofs.Gave.{gave, rounds-counted, rounds-given}
 use Rattle.demands.proofs.Computing.{grader-computing, toldBy, circuitOf}
 use Rattle.demands.proofs.RightProof.{rightly-is-right}
 
@@ -68,6 +67,14 @@ joining-counts-distances κs a r e asked learnt =
 
 -- ---- how many they can be
 
+-- what every number of P is at most, the greatest of them is
+within : (P : ℕ → Type 0) (d b : ℕ) → GreatestIs P d → ((e : ℕ) → P e → e ≤ b) → d ≤ b
+within P d b greatest each = go (greatest .attained)
+  where
+    go : (d ≡ 0) ⊎ P d → d ≤ b
+    go (inl z) = omega arith
+    go (inr p) = each d p
+
 accepted-at : (c : Circuit) → CircuitGood c → (i : ℕ) → i < length (c .instances) → Accepted (typeAt c i)
 unfolding typeAt
 accepted-at c good i h = type-accepted (typeAt c i) (type-good c good i h noInstance (getD (c .instances) i noInstance) refl)
@@ -78,19 +85,31 @@ below-highest c good d at =
     at-most-below-highest (typeAt c (at .instance)) (accepted-at c good (at .instance) (at .is-instance))
     (valuesAt c (at .instance) (at .vector)) (at .rail) (at .is-rail) d (at .from)
 
+-- so are the rounds of an instance, which are 0 or a distance in it
+instance-below : (c : Circuit) → CircuitGood c → (i : ℕ) → i < length (c .instances) → instanceRounds c i ≤ typeAt c i .highest - 1
+instance-below c good i h =
+    within _ (instanceRounds c i) (typeAt c i .highest - 1) (greatest-here c good i h) (λ d far.
+    below-highest c good d (record {
+      instance = i;
+      vector = far .0;
+      rail = far .2 .0;
+      is-instance = h;
+      is-vector = far .1;
+      is-rail = far .2 .1;
+      from = far .2 .2;
+    }))
+
 pub rounds-are-few : RoundsAreFew
 rounds-are-few = record {
   below-highest = λ file c accepts. below-highest c (accepted-is-good true file c accepts);
-  at-most = λ call c graded h high. at-most call c (gave call c graded) h high;
+  at-most = λ call c graded h high.
+      let here = gave call c graded in
+      within (DistanceIn c) (roundsGiven call) (h - 1) (rounds-given call c here) (λ d at.
+      omega (arith, below-highest c (here .good) d at, high (at .instance) (at .is-instance)));
+  step = λ call c graded i h ones zeros planes.
+      let good = gave call c graded .good in
+      omega (arith, rounds-tell .step-counts c good i h ones zeros planes, instance-below c good i h);
 }
-  where
-    at-most : (call : Call) (c : Circuit) → Gave call c → (h : ℕ) → ((i : ℕ) → i < length (c .instances) → typeAt c i .highest ≤ h)
-        → roundsGiven call ≤ h - 1
-    at-most call c here h high = go (rounds-given call c here .attained)
-      where
-        go : (roundsGiven call ≡ 0) ⊎ DistanceIn c (roundsGiven call) → roundsGiven call ≤ h - 1
-        go (inl z) = omega (arith, z)
-        go (inr at) = omega (arith, below-highest c (here .good) (roundsGiven call) at, high (at .instance) (at .is-instance))
 
 -- ---- no faults are asked for
 
@@ -123,8 +142,7 @@ links-without c i v =
 rounds-without : (c : Circuit) → roundsOf c ≡ roundsOf (withoutFaults c)
 unfolding roundsOf instanceRounds
 rounds-without c =
-    greatest-cong (length (c .instances)) (instanceRounds c) (instanceRounds (withoutFaults c))
-    (λ i h. greatest-cong (length (c .vectors)) _ _ (λ v k. ap deepest (links-without c i v)))
+    rounds-cong (length (c .instances)) (length (c .vectors)) (linksAt c) (linksAt (withoutFaults c)) (λ i v. ap deepest (links-without c i v))
     ∙ ap (λ (n : ℕ). greatestTo n (instanceRounds (withoutFaults c))) (sym several)
   where
     several : length (withoutChoices (c .instances)) ≡ length (c .instances)
@@ -158,11 +176,9 @@ module _ (c d : Circuit) (alike : AlikeButVectors c d) (more : List (List Value)
   }
 
 pub more-vectors-no-fewer-rounds : MoreVectorsNoFewerRounds
-more-vectors-no-fewer-rounds one other c d graded graded′ alike more longer = go (rounds-are-the-greatest-distance one c graded .attained)
-  where
-    go : (roundsGiven one ≡ 0) ⊎ DistanceIn c (roundsGiven one) → roundsGiven one ≤ roundsGiven other
-    go (inl z) = omega (arith, z)
-    go (inr at) = rounds-are-the-greatest-distance other d graded′ .most (roundsGiven one) (distance-stays c d alike more longer (roundsGiven one) at)
+more-vectors-no-fewer-rounds one other c d graded graded′ alike more longer =
+    within (DistanceIn c) (roundsGiven one) (roundsGiven other) (rounds-are-the-greatest-distance one c graded)
+    (λ e at. rounds-are-the-greatest-distance other d graded′ .most e (distance-stays c d alike more longer e at))
 
 -- ---- an X filled
 

@@ -8,7 +8,6 @@ use lib.Dec.{ltb}
 use lib.ListN.{length, getD, length-map, List·getD-map}
 use Rattle.words.specs.Bits.{ofBool}
 use Rattle.words.specs.Rows.{rowOf}
-use Rattle.words.proofs.Greatest.{greatest-cong}
 use Rattle.switch.specs.Conduction.{Value, byValues, Link, ground, supply}
 use Rattle.switch.specs.Modules.{ModuleType, linksOf}
 use Rattle.switch.specs.Bridges.{Bridge, nodes, input, closing}
@@ -27,6 +26,7 @@ use Rattle.grading.specs.Classes.{sameClass, largest, classesBy, hasMarkBy, cla
 use Rattle.grading.specs.Rounds.{typeAt, valuesAt, linksAt, instanceRounds, roundsOf}
 use Rattle.grading.specs.Grading.{graded, refused, gradingOfCircuit, afterReading, gradingOf}
 use Rattle.grading.proofs.ClassLists.{classes-keyed}
+use Rattle.grading.proofs.RoundLaws.{rounds-cong}
 use Rattle.demands.specs.Calls.{Call, Kept, Accepts}
 use Rattle.demands.specs.Graders.{Outcome, Work, outcomeOf, gradesBy, workBy, rightWork, rightly}
 use Rattle.demands.specs.PassTransistors.{untaggedCircuit, TagsChangeNoAnswer}
@@ -119,8 +119,7 @@ links-at-untagged c i v =
 rounds-untagged : (c : Circuit) → roundsOf (untaggedCircuit c) ≡ roundsOf c
 unfolding roundsOf instanceRounds untaggedCircuit
 rounds-untagged c =
-    greatest-cong (length (c .instances)) _ (instanceRounds c) (λ i h.
-    greatest-cong (length (c .vectors)) _ (λ (v : ℕ). deepest (linksAt c i v)) (λ v k. ap deepest (links-at-untagged c i v)))
+    rounds-cong (length (c .instances)) (length (c .vectors)) _ (linksAt c) (λ i v. ap deepest (links-at-untagged c i v))
 
 -- ---- classes
 

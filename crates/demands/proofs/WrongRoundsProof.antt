@@ -1,6 +1,6 @@
 -- Wrong ways to count rounds (specs/WrongRounds). Each is refuted by a small file, on which it gives another number than the circuit's rounds:
 -- both are computed, and a circuit has one greatest distance. A grader that keeps the promise counts right; and whatever a grader gives for
--- rounds, its cells and classes are the right grader's. Assumes nothing.
+-- rounds, it refuses by the table, and its cells, its classes and what it leaves in the buffers are the right grader's. Assumes nothing.
 use Prim.Native.Nat.{ℕ, suc}
 use mathlib.Core.Path.{_≡_, refl, sym, _∙_}
 use mathlib.Core.Bool.{true}
@@ -18,15 +18,16 @@ use Rattle.grading.proofs.RoundLaws.{rounds-tell}
 use Rattle.demands.specs.Calls.{Call, Accepts}
 use Rattle.demands.specs.Two.{Found, ClassesTell}
 use Rattle.demands.specs.Rounds.{roundsGiven}
-use Rattle.demands.specs.Files.{inverterUnder, inverterChoosing, nandUnder, norUnder, nandThenInverter}
+use Rattle.demands.specs.Files.{inverterUnder, inverterChoosing, nandUnder, norUnder, inverterThenNand, nandThenInverter}
 use Rattle.demands.specs.Graders.{Grader, MeetsPromise, called, Work, outcomeOf, gradesBy, rightWork, rightly}
-use Rattle.demands.specs.Breaks.{MeetsCells, MeetsClasses, MeetsRounds}
-use Rattle.demands.specs.WrongRounds.{withRounds, countsRounds, greatestAt, greatestBy, sweepInPlace, sweepsFrom, distanceFrom, isX}
-use Rattle.demands.specs.WrongRounds.{countsSweeps, countsTheLastRound, lastInstanceOnly, countsNodes, instancesWithFaults, fromSupplyOnly, fromGroundOnly}
+use Rattle.demands.specs.Breaks.{MeetsRest, MeetsCells, MeetsClasses, MeetsRounds}
+use Rattle.demands.specs.WrongRounds.{withRounds, countsRounds, greatestAt, greatestBy, sweepInPlace, sweepsFrom, outputDistance, isX}
+use Rattle.demands.specs.WrongRounds.{countsSweeps, countsTheLastRound, firstInstanceOnly, lastInstanceOnly, countsNodes, instancesWithFaults}
+use Rattle.demands.specs.WrongRounds.{fromSupplyOnly, fromGroundOnly, sumOfBothRails}
 use Rattle.demands.specs.WrongRounds.{firstVectorsOnly, lastVectorOnly, outputsOnly, underEverySetting, skipsX, WrongRoundsAreWrong}
 use Rattle.demands.proofs.Computing.{grader-computing, toldBy, circuitOf, blank}
 use Rattle.demands.proofs.Gave.{gave, rounds-given}
-use Rattle.demands.proofs.MeetsProof.{rightly-meets-all, graded-too, by-right-words}
+use Rattle.demands.proofs.MeetsProof.{rightly-meets-all, meet-demand-one, graded-too, by-right-words}
 use Rattle.demands.proofs.WrongProof.{Differ, apart}
 
 -- ---- the promise
@@ -78,6 +79,19 @@ module _ (rounds : Circuit → ℕ) where
       classes-carried file before c g
       (rightly-meets-all .classes file before c accepts (graded-too (withRounds rounds) (λ d. refl) g before is-graded))
 
+  -- the buffers hold nothing of rounds
+  same-buffers : (g : Grading) (before : Buffers) → outcomeOf (withRounds rounds) g before .after ≡ outcomeOf rightWork g before .after
+  unfolding outcomeOf withRounds
+  same-buffers (refused number place) before = refl
+  same-buffers (graded d) before = refl
+
+  rest-right : MeetsRest (countsRounds rounds)
+  unfolding gradesBy rightly withRounds
+  rest-right file before c accepts is-graded =
+      let g = gradingOf file (roomOf before) in
+      let kept = rightly-meets-all .rest file before c accepts (graded-too (withRounds rounds) (λ d. refl) g before is-graded) in
+      rw (same-buffers g before) (record { words = kept .words; entries = kept .entries; as-long = kept .as-long })
+
 -- ---- a file with other rounds than a grader gives
 
 record RoundsWrong (grader : Grader) (file : List ℕ) (right given : ℕ) : Type 0 where
@@ -100,13 +114,16 @@ record Computed : Type 0 where
   -- the output of the NOR is two edges from supply; the first sweep in place meets them in order
   sweeps : RoundsWrong countsSweeps (norUnder ("00" ∷ [])) 2 1
   last-round : RoundsWrong countsTheLastRound (inverterUnder ("0" ∷ [])) 1 2
-  -- the NAND stands first
+  -- the NAND stands second, then first
+  first-instance : RoundsWrong firstInstanceOnly (inverterThenNand ("1" ∷ [])) 2 1
   last-instance : RoundsWrong lastInstanceOnly (nandThenInverter ("11" ∷ [])) 2 1
   nodes : RoundsWrong countsNodes (inverterUnder ("0" ∷ [])) 1 2
   with-faults : RoundsWrong instancesWithFaults (inverterChoosing no-faults) 1 0
   -- under 1 the output hangs on ground, under 0 on supply
   supply-only : RoundsWrong fromSupplyOnly (inverterUnder ("1" ∷ [])) 1 0
   ground-only : RoundsWrong fromGroundOnly (inverterUnder ("0" ∷ [])) 1 0
+  -- the output hangs on supply, the inner node on ground
+  both-rails : RoundsWrong sumOfBothRails (nandUnder ("01" ∷ [])) 1 2
   -- under X nothing is on
   first-vectors : RoundsWrong firstVectorsOnly (inverterUnder (replicate 64 "X" ++ ("0" ∷ []))) 1 0
   last-vector : RoundsWrong lastVectorOnly (inverterUnder ("0" ∷ "X" ∷ [])) 1 0
@@ -118,17 +135,19 @@ record Computed : Type 0 where
   without-x : RoundsWrong skipsX (nandUnder ("0X" ∷ [])) 1 0
 
 computed : Computed
-unfolding grader-computing toldBy isGraded withRounds greatestAt greatestBy sweepInPlace sweepsFrom distanceFrom isX
-    countsSweeps countsTheLastRound lastInstanceOnly countsNodes instancesWithFaults fromSupplyOnly fromGroundOnly
-    firstVectorsOnly lastVectorOnly outputsOnly underEverySetting skipsX
+unfolding grader-computing toldBy isGraded withRounds greatestAt greatestBy sweepInPlace sweepsFrom outputDistance isX
+    countsSweeps countsTheLastRound firstInstanceOnly lastInstanceOnly countsNodes instancesWithFaults fromSupplyOnly fromGroundOnly
+    sumOfBothRails firstVectorsOnly lastVectorOnly outputsOnly underEverySetting skipsX
 computed = record {
   sweeps = record { accepts = refl; grades = tt; are = refl; gives = refl };
   last-round = record { accepts = refl; grades = tt; are = refl; gives = refl };
+  first-instance = record { accepts = refl; grades = tt; are = refl; gives = refl };
   last-instance = record { accepts = refl; grades = tt; are = refl; gives = refl };
   nodes = record { accepts = refl; grades = tt; are = refl; gives = refl };
   with-faults = record { accepts = refl; grades = tt; are = refl; gives = refl };
   supply-only = record { accepts = refl; grades = tt; are = refl; gives = refl };
   ground-only = record { accepts = refl; grades = tt; are = refl; gives = refl };
+  both-rails = record { accepts = refl; grades = tt; are = refl; gives = refl };
   first-vectors = record { accepts = refl; grades = tt; are = refl; gives = refl };
   last-vector = record { accepts = refl; grades = tt; are = refl; gives = refl };
   outputs = record { accepts = refl; grades = tt; are = refl; gives = refl };
@@ -139,15 +158,19 @@ computed = record {
 pub wrong-rounds-are-wrong : WrongRoundsAreWrong
 wrong-rounds-are-wrong = record {
   promise-asks = promise-asks;
+  one = λ rounds. meet-demand-one .by-any-work (withRounds rounds);
+  rest = rest-right;
   cells = cells-right;
   classes = classes-right;
   counts-sweeps = by-rounds _ _ _ _ (computed .sweeps) refl;
   counts-the-last-round = by-rounds _ _ _ _ (computed .last-round) refl;
+  first-instance-only = by-rounds _ _ _ _ (computed .first-instance) refl;
   last-instance-only = by-rounds _ _ _ _ (computed .last-instance) refl;
   counts-nodes = by-rounds _ _ _ _ (computed .nodes) refl;
   instances-with-faults = by-rounds _ _ _ _ (computed .with-faults) refl;
   from-supply-only = by-rounds _ _ _ _ (computed .supply-only) refl;
   from-ground-only = by-rounds _ _ _ _ (computed .ground-only) refl;
+  sum-of-both-rails = by-rounds _ _ _ _ (computed .both-rails) refl;
   first-vectors-only = by-rounds _ _ _ _ (computed .first-vectors) refl;
   last-vector-only = by-rounds _ _ _ _ (computed .last-vector) refl;
   outputs-only = by-rounds _ _ _ _ (computed .outputs) refl;

@@ -30,28 +30,26 @@ use Rattle.demands.specs.Wrong.{splitsInputs, writesPast, clearsFirst}
 abbrev pub MeetsOne : Grader → Type 0
 MeetsOne grader = (file : List ℕ) (before : Buffers) → One (called grader file before)
 
--- and `GradingKeepsTheRest`, which stands beside it: past the answer the buffers are as they were
-abbrev pub MeetsRest : Grader → Type 0
-MeetsRest grader =
+-- what is asked of a call and its circuit holds of every call that graded
+abbrev pub MeetsWhereGraded : (Call → Circuit → Type 0) → Grader → Type 0
+MeetsWhereGraded Asked grader =
     (file : List ℕ) (before : Buffers) (c : Circuit) → Accepts file c → T (isGraded (grader file before .answer))
-    → RestKept (called grader file before) c
+    → Asked (called grader file before) c
 
--- demand 2, its cells and its classes, holds of every call that graded
+-- `GradingKeepsTheRest`, which stands beside demand 1: past the answer the buffers are as they were
+abbrev pub MeetsRest : Grader → Type 0
+MeetsRest = MeetsWhereGraded RestKept
+
+-- demand 2, its cells and its classes
 abbrev pub MeetsCells : Grader → Type 0
-MeetsCells grader =
-    (file : List ℕ) (before : Buffers) (c : Circuit) → Accepts file c → T (isGraded (grader file before .answer))
-    → CellsTell (called grader file before) c
+MeetsCells = MeetsWhereGraded CellsTell
 
 abbrev pub MeetsClasses : Grader → Type 0
-MeetsClasses grader =
-    (file : List ℕ) (before : Buffers) (c : Circuit) → Accepts file c → T (isGraded (grader file before .answer))
-    → ClassesTell (called grader file before) c
+MeetsClasses = MeetsWhereGraded ClassesTell
 
 -- and 02's rounds
 abbrev pub MeetsRounds : Grader → Type 0
-MeetsRounds grader =
-    (file : List ℕ) (before : Buffers) (c : Circuit) → Accepts file c → T (isGraded (grader file before .answer))
-    → RoundsTold (called grader file before) c
+MeetsRounds = MeetsWhereGraded RoundsTold
 
 -- demand 3, over what the grader itself marks: of two files that it grades, alike but for their vectors, and these refined in the second
 abbrev pub MeetsThree : Grader → Type 0

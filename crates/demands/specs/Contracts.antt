@@ -91,17 +91,21 @@ sixOf answer =
 unfoldable pub numbersOf : Answer → List ℕ
 numbersOf answer = sixOf answer ++ (countsOf answer .rounds ∷ [])
 
--- of what the entry was given, the six numbers, and the buffers as they are then: they are those of a call of `grade` that keeps its
--- promise; a refusal counts nothing, and a grading has no number and no place
-pub record EntryIsCall (file : List ℕ) (before : Buffers) (six : List ℕ) (after : Buffers) : Type 0 where
+-- a call of `grade` that keeps its promise, on what an entry was given, and with the buffers as the entry leaves them
+pub record CallOn (file : List ℕ) (before after : Buffers) : Type 0 where
   pub call : Call
   pub of-file : call .file ≡ file
   pub of-buffers : call .before ≡ before
   pub kept : Kept call
   pub to-buffers : call .after ≡ after
-  pub six-numbers : six ≡ sixOf (call .answer)
-  pub refusal-counts-nothing : (number place : ℕ) → Refuses (call .answer) number place → six ≡ number ∷ place ∷ 0 ∷ 0 ∷ 0 ∷ 0 ∷ []
-  pub grading-refuses-nothing : T (isGraded (call .answer)) → let counts = countsOf (call .answer) in
+
+-- the six numbers of the entry are those of such a call; a refusal counts nothing, and a grading has no number and no place
+pub record EntryIsCall (file : List ℕ) (before : Buffers) (six : List ℕ) (after : Buffers) : Type 0 where
+  pub by : CallOn file before after
+  pub six-numbers : six ≡ sixOf (by .call .answer)
+  pub refusal-counts-nothing : (number place : ℕ) → Refuses (by .call .answer) number place
+      → six ≡ number ∷ place ∷ 0 ∷ 0 ∷ 0 ∷ 0 ∷ []
+  pub grading-refuses-nothing : T (isGraded (by .call .answer)) → let counts = countsOf (by .call .answer) in
       six ≡ 0 ∷ 0 ∷ counts .vectors ∷ counts .faults ∷ counts .classes ∷ counts .found ∷ []
 
 -- the file and the buffers that the entry was given, its six numbers, and the buffers at exit
@@ -117,17 +121,15 @@ pub record EntryIsKept : Type 2 where
   pub routine-is-call : (M : Type 1)
       → RoutineTells M togyamiru-grade.Symbol.routine togyamiru-grade.ended (λ κs a r e. ofEntry κs a e EntryIsCall)
 
--- of what the entry for any count of numbers was given, the numbers, and the buffers as they are then: they are those of a call of `grade`
--- that keeps its promise, as many as there is room for, and what stood behind them
+-- the numbers of the entry for any count of them are those of such a call, as many as there is room for, and what stood behind them
 pub record NumbersAreCall (file : List ℕ) (before : Buffers) (numbers numbers′ : List ℕ) (after : Buffers) : Type 0 where
-  pub call : Call
-  pub of-file : call .file ≡ file
-  pub of-buffers : call .before ≡ before
-  pub kept : Kept call
-  pub to-buffers : call .after ≡ after
-  pub numbers-are : numbers′ ≡ over (take (length numbers) (numbersOf (call .answer))) numbers
-  pub refusal-counts-nothing : (number place : ℕ) → Refuses (call .answer) number place
+  pub by : CallOn file before after
+  pub numbers-are : numbers′ ≡ over (take (length numbers) (numbersOf (by .call .answer))) numbers
+  pub refusal-counts-nothing : (number place : ℕ) → Refuses (by .call .answer) number place
       → numbers′ ≡ over (take (length numbers) (number ∷ place ∷ 0 ∷ 0 ∷ 0 ∷ 0 ∷ 0 ∷ [])) numbers
+  pub grading-refuses-nothing : T (isGraded (by .call .answer)) → let counts = countsOf (by .call .answer) in
+      let all : List ℕ = 0 ∷ 0 ∷ counts .vectors ∷ counts .faults ∷ counts .classes ∷ counts .found ∷ counts .rounds ∷ [] in
+      numbers′ ≡ over (take (length numbers) all) numbers
 
 abbrev pub ofNumbers : (κs : Lfts 4) → Args togyamiru-grade-numbers.signature κs → AtExit togyamiru-grade-numbers.ended κs
     → (List ℕ → Buffers → List ℕ → List ℕ → Buffers → Type 0) → Type 0

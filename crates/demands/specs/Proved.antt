@@ -3,7 +3,7 @@
 use Rattle.switch.specs.Blocks.{BlocksTell}
 use Rattle.switch.specs.Grouped.{GroupsLinkAlike}
 use Rattle.switch.specs.Tags.{TagsConductNothing}
-use Rattle.switch.specs.Statements.{OneGreatest, DepthIsDistance, RoundsAreDistances, AtMostBelowHighest}
+use Rattle.switch.specs.Statements.{OneGreatest, DepthIsDistance, RoundsAddNodes, RoundsAreDistances, AtMostBelowHighest}
 use Rattle.circuit.specs.Laws.{GatheredIsBefore, BeforeIsCircuit}
 use Rattle.grading.specs.Statements.{RoundsTell}
 use Rattle.print_lines.specs.Pieces.{OnePiece, PiecesJoin, PieceMoves}
@@ -122,6 +122,7 @@ pub record AllProved : Type 2 where
   -- 02, "How many rounds joining takes"
   pub one-greatest : OneGreatest
   pub depth-is-distance : DepthIsDistance
+  pub rounds-add-nodes : RoundsAddNodes
   pub rounds-are-distances : RoundsAreDistances
   pub at-most-below-highest : AtMostBelowHighest
   pub rounds-tell : RoundsTell

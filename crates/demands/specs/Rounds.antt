@@ -39,15 +39,16 @@ RoundsAreTheGreatestDistance = (call : Call) (c : Circuit) → GradedAs call c �
 
 -- ---- the joining step
 
--- for each instance the count of the step, over any planes that hold the values of its labels; of these counts the greatest is the number
--- of the report
+-- for each instance the number that the step gives, over any planes that hold the values of its labels; of these numbers the greatest is
+-- that of the report. It is the step's count of rounds that added a node: as many add one (`RoundsAddNodes` of `switch`), and those the
+-- code counts, by the contract of its loop (`WideJoined` in `join_nodes/specs/Model`)
 abbrev pub StepsCountTheRounds : Type 0
 StepsCountTheRounds =
     (call : Call) (c : Circuit) → GradedAs call c → (ones zeros : ℕ → List ℕ)
     → ((i : ℕ) → i < length (c .instances) → PlanesAt c i (ones i) (zeros i))
     → roundsGiven call ≡ greatestTo (length (c .instances)) (λ (i : ℕ). fourRounds (typeAt c i) (ones i) (zeros i))
 
--- and the contract of the code: what `join_type` answers is the greatest distance over the 256 places that its planes have
+-- and the contract of the whole step: what `join_type` answers is the greatest distance over the 256 places that its planes have
 abbrev pub JoiningCountsDistances : Type 0
 JoiningCountsDistances =
     (κs : Lfts 2) (a : Args join-type.signature κs) (r : Rails) (e : AtExit join-type.ended κs)
@@ -63,6 +64,10 @@ pub record RoundsAreFew : Type 0 where
   -- so where no instance's type has a node above h, the rounds are at most h - 1
   pub at-most : (call : Call) (c : Circuit) → GradedAs call c → (h : ℕ) → ((i : ℕ) → i < length (c .instances) → typeAt c i .highest ≤ h)
       → roundsGiven call ≤ h - 1
+  -- so is the count of the joining step in one instance, over planes that hold the values of its labels. Planes that contradict each other
+  -- could join the rails, and then it could reach h
+  pub step : (call : Call) (c : Circuit) → GradedAs call c → (i : ℕ) → i < length (c .instances) → (ones zeros : List ℕ)
+      → PlanesAt c i ones zeros → fourRounds (typeAt c i) ones zeros ≤ typeAt c i .highest - 1
 
 -- ---- what they hang on
 

@@ -1,6 +1,6 @@
 -- Wrong ways to count rounds: graders that are right in all else. None of them meets what 02, "How many rounds joining takes", asks, and so
 -- none meets the promise. The proofs are in proofs/WrongRoundsProof.
-use Prim.Native.Nat.{ℕ, zero, suc, _-_, _^_, min, max}
+use Prim.Native.Nat.{ℕ, zero, suc, _+_, _-_, _^_, min, max}
 use mathlib.Core.Bool.{Bool, true, false, cond}
 use mathlib.Core.List.{List, [], _∷_, _++_}
 use lib.Dec.{eqb}
@@ -14,7 +14,7 @@ use Rattle.circuit.specs.Circuit.{Circuit, faultsOf}
 use Rattle.grading.specs.Rows.{noInstance}
 use Rattle.grading.specs.Rounds.{typeAt, linksAt, instanceRounds, roundsOf}
 use Rattle.demands.specs.Graders.{Grader, MeetsPromise, Work, rightWork, gradesBy}
-use Rattle.demands.specs.Breaks.{MeetsCells, MeetsClasses, MeetsRounds}
+use Rattle.demands.specs.Breaks.{MeetsOne, MeetsRest, MeetsCells, MeetsClasses, MeetsRounds}
 
 unfoldable pub withRounds : (Circuit → ℕ) → Circuit → Work
 withRounds rounds c =
@@ -51,7 +51,10 @@ countsSweeps = countsRounds (greatestBy λ ws. max (sweepsFrom mostNodes (supply
 unfoldable pub countsTheLastRound : Grader
 countsTheLastRound = countsRounds λ c. suc (roundsOf c)
 
--- the last instance only
+-- the first instance only; the last only
+unfoldable pub firstInstanceOnly : Grader
+firstInstanceOnly = countsRounds λ c. instanceRounds c 0
+
 unfoldable pub lastInstanceOnly : Grader
 lastInstanceOnly = countsRounds λ c. instanceRounds c (length (c .instances) - 1)
 
@@ -71,6 +74,10 @@ fromSupplyOnly = countsRounds (greatestBy λ ws. depth ws supply)
 unfoldable pub fromGroundOnly : Grader
 fromGroundOnly = countsRounds (greatestBy λ ws. depth ws ground)
 
+-- the sum of both rails' depths in place of the greater
+unfoldable pub sumOfBothRails : Grader
+sumOfBothRails = countsRounds (greatestBy λ ws. depth ws supply + depth ws ground)
+
 -- the vectors of the first word only; the last vector only
 unfoldable pub firstVectorsOnly : Grader
 firstVectorsOnly = countsRounds λ c.
@@ -80,13 +87,13 @@ unfoldable pub lastVectorOnly : Grader
 lastVectorOnly = countsRounds λ c. greatestTo (length (c .instances)) λ (i : ℕ). deepest (linksAt c i (length (c .vectors) - 1))
 
 -- the output's distance only
-unfoldable pub distanceFrom : List Link → ℕ → ℕ → ℕ
-distanceFrom ws rail m =
+unfoldable pub outputDistance : List Link → ℕ → ℕ → ℕ
+outputDistance ws rail m =
     let distance = leastFrom (λ (n : ℕ). isAmong m (nodesWithin ws n rail)) mostNodes 0 in cond (joins ws m rail) distance 0
 
 unfoldable pub outputsOnly : Grader
 outputsOnly = countsRounds (greatestAt λ c i v.
-    let o = typeAt c i .output in max (distanceFrom (linksAt c i v) supply o) (distanceFrom (linksAt c i v) ground o))
+    let o = typeAt c i .output in max (outputDistance (linksAt c i v) supply o) (outputDistance (linksAt c i v) ground o))
 
 -- every setting of the labels in place of the vectors
 unfoldable pub underEverySetting : Grader
@@ -103,17 +110,21 @@ unfoldable pub skipsX : Grader
 skipsX = countsRounds (greatestAt λ c i v. cond (anyOf isX (getD (c .vectors) v [])) 0 (deepest (linksAt c i v)))
 
 pub record WrongRoundsAreWrong : Type 0 where
-  -- a grader that meets the promise meets what is asked of rounds; and whatever a grader gives for rounds, its cells and classes are right
+  -- a grader that meets the promise meets what is asked of rounds; and whatever a grader gives for rounds, it is right in all else
   pub promise-asks : (grader : Grader) → MeetsPromise grader → MeetsRounds grader
+  pub one : (rounds : Circuit → ℕ) → MeetsOne (countsRounds rounds)
+  pub rest : (rounds : Circuit → ℕ) → MeetsRest (countsRounds rounds)
   pub cells : (rounds : Circuit → ℕ) → MeetsCells (countsRounds rounds)
   pub classes : (rounds : Circuit → ℕ) → MeetsClasses (countsRounds rounds)
   pub counts-sweeps : MeetsRounds countsSweeps → ⊥
   pub counts-the-last-round : MeetsRounds countsTheLastRound → ⊥
   pub last-instance-only : MeetsRounds lastInstanceOnly → ⊥
+  pub first-instance-only : MeetsRounds firstInstanceOnly → ⊥
   pub counts-nodes : MeetsRounds countsNodes → ⊥
   pub instances-with-faults : MeetsRounds instancesWithFaults → ⊥
   pub from-supply-only : MeetsRounds fromSupplyOnly → ⊥
   pub from-ground-only : MeetsRounds fromGroundOnly → ⊥
+  pub sum-of-both-rails : MeetsRounds sumOfBothRails → ⊥
   pub first-vectors-only : MeetsRounds firstVectorsOnly → ⊥
   pub last-vector-only : MeetsRounds lastVectorOnly → ⊥
   pub outputs-only : MeetsRounds outputsOnly → ⊥

@@ -3,24 +3,23 @@
 use Prim.Native.Nat.{ℕ, zero, suc, _+_, _*_, _<_, _≤_}
 use mathlib.Core.Path.{_≡_, refl, ap, _∙_}
 use mathlib.Core.Bool.{false}
-use mathlib.Core.Logic.{_⊎_, inl, inr}
 use mathlib.Core.List.{List, [], _∷_, _++_}
 use native.Mathlib.Omega.{arith}
 use borrow.Author.Tests.{ne-eqb}
 use lib.ListN.{length, getD, List·getD-eq-default}
 use Rattle.words.specs.Bits.{greatestTo}
 use Rattle.words.specs.Each.{wordOfEach}
-use Rattle.words.proofs.Greatest.{greatest-part, greatest-attained, greatest-cong, greatest-by-words}
-use Rattle.switch.specs.Conduction.{Value, atX, Channel, p-channel, n-channel, Edge, transistorOn, Switching, byValues, edgeOn, links, ground, supply}
+use Rattle.words.proofs.Greatest.{greatest-cong, greatest-by-words}
+use Rattle.switch.specs.Conduction.{Value, atX, Channel, p-channel, n-channel, Edge, transistorOn, Switching, byValues, edgeOn, Link, links, ground, supply}
 use Rattle.switch.specs.Modules.{ModuleType, linksOf}
 use Rattle.switch.specs.Deciding.{partIn, renamings, joins, levelIn, outputValue}
-use Rattle.switch.specs.Distances.{IsRail, DistanceFrom, GreatestIs, LinksBelow}
+use Rattle.switch.specs.Distances.{IsRail, DistanceFrom, GreatestIs}
 use Rattle.switch.specs.Depth.{deepest}
 use Rattle.switch.specs.Promises.{roundsUnder, fourRounds}
 use Rattle.switch.proofs.Outputs.{planes-switch}
 use Rattle.switch.proofs.Ranges.{TypeRanges}
 use Rattle.switch.proofs.Depths.{deepest-none, deepest-greatest}
-use Rattle.switch.proofs.DepthBounds.{links-below}
+use Rattle.switch.proofs.DepthBounds.{links-below-all, greatest-of, greatest-alike}
 use Rattle.circuit.specs.Circuit.{Circuit, Reference, primary, outputOf, Instance, numbered, typeOfInstance}
 use Rattle.circuit.specs.Laws.{TypeSound, CircuitGood}
 use Rattle.grading.specs.Values.{valueAt, labelValues, outputsAfter, outputsOf}
@@ -90,6 +89,10 @@ module _ (types : List ModuleType) where
 
 -- ---- a good circuit
 
+-- d is a distance in an instance under a vector
+abbrev Far : Circuit → ℕ → ℕ → ℕ → Type 0
+Far c i v d = (rail : ℕ) × IsRail rail × DistanceFrom (linksAt c i v) rail d
+
 module _ (c : Circuit) (good : CircuitGood c) where
   pub sound-at : (i : ℕ) → i < length (c .instances) → TypeSound (typeAt c i)
   unfolding typeAt
@@ -124,62 +127,30 @@ module _ (c : Circuit) (good : CircuitGood c) where
         (planes-switch (wordOfEach 4 w 12 ones) (wordOfEach 4 w 12 zeros) v (valuesAt c i (64 * w + v)) (planes .hold w v hw hv))))
         ∙ rounds-by-words
 
-    pub below : (v : ℕ) → LinksBelow 32 (linksAt c i v)
-    unfolding linksAt linksOf
-    below v a b m =
-        let ends = links-below (typeAt c i) (sound-at i here .ranges) _ a b m in
-        let high = ranges-at i here .highest in
-        (omega (arith, ends .0, high), omega (arith, ends .1, high))
-
-    deepest-here : (v : ℕ)
-        → GreatestIs (λ (d : ℕ). (rail : ℕ) × IsRail rail × DistanceFrom (linksAt c i v) rail d) (deepest (linksAt c i v))
-    deepest-here v = deepest-greatest (linksAt c i v) (below v)
-
-  -- the rounds of an instance are 0, or a distance in it under some vector
-  rounds-attained : (i : ℕ) → i < length (c .instances) → (instanceRounds c i ≡ 0) ⊎ DistanceIn c (instanceRounds c i)
-  unfolding instanceRounds
-  rounds-attained i here = under (greatest-attained (length (c .vectors)) deep)
-    where
-      deep : ℕ → ℕ
-      deep v = deepest (linksAt c i v)
-
-      most : ℕ
-      most = greatestTo (length (c .vectors)) deep
-
-      from-rail : (v : ℕ) → v < length (c .vectors) → most ≡ deep v
-          → (deep v ≡ 0) ⊎ ((rail : ℕ) × IsRail rail × DistanceFrom (linksAt c i v) rail (deep v)) → (most ≡ 0) ⊎ DistanceIn c most
-      from-rail v h e (inl z) = inl (e ∙ z)
-      from-rail v h e (inr (rail, is-rail, from)) =
-          inr (rw e record { instance = i; vector = v; rail = rail; is-instance = here; is-vector = h; is-rail = is-rail; from = from })
-
-      under : (most ≡ 0) ⊎ ((v : ℕ) × (v < length (c .vectors)) × (most ≡ deep v)) → (most ≡ 0) ⊎ DistanceIn c most
-      under (inl z) = inl z
-      under (inr (v, h, e)) = from-rail v h e (deepest-here i here v .attained)
+    -- the greatest distance in an instance
+    pub greatest-here : GreatestIs (λ (d : ℕ). (v : ℕ) × (v < length (c .vectors)) × Far c i v d) (instanceRounds c i)
+    unfolding instanceRounds linksAt linksOf
+    greatest-here =
+        greatest-of (length (c .vectors)) (λ (v : ℕ). deepest (linksAt c i v)) (Far c i) (λ v h.
+        deepest-greatest (linksAt c i v) (links-below-all (typeAt c i) (sound-at i here .ranges) (byValues (valuesAt c i v))))
 
   greatest : GreatestIs (DistanceIn c) (roundsOf c)
-  unfolding roundsOf instanceRounds
-  greatest = record { most = most; attained = of-instances (greatest-attained (length (c .instances)) (instanceRounds c)) }
-    where
-      all : ℕ
-      all = greatestTo (length (c .instances)) (instanceRounds c)
-
-      most : (e : ℕ) → DistanceIn c e → e ≤ all
-      most e d =
-          let i = d .instance in
-          omega (
-            arith,
-            deepest-here i (d .is-instance) (d .vector) .most e (d .rail, d .is-rail, d .from),
-            greatest-part (length (c .vectors)) (λ (v : ℕ). deepest (linksAt c i v)) (d .vector) (d .is-vector),
-            greatest-part (length (c .instances)) (instanceRounds c) i (d .is-instance),
-          )
-
-      of-rounds : (i : ℕ) → all ≡ instanceRounds c i → (instanceRounds c i ≡ 0) ⊎ DistanceIn c (instanceRounds c i) → (all ≡ 0) ⊎ DistanceIn c all
-      of-rounds i e (inl z) = inl (e ∙ z)
-      of-rounds i e (inr d) = inr (rw e d)
-
-      of-instances : (all ≡ 0) ⊎ ((i : ℕ) × (i < length (c .instances)) × (all ≡ instanceRounds c i)) → (all ≡ 0) ⊎ DistanceIn c all
-      of-instances (inl z) = inl z
-      of-instances (inr (i, h, e)) = of-rounds i e (rounds-attained i h)
+  unfolding roundsOf
+  greatest =
+      greatest-alike _ (DistanceIn c) (roundsOf c)
+      (λ d p. record {
+        instance = p .0;
+        vector = p .2 .0;
+        rail = p .2 .2 .0;
+        is-instance = p .1;
+        is-vector = p .2 .1;
+        is-rail = p .2 .2 .1;
+        from = p .2 .2 .2;
+      })
+      (λ d at. (at .instance, at .is-instance, (at .vector, at .is-vector, (at .rail, at .is-rail, at .from))))
+      (greatest-of (length (c .instances)) (instanceRounds c)
+      (λ (i d : ℕ). (v : ℕ) × (v < length (c .vectors)) × Far c i v d)
+      greatest-here)
 
 pub rounds-tell : RoundsTell
 rounds-tell = record {
@@ -187,3 +158,10 @@ rounds-tell = record {
   nothing-on = λ c good i v h past. nothing-on c good i h v past;
   step-counts = step-counts;
 }
+
+-- ---- links of other circuits
+
+-- rounds over links by instance and vector are those over links that are as deep
+pub rounds-cong : (n m : ℕ) (ws us : ℕ → ℕ → List Link) → ((i v : ℕ) → deepest (ws i v) ≡ deepest (us i v))
+    → greatestTo n (λ (i : ℕ). greatestTo m (λ (v : ℕ). deepest (ws i v))) ≡ greatestTo n (λ (i : ℕ). greatestTo m (λ (v : ℕ). deepest (us i v)))
+rounds-cong n m ws us same = greatest-cong n _ _ (λ i h. greatest-cong m _ _ (λ v k. same i v))

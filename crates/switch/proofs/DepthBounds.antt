@@ -43,7 +43,7 @@ links-below t r on a b m =
       omega (arith, ap (λ (w : Link). w .1) (at .ends), ranges .second),
     )
 
-links-below-all : (t : ModuleType) → T (inRange t) → (on : Switching) → LinksBelow 32 (links on (t .edges))
+pub links-below-all : (t : ModuleType) → T (inRange t) → (on : Switching) → LinksBelow 32 (links on (t .edges))
 links-below-all t r on a b m =
     let l = links-below t r on a b m in
     let h = type-in-range t r .highest in
@@ -52,7 +52,7 @@ links-below-all t r on a b m =
 -- ---- the greatest over positions
 
 -- of the greatest at each position, the greatest is the greatest at any
-greatest-of : (n : ℕ) (f : ℕ → ℕ) (P : ℕ → ℕ → Type 0) → ((v : ℕ) → v < n → GreatestIs (P v) (f v))
+pub greatest-of : (n : ℕ) (f : ℕ → ℕ) (P : ℕ → ℕ → Type 0) → ((v : ℕ) → v < n → GreatestIs (P v) (f v))
     → GreatestIs (λ (d : ℕ). (v : ℕ) × (v < n) × P v d) (greatestTo n f)
 greatest-of n f P each = record {
   most = λ e p. omega (arith, each (p .0) (p .1) .most e (p .2), greatest-part n f (p .0) (p .1));
@@ -71,7 +71,7 @@ greatest-of n f P each = record {
     attained (inr (v, h, e)) = at v h e (each v h .attained)
 
 -- the same said of the same numbers
-greatest-alike : (P Q : ℕ → Type 0) (d : ℕ) → ((e : ℕ) → P e → Q e) → ((e : ℕ) → Q e → P e) → GreatestIs P d → GreatestIs Q d
+pub greatest-alike : (P Q : ℕ → Type 0) (d : ℕ) → ((e : ℕ) → P e → Q e) → ((e : ℕ) → Q e → P e) → GreatestIs P d → GreatestIs Q d
 greatest-alike P Q d to of g = record { most = λ e q. g .most e (of e q); attained = attained (g .attained) }
   where
     attained : (d ≡ 0) ⊎ P d → (d ≡ 0) ⊎ Q d

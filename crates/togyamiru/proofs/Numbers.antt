@@ -13,7 +13,7 @@ use Rattle.togyamiru.specs.Entry.{sixNumbers, EntryMeets}
 use Rattle.togyamiru.specs.NumbersEntry.{allNumbers, numbersOf, NumbersMeet}
 
 -- numbers in a row, with counts that are given whole
-abbrev numbers : ℕ → ℕ → Counts → List ℕ
+abbrev pub numbers : ℕ → ℕ → Counts → List ℕ
 numbers n p counts = n ∷ p ∷ counts .vectors ∷ counts .faults ∷ counts .classes ∷ counts .found ∷ counts .rounds ∷ []
 
 -- those of an answer, from what the code takes of it
@@ -27,7 +27,7 @@ numbers-told answer n p counts is-n is-p are =
 
 module _ (g : Grading) (answer : Answer) (before after : Buffers) (all : List ℕ) (answers : AnswersAs g answer before after)
     (told : all ≡ numbersOf answer) where
-  numbers-are : all ≡ allNumbers g
+  pub numbers-are : all ≡ allNumbers g
   unfolding numbersOf allNumbers sixNumbers
   numbers-are =
       told

@@ -13,7 +13,8 @@ use Rattle.words.proofs.Greatest.{greatest-part, greatest-most}
 use Rattle.switch.specs.Conduction.{Link, Among}
 use Rattle.switch.specs.Distances.{LinksBelow}
 use Rattle.switch.specs.Depth.{depth}
-use Rattle.switch.proofs.Depths.{within-more, depth-least, depth-within, depth-is-distance}
+use Rattle.switch.proofs.Reach.{within-more}
+use Rattle.switch.proofs.Depths.{depth-least, depth-within, depth-is-distance}
 use Rattle.join_nodes.specs.Model.{ColumnsFit, gateWord, OnLink, LinksAre, WideJoined, wideRoundTo, railAlone, wordsAfter}
 use Rattle.join_nodes.proofs.WideRounds.{WideReached, wide-words, wide-within, wide-same}
 

@@ -21,7 +21,7 @@ use Rattle.switch.specs.Depth.{WithinLinks}
 use Rattle.switch.specs.Deciding.{joins}
 use Rattle.switch.proofs.Paths.{turned, carried}
 use Rattle.switch.proofs.Deciding.{joins-decides}
-use Rattle.switch.proofs.Depths.{within-start, within-start-only, within-more, within-forth, within-back, AllWithin}
+use Rattle.switch.proofs.Reach.{within-start, within-start-only, within-more, within-forth, within-back, AllWithin}
 use Rattle.join_nodes.specs.Model.{LinksAre, joinedWords, added, roundTo}
 
 -- the first n of the edges whose nodes are 0 to 31

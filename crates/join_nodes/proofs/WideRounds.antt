@@ -16,7 +16,7 @@ use Rattle.words.proofs.Tables.{is-table, length-table}
 use Rattle.words.proofs.EachLaws.{each-before, each-at, same-words}
 use Rattle.switch.specs.Conduction.{Link}
 use Rattle.join_nodes.specs.Model.{ColumnsFit, gateWord, LinksAre, joinedWords, added, roundTo, handedTo, wideRoundTo, onesTo, railAlone, RoundTaken}
-use Rattle.switch.proofs.Depths.{AllWithin}
+use Rattle.switch.proofs.Reach.{AllWithin}
 use Rattle.join_nodes.proofs.RoundLaws.{
   NodesInRange,
   added-here,

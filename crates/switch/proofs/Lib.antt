@@ -3,7 +3,7 @@
 --   Apart, Marks, Refinement, KnownOutputs            the statements of specs/Statements on paths
 --   Blocks                                            blocks of settings tell what all of them do
 --   Groups                                            groups of transistors link what their edges do
---   Depths                                            how far paths reach, and that depth is the greatest distance
+--   Reach, Depths                                     how far paths reach, and that depth is the greatest distance
 --   Tags                                              tags conduct nothing
 --   Ranges                                            what a record tells that a file can give
 --   DepthBounds                                       how many rounds joining takes, and at most how many
@@ -14,6 +14,7 @@ pub mod Channels
 pub mod Deciding
 pub mod Blocks
 pub mod Groups
+pub mod Reach
 pub mod Depths
 pub mod Tags
 pub mod MoreOn

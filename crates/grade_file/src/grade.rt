@@ -3,6 +3,7 @@ use circuit::Circuit;
 use circuit::Reading;
 use circuit::limits::MOST_FAULTS;
 use circuit::refusal::refuses;
+use grade_classes::Classed;
 use grade_classes::class_rows;
 use grade_classes::write_keys;
 use grade_inputs::put_signals;
@@ -24,14 +25,14 @@ ghost use Rattle.grading.specs.CircuitPromise.{PromiseOfCircuit};
 ghost use Rattle.grading.specs.Promise.{Promise, PromiseOfRead};
 ghost use Rattle.grade_file.specs.Model.{Graded};
 
-fn counted(vectors: usize, faults: usize, classes: u16, found: usize, rounds: usize) -> Counts
-    ensures { λ r. ⌜ r ≡ record { vectors = vectors; faults = faults; classes = classes; found = found; rounds = rounds } ⌝ }
+fn counted(vectors: usize, faults: usize, classed: Classed, rounds: usize) -> Counts
+    ensures { λ r. ⌜ r ≡ record { vectors = vectors; faults = faults; classes = classed .count; found = classed .found; rounds = rounds } ⌝ }
 {
     Counts {
         vectors,
         faults,
-        classes: classes as usize,
-        found,
+        classes: classed.count as usize,
+        found: classed.found,
         rounds,
     }
 }
@@ -45,17 +46,15 @@ fn fill_buffers(c: Circuit, matrix: &mut [u64], classes: &mut [u16]) -> Counts
     let types = c.types;
     let bridges = c.bridges;
     let instances = c.instances;
-    let all_vectors = c.vectors;
-    let count = c.instance_count;
-    let vectors = c.vector_count;
+    let vectors = c.vectors;
     let mut ones = [0u64; 768];
     let mut zeros = [0u64; 768];
-    put_signals(all_vectors, (vectors + 63) / 64, &mut ones, &mut zeros);
+    put_signals(vectors, (c.vector_count + 63) / 64, &mut ones, &mut zeros);
     let mut codes = [0u32; MOST_FAULTS];
     let mut from: usize = 0;
     let mut rounds: usize = 0;
     let mut i: usize = 0;
-    while i < count {
+    while i < c.instance_count {
         let one = instances[i];
         let t = types[(one.type_number as usize) - 1];
         let to = list_rows(one, t, bridges, c.bridge_count, i, &mut codes, from);
@@ -63,7 +62,7 @@ fn fill_buffers(c: Circuit, matrix: &mut [u64], classes: &mut [u16]) -> Counts
             t,
             one,
             i,
-            vectors,
+            c.vector_count,
             &codes,
             from,
             to,
@@ -77,7 +76,7 @@ fn fill_buffers(c: Circuit, matrix: &mut [u64], classes: &mut [u16]) -> Counts
         i += 1;
     }
     let classed = class_rows(&codes, from, matrix, classes);
-    counted(vectors, c.faults, classed.count, classed.found, rounds)
+    counted(c.vector_count, c.faults, classed, rounds)
 }
 
 // A circuit that reading gives: the counts, with the matrix and the classes written, or the buffer that is too short, with both as they were.

@@ -19,24 +19,24 @@ use Rattle.grade_file.proofs.grade.fill_buffers.Statement.{statement}
 use Rattle.grade_file.proofs.grade.fill_buffers.Tie as tie
 
 abbrev Inv-loop : tie.InvT-loop
-Inv-loop c matrix₀ classes types bridges instances count vectors ones₀ zeros₀ codes₀ from₀ rounds₀ i₀ matrix ones zeros codes from rounds i =
+Inv-loop c matrix₀ classes types bridges instances ones₀ zeros₀ codes₀ from₀ rounds₀ i₀ matrix ones zeros codes from rounds i =
     (told : CircuitGiven c)
     → Turned (told .circuit) matrix₀ record { ones = ones; zeros = zeros; matrix = matrix; codes = codes; from = from; rounds = rounds; place = i }
 
 abbrev μ-loop : tie.MeasureT-loop
-μ-loop c matrix₀ classes types bridges instances count vectors ones₀ zeros₀ codes₀ from₀ rounds₀ i₀ matrix ones zeros codes from rounds i = c .«instance_count» - i
+μ-loop c matrix₀ classes types bridges instances ones₀ zeros₀ codes₀ from₀ rounds₀ i₀ matrix ones zeros codes from rounds i = c .«instance_count» - i
 
 -- ---- where things stand
 
 -- before the loop: the start, from where signals are asked for and from where they are put
-abbrev start-asking : tie.After-all-vectors Inv-loop μ-loop → tie.Start Inv-loop μ-loop
-start-asking c = c .before .before .before .before .before .before
+abbrev start-asking : tie.After-struct-known Inv-loop μ-loop → tie.Start Inv-loop μ-loop
+start-asking c = c .before .before .before .before .before .before .before
 
 abbrev start-at : tie.After-put-signals Inv-loop μ-loop → tie.Start Inv-loop μ-loop
 start-at c = start-asking (c .before .before .before)
 
 -- in a turn: what stands before its codes, its marks and its keys are asked for
-abbrev turn-listing : tie.After-codes Inv-loop μ-loop → tie.In-loop Inv-loop μ-loop
+abbrev turn-listing : tie.After-codes Inv-loop μ-loop → tie.Then1 Inv-loop μ-loop
 turn-listing c = c .before .before .before .before
 
 abbrev listed-marking : tie.After-mark-instance-arg Inv-loop μ-loop → tie.After-list-rows Inv-loop μ-loop
@@ -48,11 +48,11 @@ marked-keying c = c .before .before .before
 abbrev listed-keying : tie.After-codes3 Inv-loop μ-loop → tie.After-list-rows Inv-loop μ-loop
 listed-keying c = listed-marking (marked-keying c .before)
 
-abbrev turn-keyed : tie.After-greater Inv-loop μ-loop → tie.In-loop Inv-loop μ-loop
+abbrev turn-keyed : tie.After-greater Inv-loop μ-loop → tie.Then1 Inv-loop μ-loop
 turn-keyed c = turn-listing (listed-keying (c .before .before) .before)
 
 -- behind the loop: its end, before the rows are classed
-abbrev loop-classing : tie.After-class-rows-arg2 Inv-loop μ-loop → tie.After-loop Inv-loop μ-loop
+abbrev loop-classing : tie.After-class-rows-arg2 Inv-loop μ-loop → tie.Else1 Inv-loop μ-loop
 loop-classing c = c .before .before .before
 
 -- the circuit is known to have few vectors
@@ -105,9 +105,9 @@ module _ (c : tie.At-loop Inv-loop μ-loop) where
 
 -- ---- a turn
 
-module _ (c : tie.In-loop Inv-loop μ-loop) where
+module _ (c : tie.Then1 Inv-loop μ-loop) where
   abbrev at : tie.At-loop Inv-loop μ-loop
-  at = c .before
+  at = c .before .before
 
   abbrev place : ℕ
   place = at .loop .i
@@ -119,7 +119,7 @@ module _ (c : tie.In-loop Inv-loop μ-loop) where
   its-type = getD (whole at .types) (one .«type_number» - 1) pastType
 
   here : (told : CircuitGiven (whole at)) → place < length (told .circuit .instances)
-  here told = omega (arith, assembly.instances-are (told .circuit) (whole at) (told .is), c .loop-test .taken)
+  here told = omega (arith, assembly.instances-are (told .circuit) (whole at) (told .is), c .if1 .taken)
 
   few : place < 128
   few = assembly.place-few (known at .circuit) (known at .good) (whole at) (known at .is) place (here (known at))
@@ -129,7 +129,7 @@ module _ (c : tie.In-loop Inv-loop μ-loop) where
 
 -- its codes are listed
 module _ (c : tie.After-list-rows Inv-loop μ-loop) where
-  abbrev turn : tie.In-loop Inv-loop μ-loop
+  abbrev turn : tie.Then1 Inv-loop μ-loop
   turn = turn-listing (c .before)
 
   abbrev codes : List ℕ
@@ -221,14 +221,14 @@ add-i : tie.Need-add-i Inv-loop μ-loop
 add-i c = omega (arith, few (turn-keyed c))
 
 loop-less : tie.Need-loop-less Inv-loop μ-loop
-loop-less c = omega (arith, turn-keyed c .loop-test .taken)
+loop-less c = omega (arith, turn-keyed c .if1 .taken)
 
 loop-again : tie.Need-loop-again Inv-loop μ-loop
 loop-again c = λ told. turned c told
 
 class-rows-requires : tie.Need-class-rows-requires Inv-loop μ-loop
 class-rows-requires c κs =
-    let l = loop-classing c .before in
+    let l = loop-classing c .before .before in
     let room = roomy l in (
       (from-few l .0, so-far l (known l) .codes-long),
       (omega (arith, from-few l .1, matrix-long l, room .words), omega (arith, from-few l .1, room .entries)),
@@ -238,7 +238,7 @@ counted-requires : tie.Need-counted-requires Inv-loop μ-loop
 counted-requires c κs = search needs
 
 same-length : tie.Need-same-length Inv-loop μ-loop
-same-length c = let classed = c .before .before .before in matrix-long (loop-classing (classed .before) .before)
+same-length c = let classed = c .before .before .before in matrix-long (loop-classing (classed .before) .before .before)
 
 same-length-2 : tie.Need-same-length-2 Inv-loop μ-loop
 same-length-2 c = search needs
@@ -247,10 +247,10 @@ returns : tie.Need-returns Inv-loop μ-loop
 returns c = λ meant e g.
     let classed = c .before .before .before in
     let ended = loop-classing (classed .before) in
-    let l = ended .before in
+    let l = ended .before .before in
     let told : CircuitGiven (whole l) = record { circuit = meant; is = e; good = g } in
     rw (c .counted .ensures)
-    (assembly.turned-end (whole l) told (matrix₀ l) (classes₀ l) (roomy l) (state l) (so-far l told) (ended .loop-test .left)
+    (assembly.turned-end (whole l) told (matrix₀ l) (classes₀ l) (roomy l) (state l) (so-far l told) (ended .if1 .left)
     (classed .class-rows .result) _ (classed .class-rows .ensures))
 
 pub fill-buffers-spec : {M : Type 1} → statement M

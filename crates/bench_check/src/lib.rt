@@ -1,4 +1,6 @@
 // The complementary check as an entry of its own, so that bench/stack can measure the stack that it takes by itself: in the library it shares one frame with reading.
+#![tactic(auto)]
+
 ghost use Rattle.std.specs.Prelude.{◌≡◌};
 ghost use Rattle.words.specs.Bits.{of_bool};
 ghost use Rattle.switch.specs.Records.{type_of};

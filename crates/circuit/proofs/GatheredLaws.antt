@@ -5,7 +5,7 @@ use mathlib.Core.Path.{◌≡◌, refl, sym, ap, ◌∙◌}
 use mathlib.Core.Bool.{Bool, true, false, cond, not, ◌&&◌, ◌||◌, and-true}
 use mathlib.Core.List.{List, []}
 use native.Mathlib.Omega.{arith}
-use borrow.Author.Tests.{not_true}
+use borrow.Author.Tests.{not-true}
 use lib.Dec.{ltb}
 use lib.ListN.{length}
 use Rattle.switch.specs.Conduction.{Value}
@@ -265,7 +265,7 @@ module _ (P : ℕ) (next : List ModuleType → Cut → Circuit)
           ≡ goes_on next (cond own (by_edge types f from rest) (if_passes (judged types (field_place from) (field f rest)) (types_before types) from (by_other types f from rest)))
       go true e later_edge later-type =
           let parts = both_true (is_edge (tag_of f.tag)) (not (is_empty types)) e in
-          let some = not_true (is_empty types) parts.1 in
+          let some = not-true (is_empty types) parts.1 in
           at_edge types previous from f rest (more_edges types f from rest) parts.0 (b.some some) (holds (types_before types))
           (later_edge (after-type (with_edge types f) (after_edge f)
           (set-some types (length types - 1) (with_edges (latest types) (edges_in (edge_as f) (latest types).output f.body)) some) refl))

@@ -7,15 +7,15 @@ use native.Mathlib.Omega.{arith}
 use lib.ListN.{length, get_or, set, replicate, length-append, length-replicate, get_or-replicate, get_or-append, get_or-eq_default}
 use lib.Seq.{get_or-append_seam}
 use Rattle.words.specs.Tables.{table}
-use Rattle.words.proofs.Tables.{get_d_table, set-table, is-table}
+use Rattle.words.proofs.Tables.{get_or-table, set-table, is-table}
 use Rattle.switch.specs.declared.ModuleType.{ModuleType as TypeRecord}
 use Rattle.circuit.specs.Records.{padded}
 use Rattle.circuit.specs.declared.Instance.{Instance as InstanceRecord}
 
 module _ {A : Type 0} (none : A) where
-  pub get_d_padded : (n : ℕ) (as' : List A) (d : A) (i : ℕ) → i < n → get_or (padded n none as') i d ≡ get_or as' i none
+  pub get_or-padded : (n : ℕ) (as' : List A) (d : A) (i : ℕ) → i < n → get_or (padded n none as') i d ≡ get_or as' i none
   unfolding padded
-  get_d_padded n as' d i h = get_d_table n (λ (j : ℕ). get_or as' j none) d i h
+  get_or-padded n as' d i h = get_or-table n (λ (j : ℕ). get_or as' j none) d i h
 
   pub padded_nil : (n : ℕ) → padded n none [] ≡ replicate n none
   unfolding padded

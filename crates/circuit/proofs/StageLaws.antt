@@ -5,7 +5,7 @@ use mathlib.Core.Path.{◌≡◌, refl, sym, ap, ◌∙◌}
 use mathlib.Core.Bool.{Bool, true, false, cond, not, ◌&&◌, and-true}
 use mathlib.Core.List.{List, [], ◌∷◌, ◌++◌}
 use native.Mathlib.Omega.{arith}
-use borrow.Author.Tests.{eqb-true, eq-eqb, ne_eqb, not_true}
+use borrow.Author.Tests.{eqb-true, eq-eqb, ne_eqb, not-true}
 use lib.Dec.{eqb, eqb-suc-zero}
 use lib.ListN.{length, set}
 use Rattle.switch.specs.Conduction.{Value, EdgeTag}
@@ -404,7 +404,7 @@ module _ (wanted : Bool) (size P : ℕ) where
             ≡ after_stage (cond own (by_edge types f from rest) (if_passes (judged types (field_place from) (field f rest)) (types_before types) from (by_other types f from rest))) next
         go true e more-edge more-type =
             let parts = both_true (is_edge (tag_of f.tag)) (not (is_empty types)) e in
-            let some = not_true (is_empty types) parts.1 in
+            let some = not-true (is_empty types) parts.1 in
             read_edge wanted size P types previous (field_place from) f rest parts.0 (b.some some)
             ∙ unless-stage (first_of (edge_tests (edge_as f) (latest types) f.at f.body)) _ (types_before types) from (more_edges types f from rest) next
             (more-edge (after-type (with_edge types f) (after_edge f)

@@ -8,7 +8,7 @@ use native.Mathlib.Nat.{not-suc-le-zero, le_of_suc-le-suc}
 use native.Mathlib.Decide.{dec_lt}
 use native.Mathlib.Omega.{arith}
 use borrow.Author.Tests.{ltb-true, ltb-false, leb-false}
-use lib.Dec.{T, eqb, leb, ltb, leb→le, le→leb, eqb→eq, eqb-suc-zero}
+use lib.Dec.{T, eqb, leb, ltb, leb→le, le→leb, eqb→eq}
 use lib.ListN.{length, get_or, length-append, length-map, get_or-append}
 use lib.Seq.{get_or-append_seam}
 use Rattle.switch.specs.Conduction.{EdgeTag, by_position, stated, between}

@@ -1,5 +1,5 @@
 -- The laws of types and their edges: a type that is in range is told by its record, and the edges of a field that passes its tests are in range.
-use Prim.Native.Nat.{ℕ, suc, ◌+◌, ◌-◌, ◌<◌, ◌≤◌}
+use Prim.Native.Nat.{ℕ, suc, ◌+◌, ◌<◌, ◌≤◌}
 use mathlib.Core.Logic.{◌⊎◌, inl, inr}
 use mathlib.Core.Path.{◌≡◌, refl, sym, ap, subst, ◌∙◌}
 use mathlib.Core.Bool.{Bool, true, false, not, ◌&&◌}
@@ -22,7 +22,7 @@ use Rattle.circuit.specs.Known.{edges_told, edges_in, with_edges}
 use Rattle.circuit.specs.Table.{passes, first_of, edges_in_range, pass_in_range, edge_tests, edge_tests_of}
 use Rattle.circuit.specs.Records.{padded, type_record}
 use Rattle.circuit.specs.Laws.{ends_good_by, ends_good}
-use Rattle.circuit.proofs.Padding.{get_d_padded}
+use Rattle.circuit.proofs.Padding.{get_or-padded}
 use Rattle.circuit.proofs.Verdicts.{first_passes}
 
 -- ---- tests of both and of all
@@ -65,7 +65,7 @@ module _ {A : Type 0} (none : A) (n : ℕ) (as' : List A) (h : length as' ≤ n)
   take_padded = ext_get_or none (take (length as') (padded n none as')) as' length_used (λ i q. at i (rw length_used at q))
     where
       at : (i : ℕ) → i < length as' → get_or (take (length as') (padded n none as')) i none ≡ get_or as' i none
-      at i q = get_or-take (length as') (padded n none as') i none q ∙ get_d_padded none n as' none i (omega arith)
+      at i q = get_or-take (length as') (padded n none as') i none q ∙ get_or-padded none n as' none i (omega arith)
 
 module _ (h k : ℕ) (nodes : h < 32) (few : k ≤ 12) where
   edges_back : (es : List Edge) → T (all_of (edge_in_range h k) es) → edges_of (map edge_record es) ≡ es

@@ -1,4 +1,6 @@
 // The circuit that a file tells, and the refusals of the table.
+#![tactic(auto)]
+
 pub mod limits;
 pub mod order;
 pub mod ranges;
@@ -9,7 +11,7 @@ use crate::refusal::Refusal;
 use switch::ModuleType;
 
 // A bridge of a user list, its bytes as in the file.
-#[derive(Drop)]
+#[derive(Clone, Copy)]
 pub struct Bridge {
     pub list: u8,
     pub kind: u8,
@@ -18,14 +20,14 @@ pub struct Bridge {
 }
 
 // What a label is tied to: primary input `number`, or the output of the earlier instance `number`.
-#[derive(Drop)]
+#[derive(Clone, Copy)]
 pub struct Reference {
     pub earlier: bool,
     pub number: u8,
 }
 
 // An instance: type number, list choice as in the file, and a reference for each label of its type.
-#[derive(Drop)]
+#[derive(Clone, Copy)]
 pub struct Instance {
     pub type_number: u8,
     pub choice: u8,
@@ -33,14 +35,14 @@ pub struct Instance {
 }
 
 // A vector: the primary inputs that are 1, and those that are 0, input 1 at bit 0.
-#[derive(Drop)]
+#[derive(Clone, Copy)]
 pub struct Vector {
     pub ones: u64,
     pub zeros: u64,
 }
 
 // A circuit. Of each array the first places are used, as many as its count says; every other place holds zeros.
-#[derive(Drop)]
+#[derive(Clone, Copy)]
 pub struct Circuit {
     pub inputs: usize,
     pub type_count: usize,
@@ -55,7 +57,7 @@ pub struct Circuit {
 }
 
 // What reading answers: why the file is refused, or `Nothing` and its circuit. Beside a refusal `read` gives an empty circuit, and `read_stages` what was read before it.
-#[derive(Drop)]
+#[derive(Clone, Copy)]
 pub struct Reading {
     pub refusal: Refusal,
     pub circuit: Circuit,

@@ -4,7 +4,7 @@ ghost use Rattle.switch.specs.Conduction.{by_position, stated};
 ghost use Rattle.circuit.specs.Order.{tag_of, edge_tag_of};
 ghost use Rattle.circuit.specs.Kinds.{of_kind};
 
-#[derive(Drop)]
+#[derive(Clone, Copy)]
 pub enum Kind {
     Inputs,
     Module,

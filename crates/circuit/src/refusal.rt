@@ -3,7 +3,7 @@ ghost use Rattle.std.specs.Prelude.{◌≡◌};
 ghost use Rattle.circuit.specs.Refusals.{refusal_number, refusal_place, verdict_of};
 ghost use Rattle.circuit.specs.Verdicts.{is_refused, or_if};
 
-#[derive(Drop)]
+#[derive(Clone, Copy)]
 pub enum Refusal {
     Nothing,
     TooLong,

@@ -8,7 +8,7 @@ use mathlib.Core.List.Memᴰ
 use mathlib.Core.List.{List, [], ◌∷◌, ◌++◌, append_assoc, append-nil, Memᴰ}
 use native.Mathlib.Omega.{arith}
 use borrow.Author.Rules.{rules}
-use borrow.Author.Tests.{eqb-false, not_true, not-false}
+use borrow.Author.Tests.{eqb-false, not-true, not-false}
 use lib.Dec.{T, eqb, ltb}
 use lib.Ieee.Bits.{is_true}
 use lib.ListN.{length, get_or, take, drop}
@@ -163,8 +163,8 @@ ends-told : (tag : EdgeTag) (t : ModuleType) (e : Edge) → T (ends_good_by tag 
 unfolding ends_good_by EndsAsTagged
 ends-told by_position t e good =
     let its = both (not (bad_ends t.highest t.output e.first e.second)) _ good in
-    (not_true _ (is_true _ its.0), channel-told e.channel (channel_of t.output e.first e.second) its.1)
-ends-told stated t e good = eqb-false e.first e.second (not_true _ (is_true _ good))
+    (not-true _ (is_true _ its.0), channel-told e.channel (channel_of t.output e.first e.second) its.1)
+ends-told stated t e good = eqb-false e.first e.second (not-true _ (is_true _ good))
 
 pub ends_keep_the_rules : EndsKeepTheRules
 ends_keep_the_rules file c accepts t m e k =

@@ -8,7 +8,7 @@ use native.Mathlib.Omega.{arith}
 use borrow.Author.Tests.{eqb-true, eqb-false, eq-eqb, ne_eqb}
 use lib.Dec.{T, eqb}
 use lib.ListN.{get_or}
-use Rattle.words.proofs.Tables.{get_d_table}
+use Rattle.words.proofs.Tables.{get_or-table}
 use Rattle.switch.specs.Bridges.{Bridge, nodes, input}
 use Rattle.switch.proofs.Channels.{in_between}
 use Rattle.circuit.specs.Circuit.{Circuit, Reference, primary, output_of, Instance}
@@ -64,7 +64,7 @@ row_key r = pair_key (wire_number (wire_of r one_end)) (wire_number (wire_of r o
 
 label_at : (i : Instance) (l : ℕ) → l < 12 → get_or (label_numbers (references_of i)) l 0 ≡ reference_number (get_or (references_of i) l unused_reference)
 unfolding label_numbers
-label_at i l h = get_d_table 12 (λ (l : ℕ). reference_number (get_or (references_of i) l unused_reference)) 0 l h
+label_at i l h = get_or-table 12 (λ (l : ℕ). reference_number (get_or (references_of i) l unused_reference)) 0 l h
 
 -- as the code works it out
 pub key-is : (r : Row) → BridgeFits r.bridge

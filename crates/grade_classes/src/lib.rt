@@ -1,5 +1,7 @@
 // Classes: a key for each row, the numbers of the two wires that its bridge joins, which two rows share exactly when they are one class; one search for
 // the class of each row; and the found classes.
+#![tactic(auto)]
+
 ghost use Rattle.std.specs.Prelude.{◌≡◌, ◌+◌, ◌*◌, ◌<◌, ◌≤◌, eqb, length, take};
 ghost use Rattle.words.specs.Written.{written};
 ghost use Rattle.grading.specs.Classes.{largest, classes_by};
@@ -162,7 +164,7 @@ fn found_in(matrix: &[u64], classes: &[u16], rows: usize) -> usize
 }
 
 // The number of classes, and how many of them are found.
-#[derive(Drop)]
+#[derive(Clone, Copy)]
 pub struct Classed {
     pub count: u16,
     pub found: usize,

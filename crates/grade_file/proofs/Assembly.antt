@@ -26,7 +26,7 @@ use Rattle.circuit.specs.Records.{type_record, instance_record, reference_record
 use Rattle.circuit.specs.Laws.{TypeSound, CircuitGood}
 use Rattle.circuit.specs.declared.Circuit.{Circuit as CircuitRecord}
 use Rattle.circuit.specs.declared.Instance.{Instance as InstanceRecord}
-use Rattle.circuit.proofs.Padding.{get_d_padded}
+use Rattle.circuit.proofs.Padding.{get_or-padded}
 use Rattle.switch.proofs.Channels.{in_between}
 use Rattle.circuit.proofs.TypeLaws.{type_back, type_given}
 use Rattle.grading.specs.Given.{CircuitGiven}
@@ -275,7 +275,7 @@ module _ (c : Circuit) (good : CircuitGood c) (m : CircuitRecord) (is : m ≡ ci
               let here : l < length inst.references = omega (arith, g.count) in
               let tied = (all_of_lem (reference_good c.inputs i) (primary 0) inst.references).0 g.references l here in
               let is_at : get_or (references_of inst) l unused_reference ≡ reference_record (get_or inst.references l (primary 0))
-              = get_d_padded unused_reference 12 (map reference_record inst.references) unused_reference l (omega (arith, few))
+              = get_or-padded unused_reference 12 (map reference_record inst.references) unused_reference l (omega (arith, few))
               ∙ get_d_map reference_record inst.references l (primary 0) unused_reference here in
               rw is_at (number-range c.inputs i (get_or inst.references l (primary 0)) good.few_inputs place_few tied)
 

@@ -12,7 +12,7 @@ use lib.ListN.{length, get_or, set, replicate, length-replicate, get_or-replicat
 use Rattle.words.specs.Bits.{bit, word}
 use Rattle.words.specs.Tables.{table, up_to}
 use Rattle.words.proofs.Laws.{pack_cong}
-use Rattle.words.proofs.Tables.{length-table, get_d_table, is-table, table_cong, set-table, up-below, up-past}
+use Rattle.words.proofs.Tables.{length-table, get_or-table, is-table, table_cong, set-table, up-below, up-past}
 use Rattle.circuit.specs.Records.{unused_vector}
 use Rattle.circuit.specs.declared.Vector.{Vector as VectorRecord}
 use Rattle.grade_inputs.specs.Inputs.{input_word, input_words, words_from, inputs_put}
@@ -90,9 +90,9 @@ module _ (column : List ℕ) where
   input_turned : (w i : ℕ) → i < 64 → get_or (transposed (words_from column w)) i 0 ≡ input_word column i w
   unfolding transposed words_from input_word word
   input_turned w i h =
-      get_d_table 64 (λ (j : ℕ). word (λ (v : ℕ). bit (get_or (words_from column w) v 0) j)) 0 i h
+      get_or-table 64 (λ (j : ℕ). word (λ (v : ℕ). bit (get_or (words_from column w) v 0) j)) 0 i h
       ∙ pack_cong 64 (λ (v : ℕ). bit (get_or (words_from column w) v 0) i) (λ (v : ℕ). bit (get_or column (64 * w + v) 0) i)
-      (λ v k. ap (λ (x : ℕ). bit x i) (get_d_table 64 (λ (u : ℕ). get_or column (64 * w + u) 0) 0 v k))
+      (λ v k. ap (λ (x : ℕ). bit x i) (get_or-table 64 (λ (u : ℕ). get_or column (64 * w + u) 0) 0 v k))
 
   inputs_more : (w : ℕ) → w < 4 → inputs_put 64 (transposed (words_from column w)) w (input_words column w) ≡ input_words column (suc w)
   unfolding inputs_put input_words
@@ -115,9 +115,9 @@ module _ (column : List ℕ) where
           ∙ ap (input_word column (j / 4)) (sym e)
           ∙ sym (plane_is (suc w) j q ∙ up-below (suc w) (input_word column (j / 4)) (j % 4) (omega arith))
       at j h (no e) (yes q) =
-          put_beside block w before 64 j e ∙ get_d_table 768 (planes w) 0 j h ∙ plane_is w j q ∙ rest j e (dec_lt (j % 4) w) ∙ sym (plane_is (suc w) j q)
+          put_beside block w before 64 j e ∙ get_or-table 768 (planes w) 0 j h ∙ plane_is w j q ∙ rest j e (dec_lt (j % 4) w) ∙ sym (plane_is (suc w) j q)
       at j h e (no q) =
-          put_later block w before 64 j (omega arith) ∙ get_d_table 768 (planes w) 0 j h ∙ plane_past w j (omega arith) ∙ sym (plane_past (suc w) j (omega arith))
+          put_later block w before 64 j (omega arith) ∙ get_or-table 768 (planes w) 0 j h ∙ plane_past w j (omega arith) ∙ sym (plane_past (suc w) j (omega arith))
 
   -- one word more, from what the calls of a turn leave
   pub inputs_turn : (w : ℕ) → w < 4 → {block turned before after : List ℕ} → block ≡ words_from column w → turned ≡ transposed block

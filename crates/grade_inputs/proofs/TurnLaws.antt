@@ -17,7 +17,7 @@ use lib.Seq.{get_or-set_same, get_or-set_other}
 use Rattle.words.specs.Bits.{bit, pack, word}
 use Rattle.words.specs.Tables.{table}
 use Rattle.words.proofs.Laws.{bit_le_one, bit-zero, bit_or_lem, bit_and_lem, bit_not_under, bit-block, bit-block-high, pack_cong, word_of_bits, bit_word, word_lt}
-use Rattle.words.proofs.Tables.{length-table, get_d_table, is-table, table_cong}
+use Rattle.words.proofs.Tables.{length-table, get_or-table, is-table, table_cong}
 use Rattle.grade_inputs.specs.Turning.{transposed, with_bit_of, stepped, Step}
 
 -- ---- the six values
@@ -351,7 +351,7 @@ module _ (by low : ℕ) (s : Step by low) where
 
         -- words that no turn has changed yet
         left : (r : ℕ) → r < 64 → turn_of by r ≡ i → get_or now r 0 ≡ get_or block r 0
-        left r room e = ap (λ (l : List ℕ). get_or l r 0) before ∙ get_d_table 64 (turned by block i) 0 r room ∙ turn_left i r (le_of_eq (sym e))
+        left r room e = ap (λ (l : List ℕ). get_or l r 0) before ∙ get_or-table 64 (turned by block i) 0 r room ∙ turn_left i r (le_of_eq (sym e))
 
         x : get_or now k 0 ≡ get_or block k 0
         x = left k (omega (arith, inside)) turn_k
@@ -377,7 +377,7 @@ module _ (by low : ℕ) (s : Step by low) where
             get_or-set_other (set now k first) (k + by) r second 0 e
             ∙ get_or-set_other now k r first 0 q
             ∙ ap (λ (l : List ℕ). get_or l r 0) before
-            ∙ get_d_table 64 (turned by block i) 0 r room
+            ∙ get_or-table 64 (turned by block i) 0 r room
             ∙ other r (dec_lt (turn_of by r) i) (λ t.
             turn_other r
             (λ c. q (c ∙ ap (pair_of by) t ∙ sym place))
@@ -397,7 +397,7 @@ module _ (by low : ℕ) (s : Step by low) where
       table_cong 64 (λ (r : ℕ). word (λ (v : ℕ). bit (get_or (stepped_to (2 * by) block) (with_bit_of by r v) 0) (with_bit_of by v r)))
       (λ (r : ℕ). word (spread by block r)) (λ r hr.
       pack_cong 64 (λ (v : ℕ). bit (get_or (stepped_to (2 * by) block) (with_bit_of by r v) 0) (with_bit_of by v r)) (spread by block r) (λ v hv.
-      ap (λ (x : ℕ). bit x (with_bit_of by v r)) (get_d_table 64 (λ (q : ℕ). word (spread (2 * by) block q)) 0 (with_bit_of by r v) (taken_in r v hr hv))
+      ap (λ (x : ℕ). bit x (with_bit_of by v r)) (get_or-table 64 (λ (q : ℕ). word (spread (2 * by) block q)) 0 (with_bit_of by r v) (taken_in r v hr hv))
       ∙ bit_word (spread (2 * by) block (with_bit_of by r v)) (λ u. bit_le_one _ _) (with_bit_of by v r) (taken_in v r hv hr)
       ∙ (rw (taken_mixed r v, taken_mixed v r))))
 

@@ -1,4 +1,6 @@
 // The signals of primary inputs, 64 vectors to a word, four words each, in the first 256 of 768 places; the outputs of instances come after them.
+#![tactic(auto)]
+
 ghost use Rattle.std.specs.Prelude.{◌≡◌, ◌<◌, ◌≤◌, length, replicate};
 ghost use Rattle.grade_inputs.specs.Inputs.{block_of, inputs_put, ones_of, zeros_of, input_words};
 ghost use Rattle.grade_inputs.specs.Turning.{Step, stepped, transposed};
@@ -7,7 +9,7 @@ use circuit::Vector;
 use circuit::limits::MOST_VECTORS;
 
 // The words of 64 vectors: the inputs that are 1, and those that are 0.
-#[derive(Drop)]
+#[derive(Clone, Copy)]
 struct Block {
     ones: [u64; 64],
     zeros: [u64; 64],

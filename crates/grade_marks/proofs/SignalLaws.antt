@@ -9,7 +9,7 @@ use native.Mathlib.Omega.{arith}
 use lib.ListN.{get_or, set}
 use Rattle.words.specs.Each.{four_each}
 use Rattle.words.specs.Tables.{table, up_to}
-use Rattle.words.proofs.Tables.{get_d_table, table_cong, up-below, up-past, fill_more}
+use Rattle.words.proofs.Tables.{get_or-table, table_cong, up-below, up-past, fill_more}
 use Rattle.circuit.specs.Records.{unused_reference}
 use Rattle.circuit.specs.declared.Reference.{Reference as ReferenceRecord}
 use Rattle.grade_marks.specs.Model.{place_of_signal, signal_of, ReferencesFit, label_words, label_planes}
@@ -47,10 +47,10 @@ planes-are references k signals = table_cong 48 (up_to (4 * k) (plane_at referen
     at : (j : ℕ) → j < 48 → Dec (j / 4 < k) → up_to (4 * k) (plane_at references signals) j ≡ meant j
     at j h (yes q) =
         up-below (4 * k) (plane_at references signals) j (omega arith)
-        ∙ sym (get_d_table 12 (up_to k (word_of (j % 4))) 0 (j / 4) (omega arith) ∙ up-below k (word_of (j % 4)) (j / 4) q)
+        ∙ sym (get_or-table 12 (up_to k (word_of (j % 4))) 0 (j / 4) (omega arith) ∙ up-below k (word_of (j % 4)) (j / 4) q)
     at j h (no q) =
         up-past (4 * k) (plane_at references signals) j (omega arith)
-        ∙ sym (get_d_table 12 (up_to k (word_of (j % 4))) 0 (j / 4) (omega arith) ∙ up-past k (word_of (j % 4)) (j / 4) (omega arith))
+        ∙ sym (get_or-table 12 (up_to k (word_of (j % 4))) 0 (j / 4) (omega arith) ∙ up-past k (word_of (j % 4)) (j / 4) (omega arith))
 
 -- one word more
 word_more : (f : ℕ → ℕ) (i j word : ℕ) (planes : List ℕ) → planes ≡ table 48 (up_to i f) → i < 48 → word ≡ f i → j ≡ suc i → set planes i word ≡ table 48 (up_to j f)

@@ -14,7 +14,7 @@ use Rattle.words.specs.Each.{word_of_each}
 use Rattle.words.specs.Tables.{table, up_to}
 use Rattle.words.specs.Written.{written}
 use Rattle.words.proofs.Laws.{bit-zero, bit_past, bit-pack, pack_lt, pack_cong, pack-zero, bit_word}
-use Rattle.words.proofs.Tables.{length-table, get_d_table, is-table, table_cong, up-below, up-past}
+use Rattle.words.proofs.Tables.{length-table, get_or-table, is-table, table_cong, up-below, up-past}
 use Rattle.words.proofs.EachLaws.{four_at, word_of_four}
 use Rattle.words.proofs.WrittenLaws.{length_written, written_before, written_here, written_after}
 use Rattle.switch.specs.Conduction.{Value, at_x, supply, ground}
@@ -30,7 +30,7 @@ use Rattle.circuit.specs.Numbers.{reference_good}
 use Rattle.circuit.specs.Records.{padded, unused_reference, reference_record, unused_vector, vector_record}
 use Rattle.circuit.specs.Laws.{InstanceGood}
 use Rattle.circuit.specs.declared.Vector.{Vector as VectorRecord}
-use Rattle.circuit.proofs.Padding.{get_d_padded}
+use Rattle.circuit.proofs.Padding.{get_or-padded}
 use Rattle.grading.specs.Values.{value_at, label_values, outputs_of, outputs_after}
 use Rattle.grading.proofs.RecordReads.{references_of}
 use Rattle.grading.proofs.ValueLaws.{InstanceAt, type-ranges, good_at, type_at, label_value, label_past}
@@ -150,7 +150,7 @@ module _ (plane : Value → ℕ) (small : (x : Value) → plane x ≤ 1) (off : 
   signal_bit n s w v hs hw hv =
       let high : (4 * s + w) / 4 ≡ s = omega arith in
       let low : (4 * s + w) % 4 ≡ w = omega arith in
-      rw (get_d_table 768 (signal_word plane c n) 0 (4 * s + w) (omega arith), high, low)
+      rw (get_or-table 768 (signal_word plane c n) 0 (4 * s + w) (omega arith), high, low)
       (bit_word (λ (m : ℕ). plane (signal_at c n (64 * w + m) s)) (λ m. small (signal_at c n (64 * w + m) s)) v hv)
 
   module _ (i : ℕ) (inst : Instance) (at : InstanceAt c i inst) where
@@ -158,7 +158,7 @@ module _ (plane : Value → ℕ) (small : (x : Value) → plane x ≤ 1) (off : 
     reference_at_lem : (l : ℕ) → l < 12 → get_or (references_of inst) l unused_reference ≡ reference_record (get_or inst.references l (primary 0))
     unfolding reference_record
     reference_at_lem l h =
-        get_d_padded unused_reference 12 (map reference_record inst.references) unused_reference l h
+        get_or-padded unused_reference 12 (map reference_record inst.references) unused_reference l h
         ∙ get_or-map reference_record inst.references l (primary 0)
 
     -- bit v of word w of a label
@@ -190,7 +190,7 @@ module _ (plane : Value → ℕ) (small : (x : Value) → plane x ≤ 1) (off : 
         past h = past_both (dec_lt l 12)
           where
             past_both : Dec (l < 12) → get_or (table 12 (up_to k from)) l 0 ≡ 0
-            past_both (yes q) = get_d_table 12 (up_to k from) 0 l q ∙ up-past k from l h
+            past_both (yes q) = get_or-table 12 (up_to k from) 0 l q ∙ up-past k from l h
             past_both (no q) = get_or-eq_default (table 12 (up_to k from)) 0 (omega (arith, length-table 12 (up_to k from)))
 
         go : Dec (l < k) → bit (get_or (table 12 (up_to k from)) l 0) v ≡ plane (label_values (vector_at c u) (outputs_at c i u) inst l)
@@ -198,7 +198,7 @@ module _ (plane : Value → ℕ) (small : (x : Value) → plane x ≤ 1) (off : 
             let tied = (all_of_lem (reference_good c.inputs i) (primary 0) inst.references).0 g.references l (omega (arith, g.count)) in
             let inside = signal_place c.inputs i r at.good.few_inputs (omega (arith, at.within, at.good.few_instances)) tied in
             let place : l < 12 = omega (arith, few) in
-            rw (get_d_table 12 (up_to k from) 0 l place, up-below k from l h, reference_at_lem l place, signal_bit i (signal_of (reference_record r)) w v inside hw hv)
+            rw (get_or-table 12 (up_to k from) 0 l place, up-below k from l h, reference_at_lem l place, signal_bit i (signal_of (reference_record r)) w v inside hw hv)
             (ap plane (signal_value c.inputs i u r at.good.few_inputs tied ∙ sym (label_value (vector_at c u) (outputs_at c i u) inst l)))
         go (no h) =
             ap (λ (x : ℕ). bit x v) (past (omega arith))
@@ -273,7 +273,7 @@ module _ (plane : Value → ℕ) (small : (x : Value) → plane x ≤ 1) (off : 
 
         go : (j : ℕ) → j < 768 → Dec (j < place) → Dec (j < place + 4) → get_or (written buffer place text) j 0 ≡ signal_word plane c (suc i) j
         go j h (yes q) p =
-            written_before buffer place text fits j q ∙ get_d_table 768 (signal_word plane c i) 0 j h ∙ old j (λ e. omega arith)
+            written_before buffer place text fits j q ∙ get_or-table 768 (signal_word plane c i) 0 j h ∙ old j (λ e. omega arith)
         go j h (no q) (yes p) =
             let w : ℕ = j - place in
             let here : j ≡ place + w = omega arith in
@@ -283,7 +283,7 @@ module _ (plane : Value → ℕ) (small : (x : Value) → plane x ≤ 1) (off : 
             ∙ new w (omega arith)
             ∙ ap (signal_word plane c (suc i)) (sym here)
         go j h (no q) (no p) =
-            written_after buffer place text fits j (omega (arith, four)) ∙ get_d_table 768 (signal_word plane c i) 0 j h ∙ old j (λ e. omega arith)
+            written_after buffer place text fits j (omega (arith, four)) ∙ get_or-table 768 (signal_word plane c i) 0 j h ∙ old j (λ e. omega arith)
 
 -- ---- the laws
 
@@ -319,7 +319,7 @@ module _ (c : Circuit) where
       let records = padded 256 unused_vector (map vector_record c.vectors) in
       ap (get_or (map field records) u) (sym e)
       ∙ get_or-map field records u unused_vector
-      ∙ ap field (get_d_padded unused_vector 256 (map vector_record c.vectors) unused_vector u h ∙ get_or-map vector_record c.vectors u [])
+      ∙ ap field (get_or-padded unused_vector 256 (map vector_record c.vectors) unused_vector u h ∙ get_or-map vector_record c.vectors u [])
 
   pub signals_start : let vectors = padded 256 unused_vector (map vector_record c.vectors) in
       (input_words (ones_of vectors) (word_count c) ≡ signal_words is_at1 c 0) × (input_words (zeros_of vectors) (word_count c) ≡ signal_words is_at0 c 0)
@@ -377,9 +377,9 @@ module _ (c : Circuit) where
     unfolding output_ones output_zeros is_at1 is_at0
     signals_more = (
       more_plane is_at1 at1-small refl c i inst at (table 4 one) (length-table 4 one)
-          (λ w h. get_d_table 4 one 0 w h ∙ output_word is_at1 (λ (p : Planes). p.ones) (λ f. refl) w h),
+          (λ w h. get_or-table 4 one 0 w h ∙ output_word is_at1 (λ (p : Planes). p.ones) (λ f. refl) w h),
       more_plane is_at0 at0-small refl c i inst at (table 4 nought) (length-table 4 nought)
-          (λ w h. get_d_table 4 nought 0 w h ∙ output_word is_at0 (λ (p : Planes). p.zeros) (λ f. refl) w h),
+          (λ w h. get_or-table 4 nought 0 w h ∙ output_word is_at0 (λ (p : Planes). p.zeros) (λ f. refl) w h),
     )
       where
         o : ℕ

@@ -13,7 +13,7 @@ use lib.Seq.{take-suc, take-take, take_all}
 use borrow.Author.Tests.{eq-eqb, ne_eqb}
 use Rattle.words.specs.Written.{written}
 use Rattle.words.specs.Tables.{table}
-use Rattle.words.proofs.Tables.{table_cong, table_more, length-table, get_d_table, map-table}
+use Rattle.words.proofs.Tables.{table_cong, table_more, length-table, get_or-table, map-table}
 use Rattle.words.proofs.WrittenLaws.{written_nothing, written_written, set_written, length_written}
 use Rattle.switch.specs.Bridges.{nodes, input, Bridge}
 use Rattle.circuit.specs.Circuit.{join_lists}
@@ -104,7 +104,7 @@ module _ (instance h : ℕ) (faults : ℕ → List Bridge) where
   step : (m : ℕ) → m ≤ h → node_codes (suc m) ≡ node_codes m ++ map (code_of instance) (faults m)
   step m low =
       let inside : m < length lists = rw (length-table (h + 1) faults) (omega arith) in
-      let here : get_or lists m [] ≡ faults m = get_d_table (h + 1) faults [] m (omega arith) in
+      let here : get_or lists m [] ≡ faults m = get_or-table (h + 1) faults [] m (omega arith) in
       rw (
         take-suc lists m [] inside,
         here,

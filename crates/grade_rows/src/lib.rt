@@ -1,4 +1,6 @@
 // The rows of a circuit, a number each.
+#![tactic(auto)]
+
 ghost use Rattle.std.specs.Prelude.{◌≡◌, map, ◌+◌, ◌<◌, ◌≤◌, length, take};
 ghost use Rattle.words.specs.Written.{written};
 ghost use Rattle.circuit.specs.Circuit.{Circuit as CircuitMeant, node_pairs, node_inputs};

@@ -2,7 +2,7 @@
 -- marks together. So in a circuit. Assumes nothing.
 use Prim.Native.Nat.{ℕ, zero, suc, ◌+◌, ◌<◌, ◌≤◌, max}
 use mathlib.Core.Path.{◌≡◌, refl, sym, ap, ap₂, ◌∙◌}
-use mathlib.Core.Bool.{Bool, true, false, cond, ◌&&◌, ◌||◌, or_assoc, or_true, or-false}
+use mathlib.Core.Bool.{Bool, true, false, cond, ◌&&◌, ◌||◌, or_assoc, or-true, or-false}
 use mathlib.Core.Logic.{⊎_elim}
 use mathlib.Core.List.{List, [], ◌∷◌, ◌++◌}
 use native.Mathlib.Omega.{arith}
@@ -61,7 +61,7 @@ module _ {A : Type 0} (vectors : ℕ) (marks : A → ℕ → ℕ) where
   found_by_lem n (s ∷ ss) [] none r h e p m = absurd (omega arith)
   found_by_lem n (s ∷ ss) (k ∷ ks) none zero h e p m = rw (eq-eqb k n p, m)
   found_by_lem n (s ∷ ss) (k ∷ ks) none (suc r) h e p m =
-      ap (λ (b : Bool). eqb k n && marked s || b) (found_by_lem n ss ks none r (omega arith) (omega arith) p m) ∙ or_true (eqb k n && marked s)
+      ap (λ (b : Bool). eqb k n && marked s || b) (found_by_lem n ss ks none r (omega arith) (omega arith) p m) ∙ or-true (eqb k n && marked s)
 
   -- ---- one row more
 

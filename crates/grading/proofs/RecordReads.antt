@@ -15,7 +15,7 @@ use Rattle.circuit.specs.Laws.{CircuitGood}
 use Rattle.circuit.specs.declared.Circuit.{Circuit as CircuitRecord}
 use Rattle.circuit.specs.declared.Instance.{Instance as InstanceRecord}
 use Rattle.circuit.specs.declared.Reference.{Reference as ReferenceRecord}
-use Rattle.circuit.proofs.Padding.{get_d_padded}
+use Rattle.circuit.proofs.Padding.{get_or-padded}
 use Rattle.switch.proofs.Channels.{in_between}
 use Rattle.circuit.proofs.TypeLaws.{take_padded}
 use Rattle.grading.proofs.FaultRanges.{types-fit}
@@ -24,7 +24,7 @@ use Rattle.grading.proofs.Lists.{get_d_map}
 -- an element of a list in the first of n places
 placed : {A B : Type 0} (f : A → B) (n : ℕ) (none d : B) (as' : List A) (i : ℕ) (a : A) → i < length as' → length as' ≤ n
     → get_or (padded n none (map f as')) i d ≡ f (get_or as' i a)
-placed f n none d as' i a h few = get_d_padded none n (map f as') d i (omega arith) ∙ get_d_map f as' i a none h
+placed f n none d as' i a h few = get_or-padded none n (map f as') d i (omega arith) ∙ get_d_map f as' i a none h
 
 type_placed : (types : List ModuleType) (d : TypeRecord) (n : ℕ) → 1 ≤ n → n ≤ length types → length types ≤ most_types
     → get_or (padded most_types unused_type (map type_record types)) (n - 1) d ≡ type_record (numbered types n no_type)
@@ -112,4 +112,4 @@ references_of i = padded 12 unused_reference (map reference_record i.references)
 pub reference_at_lem : (i : Instance) (l : ℕ) → l < 12 → get_or (references_of i) l unused_reference ≡ reference_record (get_or i.references l (primary 0))
 unfolding reference_record
 reference_at_lem i l h =
-    get_d_padded unused_reference 12 (map reference_record i.references) unused_reference l h ∙ ListN.get_d_map reference_record i.references l (primary 0)
+    get_or-padded unused_reference 12 (map reference_record i.references) unused_reference l h ∙ ListN.get_or-map reference_record i.references l (primary 0)

@@ -12,7 +12,7 @@ use lib.ListN.{get_or}
 use borrow.Author.Tests.{lt-ltb, ltb-true}
 use Rattle.words.specs.Bits.{bit, of_bool, word, first_ones}
 use Rattle.words.proofs.Laws.{bit_le_one, of_bool_le_one, bit_word, word_lt, set-bit, bit-set, bit_or_lem, bit_and_lem, bit_not_under, bits_eq}
-use Rattle.words.proofs.Tables.{length-table, get_d_table}
+use Rattle.words.proofs.Tables.{length-table, get_or-table}
 use Rattle.words.proofs.EachLaws.{one_each}
 use Rattle.words.proofs.FirstOnes.{first_ones_lt, bit-first_ones}
 use Rattle.switch.specs.Conduction.{Value, channel_by, by_values, edge_on, Link, ground, supply}
@@ -44,7 +44,7 @@ module _ (ws : ℕ → List Link) (o : ℕ) (node : o < 32) where
 
   word_of : (rail : ℕ) → get_or (joined_words ws rail) o 0 ≡ word (bits rail)
   unfolding joined_words
-  word_of rail = get_d_table 32 (λ (m : ℕ). word (λ (v : ℕ). of_bool (joins (ws v) m rail))) 0 o node
+  word_of rail = get_or-table 32 (λ (m : ℕ). word (λ (v : ℕ). of_bool (joins (ws v) m rail))) 0 o node
 
   rail_bit : (rail v : ℕ) → v < 64 → bit (get_or (joined_words ws rail) o 0) v ≡ bits rail v
   rail_bit rail v h = ap (λ (w : ℕ). bit w v) (word_of rail) ∙ bit_word (bits rail) (λ u. of_bool_le_one (joins (ws u) o rail)) v h

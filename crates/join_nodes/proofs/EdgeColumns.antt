@@ -9,7 +9,7 @@ use mathlib.Core.List.{List, map}
 use lib.ListN.{length, get_or, set, replicate, length-map, get_or-map}
 use lib.Seq.{take_all}
 use Rattle.words.specs.Tables.{up_to}
-use Rattle.words.proofs.Tables.{length-table, is-table, fill_none, fill_more, get_d_fill}
+use Rattle.words.proofs.Tables.{length-table, is-table, fill_none, fill_more, get_or-fill}
 use Rattle.switch.specs.Records.{no_edge, first_node_in, second_node_in, gate_in, edge_of, edges_of, type_of, type_with, TypeGiven, EdgesGiven}
 use Rattle.switch.specs.Tags.{untagged, untagged_type}
 use Rattle.switch.specs.declared.Edge.{Edge as EdgeRecord}
@@ -41,7 +41,7 @@ module _ (part : EdgeRecord → ℕ) (rs : List EdgeRecord) where
 module _ (rs : List EdgeRecord) (few : length rs ≤ 256) where
   column_at : (part : EdgeRecord → ℕ) (i : ℕ) → i < length rs → get_or (column part rs (length rs)) i 0 ≡ part (get_or rs i no_edge)
   unfolding column
-  column_at part i h = get_d_fill 256 (parts part rs) (length rs) i h few
+  column_at part i h = get_or-fill 256 (parts part rs) (length rs) i h few
 
   pub edges_told_lem : (h o k : ℕ) (c : Columns) → c ≡ columns_of rs
       → map untagged (type_with h o k rs).edges ≡ edges_in_columns c.firsts c.seconds c.gates c.count

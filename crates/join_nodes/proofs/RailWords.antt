@@ -9,7 +9,7 @@ use Rattle.words.specs.Bits.{bit, of_bool, greatest_to}
 use Rattle.words.specs.Each.{word_of_each}
 use Rattle.words.proofs.Laws.{set-bit, bit-set}
 use Rattle.words.proofs.Greatest.{greatest_cong, greatest_of_both}
-use Rattle.words.proofs.Tables.{length-table, get_d_table}
+use Rattle.words.proofs.Tables.{length-table, get_or-table}
 use Rattle.words.proofs.EachLaws.{each_at, is_four}
 use Rattle.switch.specs.Conduction.{channel_by, Edge, Link, Switching, edge_on, links}
 use Rattle.switch.specs.Modules.{ModuleType}
@@ -39,7 +39,7 @@ module _ (firsts seconds gates : List ℕ) (n : ℕ) where
     module _ (v : ℕ) (vector : v < 64) (u : Link) where
       is_edge_lem : (i : ℕ) → i < n → get_or edges i (edge_of no_edge) ≡ edge i
       unfolding edges_in_columns
-      is_edge_lem i h = get_d_table n edge (edge_of no_edge) i h
+      is_edge_lem i h = get_or-table n edge (edge_of no_edge) i h
 
       in_columns : OnAt (switched v) edges (edge_of no_edge) u → OnLink firsts seconds on n v u
       unfolding edges_in_columns edge_in_columns

@@ -10,7 +10,7 @@ use Rattle.words.specs.Bits.{bit, pack, word}
 use Rattle.words.specs.Tables.{table, up_to}
 use Rattle.words.proofs.Laws.{bit_le_one, bit_not, bit-block, bit-block-high}
 use Rattle.words.proofs.Laws.{pack_cong, pack-zero, pack_one, word_of_bits, bit_word, word_lt}
-use Rattle.words.proofs.Tables.{get_d_table, up-past, fill_more}
+use Rattle.words.proofs.Tables.{get_or-table, up-past, fill_more}
 use Rattle.switch.specs.Conduction.{Channel, channel_p, channel_n, transistor_on}
 use Rattle.switch.specs.Modules.{value_of_bit, setting_of}
 use Rattle.switch.specs.Records.{is_set, by_planes}
@@ -75,7 +75,7 @@ pub planes-zero : (block l : ℕ) → 6 ≤ l → l < 12 → (bit block (l - 6) 
 planes-zero block l h k e =
     let done : List ℕ = table 12 (up_to l (plane block)) in
     let stands : get_or done l 0 ≡ plane block l =
-    get_d_table 12 (up_to l (plane block)) 0 l k
+    get_or-table 12 (up_to l (plane block)) 0 l k
     ∙ rw (up-past l (plane block) l (omega arith)) (sym (plane-zero block l h (omega (arith, bit_le_one block (l - 6))))) in
     sym (set-get_or done l 0) ∙ ap (set done l) stands ∙ fill_more 12 (plane block) l k
 
@@ -91,7 +91,7 @@ zero_plane block l = word (λ (v : ℕ). 1 - bit (64 * block + v) l)
 plane-not : (block l : ℕ) → l < 12 → (2 ^ 64 - 1) - get_or (setting_ones block) l 0 ≡ zero_plane block l
 unfolding setting_ones
 plane-not block l h =
-    rw (get_d_table 12 (plane block) 0 l h)
+    rw (get_or-table 12 (plane block) 0 l h)
     (word_of_bits ((2 ^ 64 - 1) - plane block l) (λ (v : ℕ). 1 - bit (64 * block + v) l) (omega arith) (λ v k.
     bit_not 64 (plane block l) v (plane_lt block l) k
     ∙ ap (λ (b : ℕ). 1 - b) (bit_word (λ (u : ℕ). bit (64 * block + u) l) (λ u. bit_le_one (64 * block + u) l) v k)))
@@ -121,8 +121,8 @@ pub settings_switch : (block v : ℕ) (c : Channel) (l : ℕ) → v < 64 → l <
     → by_planes (setting_ones block) (setting_zeros block) v c l ≡ transistor_on c (setting_of (64 * block + v) l)
 unfolding by_planes setting_of setting_ones setting_zeros
 settings_switch block v channel_p l h k =
-    rw (get_d_table 12 (zero_plane block) 0 l k, bit_word (λ (u : ℕ). 1 - bit (64 * block + u) l) (λ u. omega arith) v h)
+    rw (get_or-table 12 (zero_plane block) 0 l k, bit_word (λ (u : ℕ). 1 - bit (64 * block + u) l) (λ u. omega arith) v h)
     (p-known (bit (64 * block + v) l))
 settings_switch block v channel_n l h k =
-    rw (get_d_table 12 (plane block) 0 l k, bit_word (λ (u : ℕ). bit (64 * block + u) l) (λ u. bit_le_one (64 * block + u) l) v h)
+    rw (get_or-table 12 (plane block) 0 l k, bit_word (λ (u : ℕ). bit (64 * block + u) l) (λ u. bit_le_one (64 * block + u) l) v h)
     (n-known (bit (64 * block + v) l))

@@ -9,7 +9,7 @@ use switch::edges::{first_of, gate_of, second_of};
 use switch::{Edge, MOST_EDGES};
 
 // The parts of one edge.
-#[derive(Drop)]
+#[derive(Clone, Copy)]
 struct Parts {
     first: u8,
     second: u8,

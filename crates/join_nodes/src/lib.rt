@@ -1,4 +1,6 @@
 // Inside one module, 64 vectors to a word: which nodes are joined to each rail and in how many rounds, and whether a type is complementary. What that means is in the crate `switch`.
+#![tactic(auto)]
+
 pub mod complementary;
 mod conduction;
 mod edges;
@@ -12,7 +14,7 @@ use switch::MOST_EDGES;
 pub const MOST_GATES: usize = 32;
 
 // The edges of a type taken apart, a column for each part; the first `count` places are used.
-#[derive(Drop)]
+#[derive(Clone, Copy)]
 pub struct Columns {
     pub count: usize,
     pub firsts: [u8; MOST_EDGES],

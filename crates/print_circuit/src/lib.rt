@@ -1,4 +1,6 @@
 // The listing that `show` prints of a file: the lines of what was read in file order, then that of a refusal, piece by piece into a lent buffer.
+#![tactic(auto)]
+
 mod least;
 mod lines;
 mod parts;

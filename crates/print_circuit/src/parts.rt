@@ -16,7 +16,7 @@ use circuit::{Bridge, Instance, Vector};
 use switch::{Edge, MOST_EDGES, ModuleType};
 
 // How many bytes were put, 0 where the part has no such line, and how far the line is past the part's last.
-#[derive(Drop)]
+#[derive(Clone, Copy)]
 pub struct Part {
     pub put: usize,
     pub left: usize,

@@ -1,4 +1,6 @@
 // Text into a lent buffer: bytes and decimal numbers, each at a place, with the place behind it as the answer; and a line into the buffer's front, any or a refusal's.
+#![tactic(auto)]
+
 ghost use Rattle.std.specs.Prelude.{◌≡◌, [], ◌∷◌, ◌+◌, ◌<◌, ◌≤◌, length};
 ghost use Rattle.print_lines.specs.Decimal.{length_in, decimal};
 ghost use Rattle.print_lines.specs.Given.{LineGiven};
@@ -6,7 +8,7 @@ ghost use Rattle.print_lines.specs.Lines.{refusal_line};
 ghost use Rattle.words.specs.Written.{written};
 
 // A piece of a text of numbered lines: the line behind it, and how many bytes it has.
-#[derive(Drop)]
+#[derive(Clone, Copy)]
 pub struct Piece {
     pub next: usize,
     pub count: usize,

@@ -15,7 +15,7 @@ use Rattle.circuit.specs.Records.{padded}
 use Rattle.circuit.specs.Reading.{accepted, reading_of}
 use Rattle.circuit.specs.Laws.{CircuitGood}
 use Rattle.circuit.proofs.CircuitLaws.{accepted-is-good}
-use Rattle.circuit.proofs.Padding.{get_d_padded}
+use Rattle.circuit.proofs.Padding.{get_or-padded}
 use Rattle.grading.specs.Buffers.{Buffers, room_of}
 use Rattle.grading.specs.Rows.{Row, no_row, rows_of, row_words, matrix_of}
 use Rattle.grading.specs.Classes.{classes_of}
@@ -64,7 +64,7 @@ module _
   unfolding codes_of
   code_at =
       ap (λ (l : List ℕ). get_or l r 0) codes-are
-      ∙ get_d_padded 0 2048 (codes_of (rows_of c)) 0 r (omega (arith, few_rows c good))
+      ∙ get_or-padded 0 2048 (codes_of (rows_of c)) 0 r (omega (arith, few_rows c good))
       ∙ get_d_map (λ (s : Row). code_of s.number s.bridge) (rows_of c) r no_row 0 h
 
   class_at_lem : get_or classes r 0 ≡ get_or (classes_of (rows_of c)) r 0

@@ -5,7 +5,7 @@ use mathlib.Core.List.{List, [], ◌∷◌, ◌++◌}
 use native.Mathlib.Omega.{arith}
 use lib.ListN.{length, get_or, length-append, get_or-append}
 use Rattle.words.specs.Tables.{table}
-use Rattle.words.proofs.Tables.{length-table, get_d_table}
+use Rattle.words.proofs.Tables.{length-table, get_or-table}
 use Rattle.print_lines.specs.Lines.{refusal_line}
 use Rattle.print_lines.specs.Pieces.{line_in}
 use Rattle.print_lines.specs.Given.{LineGiven}
@@ -102,7 +102,7 @@ module _ (answer : Answer) (number : ℕ) (number_is : number ≡ number_of answ
       pub row_line_held : 0 < n → n ≤ counts.faults → held_row (counts_meant counts) codes matrix classes (n - 1) ≡ held_line answer codes matrix classes n
       row_line_held later among =
           let row : n - 1 < counts.faults = omega arith in
-          sym (get_d_table counts.faults (held_row (counts_meant counts) codes matrix classes) [] (n - 1) row)
+          sym (get_or-table counts.faults (held_row (counts_meant counts) codes matrix classes) [] (n - 1) row)
           ∙ sym (get_or-append rows last [] (n - 1) (omega (arith, row_count)))
           ∙ behind_counts later
 

@@ -1,5 +1,7 @@
 // The lines of a report, each into the front of a lent buffer: the answer is the number of bytes, or 0 with nothing written where there is no room.
 // And the whole report, piece by piece.
+#![tactic(auto)]
+
 ghost use Rattle.std.specs.Prelude.{◌≡◌, ◌+◌, ◌*◌, ◌^◌, ◌≤◌, ◌<◌, min, length, get_or};
 ghost use Rattle.words.specs.Written.{written};
 ghost use Rattle.print_report.specs.Lines.{first_line, kind_letter, digits_of_marks, row_line, rounds_line};
@@ -15,7 +17,7 @@ use print_lines::{Piece, give, put_byte, put_bytes, put_number, refusal_line};
 use words::{first_mark, marks};
 
 // A row of the report but for its marks.
-#[derive(Drop)]
+#[derive(Clone, Copy)]
 pub struct RowHead {
     pub instance: u8,
     pub kind: u8,

@@ -1,4 +1,6 @@
 // Grades circuit files: for each, the report of the scope paper, or its refusal.
+#![tactic(auto)]
+
 mod handing;
 
 ghost use Rattle.std.specs.Prelude.{◌≡◌, ◌≤◌, length};

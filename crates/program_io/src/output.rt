@@ -6,7 +6,7 @@ ghost use Rattle.program_io.specs.Outputs.{TextWritten, blank_line, Headed};
 use print_lines::{put_byte, put_bytes};
 
 // Whether a write has failed, and whether a report has begun.
-#[derive(Drop)]
+#[derive(Clone, Copy)]
 pub struct Output {
     pub is_lost: bool,
     pub has_report: bool,

@@ -6,7 +6,7 @@ use print_lines::Piece;
 use program_io::output::{Output, write_front};
 
 // How many lines of the listing were handed over. Only the functions here can make or advance the number.
-#[derive(Drop)]
+#[derive(Clone, Copy)]
 pub struct Handed {
     lines: usize,
     pub output: Output,

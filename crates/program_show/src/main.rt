@@ -1,4 +1,6 @@
 // Looks into circuit files: for each, what was read, a line for each field, and then its refusal if it is refused (docs/SHOW.md).
+#![tactic(auto)]
+
 mod handing;
 
 ghost use Rattle.std.specs.Prelude.{◌≤◌, length};

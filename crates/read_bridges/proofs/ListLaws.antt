@@ -10,7 +10,7 @@ use lib.Dec.{T, eqb, leb, ltb, leb-zero, leb→le}
 use lib.ListN.{length, get_or, set, take, length-append, replicate, length-replicate, get_or-replicate, get_or-map}
 use lib.Seq.{take-suc}
 use Rattle.words.specs.Tables.{table}
-use Rattle.words.proofs.Tables.{get_d_table, set-table, is-table}
+use Rattle.words.proofs.Tables.{get_or-table, set-table, is-table}
 use Rattle.switch.specs.Conduction.{between}
 use Rattle.switch.specs.Bridges.{Bridge, nodes, input}
 use Rattle.switch.specs.Modules.{ModuleType, all_of}
@@ -22,7 +22,7 @@ use Rattle.circuit.specs.Table.{bridge_good, listed_good, bridge_suits}
 use Rattle.circuit.specs.Records.{padded, unused_bridge, bridge_record, bridge_record_in}
 use Rattle.read_bridges.specs.ListSums.{top_node, labels_named, most, lists_of, top_of_record, labels_of_record}
 use Rattle.circuit.specs.declared.Bridge.{Bridge as BridgeRecord}
-use Rattle.circuit.proofs.Padding.{get_d_padded}
+use Rattle.circuit.proofs.Padding.{get_or-padded}
 
 -- ---- what a list asks of a type
 
@@ -79,13 +79,13 @@ module _ (t : ModuleType) where
 
 module _ (bs : List Listed) (n : ℕ) (h : n < 128) where
   pub count_at : get_or (lists_of bs).counts n 0 ≡ length (user_list n bs)
-  count_at = get_d_table 128 (λ (m : ℕ). length (user_list m bs)) 0 n h
+  count_at = get_or-table 128 (λ (m : ℕ). length (user_list m bs)) 0 n h
 
   pub node_at : get_or (lists_of bs).nodes n 0 ≡ most top_node (user_list n bs)
-  node_at = get_d_table 128 (λ (m : ℕ). most top_node (user_list m bs)) 0 n h
+  node_at = get_or-table 128 (λ (m : ℕ). most top_node (user_list m bs)) 0 n h
 
   pub label_at : get_or (lists_of bs).labels n 0 ≡ most labels_named (user_list n bs)
-  label_at = get_d_table 128 (λ (m : ℕ). most labels_named (user_list m bs)) 0 n h
+  label_at = get_or-table 128 (λ (m : ℕ). most labels_named (user_list m bs)) 0 n h
 
 -- ---- one bridge more
 
@@ -198,7 +198,7 @@ module _ (all : List BridgeRecord) (count : ℕ) (bs : List Listed) (told : Told
       let counted = told.counted in
       let within = told.within in
       ap (λ (l : List BridgeRecord). get_or l i d) told.is
-      ∙ get_d_padded unused_bridge most_bridges (map bridge_record bs) d i (omega arith)
+      ∙ get_or-padded unused_bridge most_bridges (map bridge_record bs) d i (omega arith)
       ∙ get_or-map bridge_record bs i unlisted
 
   pub read_at : (d : BridgeRecord) → BridgeAt (get_or all i d) bridge_at

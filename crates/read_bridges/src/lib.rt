@@ -1,4 +1,6 @@
 // Bridges: the fields with tag 4, kept in file order; and the user lists in sum.
+#![tactic(auto)]
+
 pub mod lists;
 
 ghost use Rattle.std.specs.Prelude.{◌≡◌, ◌+◌, ◌≤◌, length, get_or, replicate};
@@ -16,7 +18,7 @@ use circuit::refusal::{Refusal, or_if, refuses};
 use read_fields::cursor::{next, reader_at};
 use read_fields::{Field, Next, byte, own_field};
 
-#[derive(Drop)]
+#[derive(Clone, Copy)]
 pub struct Bridges {
     pub refusal: Refusal,
     pub at: usize,

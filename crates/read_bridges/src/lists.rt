@@ -6,7 +6,7 @@ use circuit::Bridge;
 use circuit::limits::MOST_BRIDGES;
 
 // For each list number: the number of its bridges, the highest node that they name, and one more than the highest label, 0 where they name none.
-#[derive(Drop)]
+#[derive(Clone, Copy)]
 pub struct Lists {
     pub counts: [u16; 128],
     pub nodes: [u8; 128],

@@ -14,12 +14,12 @@ module _ (file : List ℕ) (f : FieldRecord) (inside : f.body + f.len ≤ length
   unfolding body_of
   length_body = simp (length-take, length-drop) (omega arith)
 
-  pub get_d_body : (i : ℕ) → i < f.len → get_or (body_of file f) i 0 ≡ get_or file (f.body + i) 0
+  pub get_or-body : (i : ℕ) → i < f.len → get_or (body_of file f) i 0 ≡ get_or file (f.body + i) 0
   unfolding body_of
-  get_d_body i h = rw (get_or-take, get_or-drop)
+  get_or-body i h = rw (get_or-take, get_or-drop)
 
-  pub get_d_body_past : (i : ℕ) → f.len ≤ i → get_or (body_of file f) i 0 ≡ 0
-  get_d_body_past i h = get_or-eq_default (body_of file f) 0 (omega (arith, length_body))
+  pub get_or-body_past : (i : ℕ) → f.len ≤ i → get_or (body_of file f) i 0 ≡ 0
+  get_or-body_past i h = get_or-eq_default (body_of file f) 0 (omega (arith, length_body))
 
 -- the bytes of a body are the file's, or 0
 pub byte_small : (file : List ℕ) (f : FieldRecord) → ((i : ℕ) → get_or file i 0 < 256) → (i : ℕ) → get_or (body_of file f) i 0 < 256

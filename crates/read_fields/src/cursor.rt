@@ -4,7 +4,7 @@ ghost use Rattle.read_fields.specs.Steps.{StepIs, behind_step, Stepped};
 
 use crate::{Field, Step};
 
-#[derive(Drop)]
+#[derive(Clone, Copy)]
 pub struct Reader<'a> {
     pub file: &'a [u8],
     pub at: usize,

@@ -1,4 +1,6 @@
 // The file cut into fields, a step at a time.
+#![tactic(auto)]
+
 pub mod cursor;
 
 ghost use Rattle.std.specs.Prelude.{◌≡◌, ◌+◌, ◌≤◌, length, get_or};
@@ -10,7 +12,7 @@ use crate::cursor::{next, reader_at};
 use circuit::order::{Kind, is_kind};
 
 // A whole field: the offset of its tag byte, its tag, and where its body starts and how long that is.
-#[derive(Drop)]
+#[derive(Clone, Copy)]
 pub struct Field {
     pub at: usize,
     pub tag: u8,
@@ -19,7 +21,7 @@ pub struct Field {
 }
 
 // What stands at an offset: a whole field, no whole field, or the end of the file.
-#[derive(Drop)]
+#[derive(Clone, Copy)]
 pub enum Step {
     Whole(Field),
     Broken,
@@ -27,7 +29,7 @@ pub enum Step {
 }
 
 // What stands at an offset, where a field of one kind is looked for.
-#[derive(Drop)]
+#[derive(Clone, Copy)]
 pub enum Next {
     Found(Field),
     Other,

@@ -7,7 +7,7 @@ use native.Mathlib.Numerals.{add-one}
 use native.Mathlib.Omega.{arith}
 use lib.ListN.{length, get_or, set, replicate, get_or-eq_default, get_or-map}
 use Rattle.words.specs.Tables.{table, up_to}
-use Rattle.words.proofs.Tables.{length-table, get_d_table, up-past, fill_none, fill_more, get_d_fill}
+use Rattle.words.proofs.Tables.{length-table, get_or-table, up-past, fill_none, fill_more, get_or-fill}
 use Rattle.switch.specs.Modules.{ModuleType, most_edges}
 use Rattle.switch.specs.Records.{no_edge}
 use Rattle.switch.specs.declared.ModuleType.{ModuleType as TypeRecord}
@@ -15,7 +15,7 @@ use Rattle.circuit.specs.Limits.{most_types}
 use Rattle.circuit.specs.Circuit.{numbered, no_type}
 use Rattle.circuit.specs.Records.{padded, unused_type, type_record}
 use Rattle.read_file.specs.Whole.{column_of}
-use Rattle.circuit.proofs.Padding.{get_d_padded, padded_nil}
+use Rattle.circuit.proofs.Padding.{get_or-padded, padded_nil}
 use Rattle.circuit.proofs.Tested.{get_d_any}
 
 pub column_none : (shown : TypeRecord → ℕ) (all : List TypeRecord) → replicate 16 0 ≡ column_of shown all 0
@@ -43,7 +43,7 @@ no_type_record = rw (padded_nil no_edge most_edges)
 type_at : (types : List ModuleType) (d : TypeRecord) (m : ℕ) → m < 16
     → get_or (padded most_types unused_type (map type_record types)) m d ≡ type_record (get_or types m no_type)
 type_at types d m h =
-    get_d_padded unused_type 16 (map type_record types) d m h
+    get_or-padded unused_type 16 (map type_record types) d m h
     ∙ ap (get_or (map type_record types) m) (sym no_type_record)
     ∙ get_or-map type_record types m no_type
 
@@ -52,7 +52,7 @@ past : (m : ℕ) (f : ℕ → ℕ) (n i : ℕ) → n ≤ i → get_or (table m (
 past m f n i h = go (dec_lt i m)
   where
     go : Dec (i < m) → get_or (table m (up_to n f)) i 0 ≡ 0
-    go (yes q) = get_d_table m (up_to n f) 0 i q ∙ up-past n f i h
+    go (yes q) = get_or-table m (up_to n f) 0 i q ∙ up-past n f i h
     go (no q) = get_or-eq_default (table m (up_to n f)) 0 {n = i} (omega (arith, length-table m (up_to n f)))
 
 -- the types that stand in the places
@@ -68,7 +68,7 @@ module _ (types : List ModuleType) (typeCount : ℕ) (all : List TypeRecord)
       go : Dec (m < typeCount) → get_or (column_of shown all typeCount) m 0 ≡ of (get_or types m no_type)
       go (yes h) =
           let few : typeCount ≤ 16 = omega (arith, within, counted) in
-          get_d_fill 16 (λ (p : ℕ). shown (get_or all p unused_type)) typeCount m h few
+          get_or-fill 16 (λ (p : ℕ). shown (get_or all p unused_type)) typeCount m h few
           ∙ ap (λ (l : List TypeRecord). shown (get_or l m unused_type)) is
           ∙ ap shown (type_at types unused_type m (omega arith))
           ∙ same (get_or types m no_type)

@@ -91,7 +91,7 @@ fn whole(
 }
 
 // Why a file is refused at its start, or `Nothing`, the number of inputs, and where reading goes on.
-#[derive(Drop)]
+#[derive(Clone, Copy)]
 struct Start {
     refusal: Refusal,
     at: usize,

@@ -8,7 +8,7 @@ use read_types::types::read_types;
 use switch::ModuleType;
 
 // What was read of types, and a column for each part of their shapes.
-#[derive(Drop)]
+#[derive(Clone, Copy)]
 pub struct Shaped {
     pub refusal: Refusal,
     pub at: usize,

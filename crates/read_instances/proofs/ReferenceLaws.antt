@@ -9,7 +9,7 @@ use lib.Dec.{T, ltb, eqb→eq}
 use lib.Ieee.Bits.{is_true}
 use lib.ListN.{length, get_or, take, replicate, set, length-take, length-map}
 use lib.Seq.{take-suc, take_all}
-use Rattle.words.proofs.Tables.{length-table, get_d_table}
+use Rattle.words.proofs.Tables.{length-table, get_or-table}
 use Rattle.switch.specs.Modules.{all_of}
 use Rattle.switch.proofs.Deciding.{all_of_lem}
 use Rattle.circuit.specs.Fields.{two_bytes}
@@ -38,7 +38,7 @@ length-references body = length-table ((length body - 2) / 2) (reference_at body
 
 at-references : (body : List ℕ) (i : ℕ) → i < (length body - 2) / 2 → get_or (references_in body) i (primary 0) ≡ reference_at body i
 unfolding references_in
-at-references body i h = get_d_table ((length body - 2) / 2) (reference_at body) (primary 0) i h
+at-references body i h = get_or-table ((length body - 2) / 2) (reference_at body) (primary 0) i h
 
 is_false : (b : Bool) → (T b → ⊥) → b ≡ false
 is_false true t = absurd (t tt)

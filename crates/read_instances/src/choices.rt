@@ -5,7 +5,7 @@ ghost use Rattle.read_instances.specs.Choices.{list_named, chosen_of, given_by};
 use read_bridges::lists::Lists;
 
 // The faults that a list choice gives an instance: how many, whether one does not suit its type, and whether a user list was chosen that is empty.
-#[derive(Drop)]
+#[derive(Clone, Copy)]
 pub struct Chosen {
     pub faults: usize,
     pub unsuited: bool,

@@ -1,4 +1,6 @@
 // Instances: the fields with tag 5, each held to its type, to what stands before it, and to its list.
+#![tactic(auto)]
+
 mod choices;
 mod columns;
 mod references;
@@ -27,7 +29,7 @@ use read_bridges::lists::Lists;
 use read_fields::cursor::{next, reader_at};
 use read_fields::{Field, Next, byte, own_field, two_bytes};
 
-#[derive(Drop)]
+#[derive(Clone, Copy)]
 pub struct Instances {
     pub refusal: Refusal,
     pub at: usize,
@@ -132,7 +134,7 @@ pub fn no_instance() -> Instance
 }
 
 // What instances are held to: of each type its highest node and its number of labels, and the lists in sum.
-#[derive(Drop)]
+#[derive(Clone, Copy)]
 pub struct Held {
     pub nodes: [u8; MOST_TYPES],
     pub labels: [u8; MOST_TYPES],
@@ -140,7 +142,7 @@ pub struct Held {
 }
 
 // What a field asks of its type and its list: the type's number of labels, and what the choice gives.
-#[derive(Drop)]
+#[derive(Clone, Copy)]
 struct Asked {
     k: u8,
     given: Chosen,

@@ -19,7 +19,7 @@ use switch::edges::edge_with;
 use switch::{Edge, MOST_EDGES, ModuleType, NO_EDGE};
 
 // What a type's own field says: its highest node, its output node and its number of labels.
-#[derive(Drop)]
+#[derive(Clone, Copy)]
 pub struct Shape {
     pub highest: u8,
     pub output: u8,
@@ -27,14 +27,14 @@ pub struct Shape {
 }
 
 // The edges of a type as far as they are read, in the first `count` places.
-#[derive(Drop)]
+#[derive(Clone, Copy)]
 struct EdgeList {
     count: usize,
     edges: [Edge; MOST_EDGES],
 }
 
 // A type with its edges, and where reading goes on.
-#[derive(Drop)]
+#[derive(Clone, Copy)]
 pub struct OneType {
     pub refusal: Refusal,
     pub at: usize,

@@ -22,7 +22,7 @@ use read_fields::cursor::{next, reader_at};
 use read_fields::{Field, Next, Step, byte, own_field, step_at};
 use switch::{MOST_EDGES, ModuleType, NO_EDGE};
 
-#[derive(Drop)]
+#[derive(Clone, Copy)]
 pub struct Types {
     pub refusal: Refusal,
     pub at: usize,

@@ -1,4 +1,6 @@
 // Vectors: the fields with tag 6, one letter for each primary input.
+#![tactic(auto)]
+
 ghost use Rattle.std.specs.Prelude.{◌≡◌, ◌+◌, ◌≤◌, length, replicate};
 ghost use Rattle.switch.specs.Modules.{all_of};
 ghost use Rattle.circuit.specs.Known.{vector_in};
@@ -15,7 +17,7 @@ use circuit::refusal::{Refusal, or_if, refuses};
 use read_fields::cursor::{next, reader_at};
 use read_fields::{Field, Next, byte, own_field};
 
-#[derive(Drop)]
+#[derive(Clone, Copy)]
 pub struct Vectors {
     pub refusal: Refusal,
     pub at: usize,

@@ -6,7 +6,7 @@ use mathlib.Core.Bool.{Bool, true, false, cond}
 use mathlib.Core.Logic.{◌↔◌}
 use lib.Dec.{T, ltb}
 use borrow.Author.Tests.{lt-ltb, ltb-true, ltb-false}
-use Rattle.switch.specs.Modules.{ModuleType, setting_of, Complementary}
+use Rattle.switch.specs.Modules.{ModuleType, setting_of}
 use Rattle.switch.specs.Deciding.{all_below, one_rail, is_complementary}
 use Rattle.switch.specs.Blocks.{block_holds, running_verdict, blocks_of, by_blocks, BlocksTell}
 use Rattle.switch.proofs.Deciding.{same_test, all-below, complementary_decides}

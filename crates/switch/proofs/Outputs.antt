@@ -8,7 +8,7 @@ use native.Mathlib.Omega.{arith}
 use lib.ListN.{get_or}
 use Rattle.words.specs.Bits.{bit, of_bool, word}
 use Rattle.words.proofs.Laws.{of_bool_le_one, pack_cong, bit_word}
-use Rattle.words.proofs.Tables.{get_d_table}
+use Rattle.words.proofs.Tables.{get_or-table}
 use Rattle.switch.specs.Conduction.{Value, at0, at1, at_x, Channel, channel_p, channel_n, transistor_on, Switching, links, supply, ground}
 use Rattle.switch.specs.Modules.{ModuleType, links_of}
 use Rattle.switch.specs.Deciding.{joins, level_in, output_value}
@@ -102,7 +102,7 @@ pub bit-rail_words : (t : ModuleType) (ones zeros : List ℕ) (rail m v : ℕ) �
 unfolding rail_words
 bit-rail_words t ones zeros rail m v h l =
     let joined : ℕ → ℕ → Bool = λ (n u : ℕ). joins (links (by_planes ones zeros u) t.edges) n rail in
-    rw (get_d_table 32 (λ (n : ℕ). word (λ (u : ℕ). of_bool (joined n u))) 0 m h)
+    rw (get_or-table 32 (λ (n : ℕ). word (λ (u : ℕ). of_bool (joined n u))) 0 m h)
     (bit_word (λ (u : ℕ). of_bool (joined m u)) (λ u. of_bool_le_one (joined m u)) v l)
 
 -- and where the planes hold values

@@ -1,4 +1,6 @@
 // The grader for programs in C and Rust: three functions, whose arguments are numbers, and slices as a pointer and a length (include/togyamiru.h).
+#![tactic(auto)]
+
 mod answering;
 
 ghost use Rattle.grading.specs.Buffers.{buffers_of};

@@ -9,7 +9,7 @@ use lib.ListN.{length, get_or, set}
 use lib.Seq.{ext_get_or}
 use Rattle.words.specs.Each.{word_of_each, four_each}
 use Rattle.words.specs.Written.{written}
-use Rattle.words.proofs.Tables.{get_d_table, is-table, set-table}
+use Rattle.words.proofs.Tables.{get_or-table, is-table, set-table}
 use Rattle.words.proofs.WrittenLaws.{written_before, written_here, written_after}
 
 -- the words of a thing stand before those of a later one
@@ -22,7 +22,7 @@ each_in width w n m h k = omega (arith, each-before width m n h)
 
 pub each_at : (width w n : ℕ) (words : List ℕ) (m : ℕ) → m < n → get_or (word_of_each width w n words) m 0 ≡ get_or words (width * m + w) 0
 unfolding word_of_each
-each_at width w n words m h = get_d_table n (λ (i : ℕ). get_or words (width * i + w) 0) 0 m h
+each_at width w n words m h = get_or-table n (λ (i : ℕ). get_or words (width * i + w) 0) 0 m h
 
 -- things that have one word each
 pub one_each : (n : ℕ) (words : List ℕ) → length words ≡ n → word_of_each 1 0 n words ≡ words
@@ -54,7 +54,7 @@ module _ (n : ℕ) (f : ℕ → List ℕ) where
   four_at m w h k =
       let word : (4 * m + w) % 4 ≡ w = omega arith in
       let thing : (4 * m + w) / 4 ≡ m = omega arith in
-      get_d_table (4 * n) (λ (j : ℕ). get_or (f (j % 4)) (j / 4) 0) 0 (4 * m + w) (omega arith) ∙ rw (word, thing)
+      get_or-table (4 * n) (λ (j : ℕ). get_or (f (j % 4)) (j / 4) 0) 0 (4 * m + w) (omega arith) ∙ rw (word, thing)
 
   -- a list is four words each if each word is there
   pub is_four : (words : List ℕ) → length words ≡ 4 * n → ((m w : ℕ) → m < n → w < 4 → get_or words (4 * m + w) 0 ≡ get_or (f w) m 0) → words ≡ four_each n f

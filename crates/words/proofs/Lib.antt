@@ -10,4 +10,3 @@ pub mod AnyMark
 pub mod Tables
 pub mod EachLaws
 pub mod WrittenLaws
-pub mod LocalArrays

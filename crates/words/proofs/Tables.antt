@@ -18,17 +18,17 @@ unfolding table
 length-table zero f = refl
 length-table (suc n) f = ap suc (length-table n (λ (i : ℕ). f (suc i)))
 
-pub get_d_table : {A : Type 0} (n : ℕ) (f : ℕ → A) (d : A) (i : ℕ) → i < n → get_or (table n f) i d ≡ f i
+pub get_or-table : {A : Type 0} (n : ℕ) (f : ℕ → A) (d : A) (i : ℕ) → i < n → get_or (table n f) i d ≡ f i
 unfolding table
-get_d_table zero f d i h = absurd (not-suc-le-zero h)
-get_d_table (suc n) f d zero h = refl
-get_d_table (suc n) f d (suc i) h = get_d_table n (λ (j : ℕ). f (suc j)) d i (le_of_suc-le-suc h)
+get_or-table zero f d i h = absurd (not-suc-le-zero h)
+get_or-table (suc n) f d zero h = refl
+get_or-table (suc n) f d (suc i) h = get_or-table n (λ (j : ℕ). f (suc j)) d i (le_of_suc-le-suc h)
 
 -- a list of n elements that are f's is the table of f
 pub is-table : {A : Type 0} (d : A) (n : ℕ) (f : ℕ → A) (l : List A) → length l ≡ n → ((i : ℕ) → i < n → get_or l i d ≡ f i) → l ≡ table n f
 is-table d n f l e h =
     ext_get_or d l (table n f) (e ∙ sym (length-table n f))
-    (λ i q. let p : i < n = (rw e at q) in h i p ∙ sym (get_d_table n f d i p))
+    (λ i q. let p : i < n = (rw e at q) in h i p ∙ sym (get_or-table n f d i p))
 
 pub table_cong : {A : Type 0} (n : ℕ) (f g : ℕ → A) → ((i : ℕ) → i < n → f i ≡ g i) → table n f ≡ table n g
 unfolding table
@@ -55,7 +55,7 @@ set-table d n f g i h others =
     at : (j : ℕ) → j < n → Dec (j ≡ i) → get_or (set (table n f) i (g i)) j d ≡ g j
     at j q (yes e) =
         rw e (get_or-set_same (table n f) i (g i) d (rw (length-table n f) h))
-    at j q (no e) = get_or-set_other (table n f) i j (g i) d e ∙ get_d_table n f d j q ∙ others j q e
+    at j q (no e) = get_or-set_other (table n f) i j (g i) d e ∙ get_or-table n f d j q ∙ others j q e
 
 -- ---- filled from the front
 
@@ -80,5 +80,5 @@ fill_more m f i h =
     same j apart true e = up-below i f j (ltb-true j i e) ∙ sym (up-below (suc i) f j (omega (arith, ltb-true j i e)))
     same j apart false e = up-past i f j (ltb-false j i e) ∙ sym (up-past (suc i) f j (omega (arith, ltb-false j i e, apart)))
 
-pub get_d_fill : (m : ℕ) (f : ℕ → ℕ) (n i : ℕ) → i < n → n ≤ m → get_or (table m (up_to n f)) i 0 ≡ f i
-get_d_fill m f n i h k = get_d_table m (up_to n f) 0 i (omega arith) ∙ up-below n f i h
+pub get_or-fill : (m : ℕ) (f : ℕ → ℕ) (n i : ℕ) → i < n → n ≤ m → get_or (table m (up_to n f)) i 0 ≡ f i
+get_or-fill m f n i h k = get_or-table m (up_to n f) 0 i (omega arith) ∙ up-below n f i h

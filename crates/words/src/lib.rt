@@ -1,4 +1,6 @@
 // Words of 64 vectors: how many marks a row of four has, which vector marks first, and a word of ones for some vectors. And the greater of two counts.
+#![tactic(auto)]
+
 ghost use Rattle.std.specs.Prelude.{max, ◌≡◌};
 ghost use Rattle.words.specs.Bits.{first_ones};
 ghost use Rattle.words.specs.Rows.{marks_of, first_mark_of};

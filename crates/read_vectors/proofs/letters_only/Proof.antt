@@ -7,7 +7,7 @@ use mathlib.Core.Logic.{⊎_elim}
 use native.Mathlib.Numerals.{add-one}
 use native.Mathlib.Omega.{arith}
 use borrow.Author.Rules.{rules}
-use borrow.Author.Tests.{not_true, not-false}
+use borrow.Author.Tests.{not-true, not-false}
 use lib.ListN.{drop, get_or}
 use Rattle.switch.specs.Modules.{all_of}
 use Rattle.circuit.specs.Table.{is_letter}
@@ -50,7 +50,7 @@ loop-again c =
     let letter = is_letter (get_or body loop.loop.i 0) in
     let is : judged.is-letter.result ≡ letter = judged.is-letter.ensures ∙ ap is_letter judged.before.byte.ensures in
     let now : c.if1.only ≡ (only && letter) =
-    ⊎_elim (λ w. w.1 ∙ letter_lost only letter (sym is ∙ not_true _ w.0.taken)) (λ w. w.1 ∙ letter_kept only letter (sym is ∙ not-false _ w.0.left))
+    ⊎_elim (λ w. w.1 ∙ letter_lost only letter (sym is ∙ not-true _ w.0.taken)) (λ w. w.1 ∙ letter_kept only letter (sym is ∙ not-false _ w.0.left))
     c.if1.branch in
     (omega arith, rw (add-one, now) (loop.loop.invariant.1 ∙ letters-next body loop.loop.i (omega arith) only))
 

@@ -2,7 +2,7 @@
 use mathlib.Core.Path.{◌≡◌, sym, ◌∙◌}
 use Prim.Native.Nat.{◌≤◌, ◌<◌, ◌+◌, ◌-◌, ◌*◌, ◌^◌}
 use native.Mathlib.Omega.{arith}
-use borrow.Author.Tests.{not_true, not-false}
+use borrow.Author.Tests.{not-true, not-false}
 use lib.Dec.{T}
 use Rattle.switch.specs.Modules.{ModuleType}
 use Rattle.switch.specs.Blocks.{running_verdict}
@@ -54,7 +54,7 @@ returns c =
     (type-of (start turn))
     turn.loop.block
     (omega (arith, turn.loop.inv.0))
-    (sym told.block-holds.ensures ∙ not_true told.block-holds.result c.if1.true)
+    (sym told.block-holds.ensures ∙ not-true told.block-holds.result c.if1.true)
 
 add-block : tie.Need-overflow-add-block invariant-loop decreases-loop
 add-block c = omega arith

@@ -5,7 +5,7 @@ use mathlib.Core.Path.{◌≡◌, sym, ap, ◌∙◌}
 use mathlib.Core.Bool.{true}
 use borrow.Author.Count.{below_none, below_more}
 use borrow.Author.Rules.{rules}
-use borrow.Author.Tests.{not_true, not-false}
+use borrow.Author.Tests.{not-true, not-false}
 use lib.ListN.{length}
 use Rattle.circuit.specs.Numbers.{signed, reference_of, reference_good}
 use Rattle.read_fields.specs.Steps.{body_of}
@@ -69,7 +69,7 @@ returns c =
     let loop = c.before.before.before.before in
     let a = loop.before.before.before.args in
     let i : loop.loop.i < (length (body_of a.file.now a.f) - 2) / 2 = omega (arith, counted loop) in
-    sym (one_bad a.inputs a.before (body_of a.file.now a.f) loop.loop.i i (sym (told c.before) ∙ not_true _ c.if1.true))
+    sym (one_bad a.inputs a.before (body_of a.file.now a.f) loop.loop.i i (sym (told c.before) ∙ not-true _ c.if1.true))
 
 add-i : tie.Need-overflow-add-i invariant-loop decreases-loop
 add-i c = omega arith

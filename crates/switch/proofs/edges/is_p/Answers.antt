@@ -3,25 +3,16 @@ use Prim.Native.Nat.{ℕ, ◌/◌, ◌<◌}
 use mathlib.Core.Path.{◌≡◌, refl}
 use mathlib.Core.Bool.{Bool, true, false, cond}
 use native.Mathlib.Omega.{arith}
-use borrow.Author.Rules.{rules}
 use borrow.Author.Tests.{leb-true, leb-false}
 use lib.Dec.{leb}
 use Rattle.switch.specs.Conduction.{channel_p, channel_n, channel_by}
 use Rattle.switch.specs.Records.{gate_in}
-use Rattle.switch.proofs.edges.is_p.Statement.{statement}
-use Rattle.switch.proofs.edges.is_p.Tie as tie
-use Rattle.switch.proofs.edges.gate_of.Reads as gate_of_reads
-
-gate-of-requires : tie.Need-gate-of-requires
-gate-of-requires c κs = search rules
+use Rattle.switch.proofs.edges.is_p.Goals as goal
 
 by-gate : (b : Bool) (g : ℕ) → leb 16 g ≡ b → g < 32 → cond b channel_p channel_n ≡ channel_by (g / 16)
 unfolding channel_by
 by-gate true g e h = let is : g / 16 ≡ 1 = omega (arith, leb-true 16 g e) in rw is refl
 by-gate false g e h = let is : g / 16 ≡ 0 = omega (arith, leb-false 16 g e) in rw is refl
 
-returns : tie.Need-returns
-returns c = let g = gate_in c.before.args.e in rw c.gate-of.ensures (by-gate (leb 16 g) g refl (omega arith))
-
-pub is-p-spec : {M : Type 1} → statement M
-is-p-spec = tie.close (tie.spec gate-of-requires returns)
+pub returns : goal.returns
+returns c = let g = gate_in c.args.e in rw c.gate_of.ensures (by-gate (leb 16 g) g refl (omega arith))

@@ -1,5 +1,4 @@
 -- An edge's record is the number of its parts, for either channel and either tag. Assumes nothing.
-use borrow.Author.Rules.{rules}
 use Prim.Native.Nat.{ℕ, ◌+◌, ◌*◌}
 use mathlib.Core.Path.{◌≡◌, refl}
 use mathlib.Core.Bool.{Bool, true, false, cond}
@@ -7,33 +6,7 @@ use native.Mathlib.Omega.{arith}
 use Rattle.switch.specs.Conduction.{channel_p, channel_n, channel_bit, by_position, stated}
 use Rattle.switch.specs.Records.{tag_bit, gate_of, edge_record}
 use Rattle.switch.specs.declared.Edge.{Edge as EdgeRecord}
-use Rattle.switch.proofs.edges.edge_with.Statement.{statement}
-use Rattle.switch.proofs.edges.edge_with.Tie as tie
-use Rattle.switch.proofs.edges.worth.Reads as worth_reads
-
-mul-code : tie.Need-overflow-mul-code
-mul-code c = search rules
-
-add-code : tie.Need-overflow-add-code
-add-code c = search rules
-
-mul-code-2 : tie.Need-overflow-mul-code-2
-mul-code-2 c = search rules
-
-add-code-2 : tie.Need-overflow-add-code-2
-add-code-2 c = search rules
-
-worth-requires : tie.Need-worth-requires
-worth-requires c κs = search rules
-
-add-t12 : tie.Need-overflow-add-t12
-add-t12 c = search rules
-
-worth-requires-2 : tie.Need-worth-requires-2
-worth-requires-2 c κs = search rules
-
-add-t10 : tie.Need-overflow-add-t10
-add-t10 c = search rules
+use Rattle.switch.proofs.edges.edge_with.Goals as goal
 
 -- what a bit adds
 channel_worth : (p : Bool) → cond p 16384 0 ≡ 16384 * channel_bit (cond p channel_p channel_n)
@@ -57,21 +30,7 @@ coded a b l x y p s e f =
     omega (arith, e, f, channel_worth p, tag_worth s) in
     rw same refl
 
-returns : tie.Need-returns
+pub returns : goal.returns
 returns c =
-    let s = c.before.before.args in
-    coded s.first s.second s.label _ _ s.channel_p s.is-stated c.before.worth.ensures.0 c.worth2.ensures.0
-
-pub edge-with-spec : {M : Type 1} → statement M
-edge-with-spec =
-    tie.close
-    (tie.spec
-    mul-code
-    add-code
-    mul-code-2
-    add-code-2
-    worth-requires
-    add-t12
-    worth-requires-2
-    add-t10
-    returns)
+    let s = c.args in
+    coded s.first s.second s.label _ _ s.p_channel s.is_stated c.worth.ensures.0 c.worth-2.ensures.0

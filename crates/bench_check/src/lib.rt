@@ -28,8 +28,7 @@ fn judged_type(h: u8, o: u8, k: u8, node: u8, label: u8, count: u8) -> ModuleTyp
 }
 
 // 1 where that type is complementary, and 0 where it is not.
-#[unsafe(no_mangle)]
-pub extern "C" fn bench_check(h: u8, o: u8, k: u8, node: u8, label: u8, count: u8) -> u64
+pub fn bench_check(h: u8, o: u8, k: u8, node: u8, label: u8, count: u8) -> u64
     ensures { result ≡ of_bool (is_complementary (type_of (judged h o k node label count))) }
 {
     if check_type(judged_type(h, o, k, node, label, count)) {

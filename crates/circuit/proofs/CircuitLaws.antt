@@ -13,7 +13,7 @@ use Rattle.switch.proofs.Channels.{in_between}
 use Rattle.circuit.specs.Limits.{most_bytes}
 use Rattle.circuit.specs.Fields.{Field, Cut, clean, broken, field, cut_in, cut_from, two_bytes}
 use Rattle.circuit.specs.Circuit.{Circuit, Instance, numbered, no_type, type_of_instance}
-use Rattle.circuit.specs.Order.{Tag, inputs_tag, type_tag, edge_tag_lem, bridge_tag, instance_tag, vector_tag, no_tag, tag_of, is_kind, is_unknown, reached, at_start, may_follow}
+use Rattle.circuit.specs.Order.{Tag, inputs_tag, type_tag, edge_tag, bridge_tag, instance_tag, vector_tag, no_tag, tag_of, is_kind, is_unknown, reached, at_start, may_follow}
 use Rattle.circuit.specs.Known.{Known, start, latest, taken, type_at_after, known_after}
 use Rattle.circuit.specs.Table.{Verdict, passes, refused_at, first_of, body_tests, field_tests, end_tests}
 use Rattle.circuit.specs.Reading.{Reading, accepted, refusal, unless, read_from, reading_with}
@@ -55,7 +55,7 @@ body-good : (size at : ℕ) (body : List ℕ) → at ≤ size → (tag : Tag) (c
 unfolding body_tests
 body-good size at body h inputs_tag c = inputs_refuse size at h body
 body-good size at body h type_tag c = types_refuse size at h body (length c.types)
-body-good size at body h (edge_tag_lem e) c = edges_refuse size at h body e (latest c.types)
+body-good size at body h (edge_tag e) c = edges_refuse size at h body e (latest c.types)
 body-good size at body h bridge_tag c = bridges_refuse size at h body (length c.bridges)
 body-good size at body h instance_tag c = instances_refuse size at h body c
 body-good size at body h vector_tag c = vectors_refuse size at h body c.inputs (length c.vectors)
@@ -100,7 +100,7 @@ module _ (size : ℕ) (known : Known) (good : KnownGood size known) where
   unfolding body_tests taken is_kind
   some_input f inputs_tag u m e = (inputs-pass f.at f.body e).0
   some_input f type_tag u m e = later type_tag refl u m
-  some_input f (edge_tag_lem t) u m e = later (edge_tag_lem t) (edge_no_inputs t) u m
+  some_input f (edge_tag t) u m e = later (edge_tag t) (edge_no_inputs t) u m
   some_input f bridge_tag u m e = later bridge_tag refl u m
   some_input f instance_tag u m e = later instance_tag refl u m
   some_input f vector_tag u m e = later vector_tag refl u m

@@ -5,7 +5,7 @@ use mathlib.Core.List.{List, [], ◌∷◌, ◌++◌}
 use lib.ListN.{length}
 use Rattle.switch.specs.Conduction.{at0, at1, at_x, channel_p, channel_n, by_position, n_end, n_ends, bad_ends, transistor_on, channel_of, p_ends, edge_on, edges_for, between, links}
 use Rattle.switch.specs.Modules.{all_of, in_range, type_in_range, edge_in_range, links_of, setting_of, value_of_bit}
-use Rattle.switch.specs.Deciding.{joins, renamings, part_in_lem, rename, all_below, one_rail, is_complementary}
+use Rattle.switch.specs.Deciding.{joins, renamings, part_of_node, rename, all_below, one_rail, is_complementary}
 use Rattle.words.specs.Bits.{bit}
 use Rattle.words.specs.Tables.{table}
 use Rattle.circuit.specs.Fields.{two_bytes, cut_in, cut_from}
@@ -30,7 +30,7 @@ read-inverter : reading_of inverter ≡ accepted (record {
   instances = record { type = 1; choice = exhaustive; references = primary 1 ∷ [] } ∷ [];
   vectors = (at0 ∷ []) ∷ (at1 ∷ []) ∷ (at_x ∷ []) ∷ [];
 })
-unfolding inverter n_end n_ends bad_ends reading_with read_from unless field_tests end_tests first_of body_tests inputs_tests type_tests edge_tests edge_tests_of bridge_tests instance_tests instance_tests_of vector_tests is_kind is_edge may_follow unjudged not_complementary is_empty list_unsuited list_empty is_letter tag_of type_in edges_told edges_in references_in instance_in letter_of vector_in latest with_edges edges_added taken type_at_after known_after signed choice_of choice_in_range reference_of reference_good two_bytes cut_in cut_from numbered exhaustive_size chosen_size fault_count user_list bit table joins renamings part_in_lem rename all_below one_rail is_complementary all_of in_range type_in_range edge_in_range links_of setting_of value_of_bit transistor_on channel_of p_ends edge_on edges_for edges_in_range between links
+unfolding inverter n_end n_ends bad_ends reading_with read_from unless field_tests end_tests first_of body_tests inputs_tests type_tests edge_tests edge_tests_of bridge_tests instance_tests instance_tests_of vector_tests is_kind is_edge may_follow unjudged not_complementary is_empty list_unsuited list_empty is_letter tag_of type_in edges_told edges_in references_in instance_in letter_of vector_in latest with_edges edges_added taken type_at_after known_after signed choice_of choice_in_range reference_of reference_good two_bytes cut_in cut_from numbered exhaustive_size chosen_size fault_count user_list bit table joins renamings part_of_node rename all_below one_rail is_complementary all_of in_range type_in_range edge_in_range links_of setting_of value_of_bit transistor_on channel_of p_ends edge_on edges_for edges_in_range between links
 read-inverter = refl
 
 read-empty : reading_of [] ≡ refusal 14 0
@@ -69,7 +69,7 @@ read-references : (reading_of (with_second 255 255) ≡ accepted (record {
     × ((reading_of (with_second 255 254) ≡ refusal 10 30)
     × ((reading_of (with_second 0 0) ≡ refusal 10 30)
     × (reading_of (begin ++ instance_with 255 255 ++ vector) ≡ refusal 10 23)))
-unfolding begin instance_with vector with_second n_end n_ends bad_ends reading_with read_from unless field_tests end_tests first_of body_tests inputs_tests type_tests edge_tests edge_tests_of bridge_tests instance_tests instance_tests_of vector_tests is_kind is_edge may_follow unjudged not_complementary is_empty list_unsuited list_empty is_letter tag_of type_in edges_told edges_in references_in instance_in letter_of vector_in latest with_edges edges_added taken type_at_after known_after signed choice_of choice_in_range reference_of reference_good two_bytes cut_in cut_from numbered exhaustive_size chosen_size fault_count user_list bit table joins renamings part_in_lem rename all_below one_rail is_complementary all_of in_range type_in_range edge_in_range links_of setting_of value_of_bit transistor_on channel_of p_ends edge_on edges_for edges_in_range between links
+unfolding begin instance_with vector with_second n_end n_ends bad_ends reading_with read_from unless field_tests end_tests first_of body_tests inputs_tests type_tests edge_tests edge_tests_of bridge_tests instance_tests instance_tests_of vector_tests is_kind is_edge may_follow unjudged not_complementary is_empty list_unsuited list_empty is_letter tag_of type_in edges_told edges_in references_in instance_in letter_of vector_in latest with_edges edges_added taken type_at_after known_after signed choice_of choice_in_range reference_of reference_good two_bytes cut_in cut_from numbered exhaustive_size chosen_size fault_count user_list bit table joins renamings part_of_node rename all_below one_rail is_complementary all_of in_range type_in_range edge_in_range links_of setting_of value_of_bit transistor_on channel_of p_ends edge_on edges_for edges_in_range between links
 read-references = (refl, (refl, (refl, refl)))
 
 -- ---- bridges
@@ -77,5 +77,5 @@ read-references = (refl, (refl, (refl, refl)))
 -- a kind 0 bridge with equal ends is 7, and so is one of a third kind
 read-bridges : (reading_of (begin ++ (4 ∷ 0 ∷ 4 ∷ 1 ∷ 0 ∷ 2 ∷ 2 ∷ [])) ≡ refusal 7 23)
     × (reading_of (begin ++ (4 ∷ 0 ∷ 4 ∷ 1 ∷ 2 ∷ 2 ∷ 0 ∷ [])) ≡ refusal 7 23)
-unfolding begin n_end n_ends bad_ends reading_with read_from unless field_tests end_tests first_of body_tests inputs_tests type_tests edge_tests edge_tests_of bridge_tests bridge_in_range listed_good bridge_good bridge_of instance_tests instance_tests_of vector_tests is_kind is_edge may_follow unjudged not_complementary is_empty list_unsuited list_empty is_letter tag_of type_in edges_told edges_in references_in instance_in letter_of vector_in latest with_edges edges_added taken type_at_after known_after signed choice_of choice_in_range reference_of reference_good two_bytes cut_in cut_from numbered exhaustive_size chosen_size fault_count user_list bit table joins renamings part_in_lem rename all_below one_rail is_complementary all_of in_range type_in_range edge_in_range links_of setting_of value_of_bit transistor_on channel_of p_ends edge_on edges_for edges_in_range between links
+unfolding begin n_end n_ends bad_ends reading_with read_from unless field_tests end_tests first_of body_tests inputs_tests type_tests edge_tests edge_tests_of bridge_tests bridge_in_range listed_good bridge_good bridge_of instance_tests instance_tests_of vector_tests is_kind is_edge may_follow unjudged not_complementary is_empty list_unsuited list_empty is_letter tag_of type_in edges_told edges_in references_in instance_in letter_of vector_in latest with_edges edges_added taken type_at_after known_after signed choice_of choice_in_range reference_of reference_good two_bytes cut_in cut_from numbered exhaustive_size chosen_size fault_count user_list bit table joins renamings part_of_node rename all_below one_rail is_complementary all_of in_range type_in_range edge_in_range links_of setting_of value_of_bit transistor_on channel_of p_ends edge_on edges_for edges_in_range between links
 read-bridges = (refl, refl)

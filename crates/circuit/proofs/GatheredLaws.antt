@@ -13,7 +13,7 @@ use Rattle.switch.specs.Modules.{ModuleType}
 use Rattle.circuit.specs.Limits.{most_bytes}
 use Rattle.circuit.specs.Fields.{Field, Cut, clean, broken, field, cut_from, two_bytes}
 use Rattle.circuit.specs.Circuit.{Circuit, Instance, Listed}
-use Rattle.circuit.specs.Order.{Tag, inputs_tag, type_tag, edge_tag_lem, bridge_tag, instance_tag, vector_tag, no_tag, tag_of, is_kind, is_edge, is_unknown, rank, Previous, start_of_file, after_tag, reached, may_follow}
+use Rattle.circuit.specs.Order.{Tag, inputs_tag, type_tag, edge_tag, bridge_tag, instance_tag, vector_tag, no_tag, tag_of, is_kind, is_edge, is_unknown, rank, Previous, start_of_file, after_tag, reached, may_follow}
 use Rattle.circuit.specs.Known.{Known, start, type_in, edges_in, latest, with_edges, edges_added, taken, type_at_after, known_after}
 use Rattle.circuit.specs.Table.{Test, Verdict, passes, refused_at, first_of, misplaced, unjudged, not_complementary, is_empty, inputs_tests, type_tests, edge_tests, body_tests, field_tests}
 use Rattle.circuit.specs.Reading.{Reading, accepted, refusal, unless}
@@ -77,7 +77,7 @@ no_edge_tag : (kind : Tag) → 3 ≤ rank kind → is_edge kind ≡ false
 unfolding is_edge
 no_edge_tag inputs_tag low = refl
 no_edge_tag type_tag low = refl
-no_edge_tag (edge_tag_lem t) low = absurd (omega arith)
+no_edge_tag (edge_tag t) low = absurd (omega arith)
 no_edge_tag bridge_tag low = refl
 no_edge_tag instance_tag low = refl
 no_edge_tag vector_tag low = refl
@@ -137,7 +137,7 @@ no_edge_lem : (previous : Previous) (types : List ModuleType) (g : Tag) → (unj
 unfolding is_edge may_follow unjudged
 no_edge_lem previous types inputs_tag j h u = j u
 no_edge_lem previous types type_tag j h u = j u
-no_edge_lem previous types (edge_tag_lem t) j h u = let z = h (omega arith) in cc (z, u)
+no_edge_lem previous types (edge_tag t) j h u = let z = h (omega arith) in cc (z, u)
 no_edge_lem previous types bridge_tag j h u = j u
 no_edge_lem previous types instance_tag j h u = j u
 no_edge_lem previous types vector_tag j h u = j u
@@ -210,7 +210,7 @@ module _ (P : ℕ) (next : List ModuleType → Cut → Circuit)
         ≡ goes_on next (if_passes (first_of (edge_tests (edge_as f) (latest types) f.at f.body)) (types_before types) from more)
     unfolding is_edge may_follow unjudged body_tests taken
     at_edge own u holds later =
-        before-own (knowing previous (field_place from) (with_types P types)) f rest (edge_tag_lem (edge_as f)) (edge-is (tag_of f.tag) own)
+        before-own (knowing previous (field_place from) (with_types P types)) f rest (edge_tag (edge_as f)) (edge-is (tag_of f.tag) own)
         (edge-known (edge_as f)) u (rw u)
         ∙ rw (edge_no_type (edge_as f))
         (at-verdict next (first_of (edge_tests (edge_as f) (latest types) f.at f.body)) (types_before types) from more _ _

@@ -8,7 +8,7 @@ use native.Mathlib.Decide.{dec_lt}
 use borrow.Author.Tests.{eqb-true, eqb-false, eq-eqb, ne_eqb, ltb-true, ltb-false}
 use lib.Dec.{eqb, ltb}
 use Rattle.switch.specs.Conduction.{EdgeTag, by_position, stated, between}
-use Rattle.circuit.specs.Order.{Tag, inputs_tag, type_tag, edge_tag_lem, bridge_tag, instance_tag, vector_tag, no_tag, tag_number, tag_of, is_kind, is_edge, edge_tag_of, is_unknown, rank, Previous, after_tag, reached, may_follow}
+use Rattle.circuit.specs.Order.{Tag, inputs_tag, type_tag, edge_tag, bridge_tag, instance_tag, vector_tag, no_tag, tag_number, tag_of, is_kind, is_edge, edge_tag_of, is_unknown, rank, Previous, after_tag, reached, may_follow}
 use Rattle.circuit.proofs.RangeLaws.{between_below, between_above}
 
 -- ---- kinds
@@ -17,8 +17,8 @@ pub tag_back : (tag : Tag) → tag_of (tag_number tag) ≡ tag
 unfolding tag_of
 tag_back inputs_tag = refl
 tag_back type_tag = refl
-tag_back (edge_tag_lem by_position) = refl
-tag_back (edge_tag_lem stated) = refl
+tag_back (edge_tag by_position) = refl
+tag_back (edge_tag stated) = refl
 tag_back bridge_tag = refl
 tag_back instance_tag = refl
 tag_back vector_tag = refl
@@ -48,7 +48,7 @@ module _ (kind tag : Tag) where
 tells-back : (n : ℕ) → (n ≡ tag_number (tag_of n)) ⊎ (tag_of n ≡ no_tag)
 unfolding tag_of
 tells-back n =
-    pick inputs_tag (pick type_tag (pick (edge_tag_lem by_position) (pick bridge_tag (pick instance_tag (pick vector_tag (pick (edge_tag_lem stated) (inr refl)))))))
+    pick inputs_tag (pick type_tag (pick (edge_tag by_position) (pick bridge_tag (pick instance_tag (pick vector_tag (pick (edge_tag stated) (inr refl)))))))
   where
     Told : Tag → Type 0
     Told tag = (n ≡ tag_number tag) ⊎ (tag ≡ no_tag)
@@ -79,12 +79,12 @@ module _ (kind : Tag) (n : ℕ) (known : 1 ≤ tag_number kind) where
   not_tag none is = let z : tag_number kind ≡ 0 = ap tag_number (sym (tag_back kind) ∙ ap tag_of (sym is) ∙ none) in absurd (omega arith)
 
 -- 3 and 7 are the tags of edges, and 7 that of an edge that states its channel
-edge_of_two : (tag : Tag) → (is_kind (edge_tag_lem by_position) tag || is_kind (edge_tag_lem stated) tag) ≡ is_edge tag
+edge_of_two : (tag : Tag) → (is_kind (edge_tag by_position) tag || is_kind (edge_tag stated) tag) ≡ is_edge tag
 unfolding is_kind is_edge
 edge_of_two inputs_tag = refl
 edge_of_two type_tag = refl
-edge_of_two (edge_tag_lem by_position) = refl
-edge_of_two (edge_tag_lem stated) = refl
+edge_of_two (edge_tag by_position) = refl
+edge_of_two (edge_tag stated) = refl
 edge_of_two bridge_tag = refl
 edge_of_two instance_tag = refl
 edge_of_two vector_tag = refl
@@ -92,21 +92,21 @@ edge_of_two no_tag = refl
 
 pub edge-byte : (n : ℕ) → (eqb n 3 || eqb n 7) ≡ is_edge (tag_of n)
 edge-byte n =
-    rw (kind_byte (edge_tag_lem by_position) n (omega arith), kind_byte (edge_tag_lem stated) n (omega arith)) (edge_of_two (tag_of n))
+    rw (kind_byte (edge_tag by_position) n (omega arith), kind_byte (edge_tag stated) n (omega arith)) (edge_of_two (tag_of n))
 
-edge-tag-is : (tag : Tag) → cond (is_kind (edge_tag_lem stated) tag) stated by_position ≡ edge_tag_of tag
+edge-tag-is : (tag : Tag) → cond (is_kind (edge_tag stated) tag) stated by_position ≡ edge_tag_of tag
 unfolding is_kind edge_tag_of
 edge-tag-is inputs_tag = refl
 edge-tag-is type_tag = refl
-edge-tag-is (edge_tag_lem by_position) = refl
-edge-tag-is (edge_tag_lem stated) = refl
+edge-tag-is (edge_tag by_position) = refl
+edge-tag-is (edge_tag stated) = refl
 edge-tag-is bridge_tag = refl
 edge-tag-is instance_tag = refl
 edge-tag-is vector_tag = refl
 edge-tag-is no_tag = refl
 
 pub edge-tag-byte : (n : ℕ) → cond (eqb n 7) stated by_position ≡ edge_tag_of (tag_of n)
-edge-tag-byte n = rw (kind_byte (edge_tag_lem stated) n (omega arith)) (edge-tag-is (tag_of n))
+edge-tag-byte n = rw (kind_byte (edge_tag stated) n (omega arith)) (edge-tag-is (tag_of n))
 
 -- 0, and a byte past the tags, stand for none
 no_tag_byte : (n : ℕ) → (n ≡ 0) ⊎ (7 < n) → tag_of n ≡ no_tag
@@ -128,7 +128,7 @@ low-tag-byte : (n : ℕ) → (n ≡ 0 → ⊥) → n ≤ 3 → tag_of n ≡ no_t
 low-tag-byte n low high none =
     let one : n ≡ 1 → ⊥ = not_tag inputs_tag n (omega arith) none in
     let two : n ≡ 2 → ⊥ = not_tag type_tag n (omega arith) none in
-    let three : n ≡ 3 → ⊥ = not_tag (edge_tag_lem by_position) n (omega arith) none in
+    let three : n ≡ 3 → ⊥ = not_tag (edge_tag by_position) n (omega arith) none in
     absurd (omega arith)
 
 high-tag-byte : (n : ℕ) → 4 ≤ n → n ≤ 7 → tag_of n ≡ no_tag → ⊥
@@ -136,7 +136,7 @@ high-tag-byte n low high none =
     let four : n ≡ 4 → ⊥ = not_tag bridge_tag n (omega arith) none in
     let five : n ≡ 5 → ⊥ = not_tag instance_tag n (omega arith) none in
     let six : n ≡ 6 → ⊥ = not_tag vector_tag n (omega arith) none in
-    let seven : n ≡ 7 → ⊥ = not_tag (edge_tag_lem stated) n (omega arith) none in
+    let seven : n ≡ 7 → ⊥ = not_tag (edge_tag stated) n (omega arith) none in
     absurd (omega arith)
 
 some-tag-byte : (n : ℕ) → (n ≡ 0 → ⊥) → n ≤ 7 → tag_of n ≡ no_tag → ⊥
@@ -157,28 +157,28 @@ unknown_byte n = go (eqb n 0) (ltb 7 n) refl refl
 -- ---- edges, and the order
 
 -- an edge field is told by which of the two tags it has
-pub edge-is : (tag : Tag) → is_edge tag ≡ true → tag ≡ edge_tag_lem (edge_tag_of tag)
+pub edge-is : (tag : Tag) → is_edge tag ≡ true → tag ≡ edge_tag (edge_tag_of tag)
 unfolding is_edge edge_tag_of
 edge-is inputs_tag e = cc
 edge-is type_tag e = cc
-edge-is (edge_tag_lem t) e = refl
+edge-is (edge_tag t) e = refl
 edge-is bridge_tag e = cc
 edge-is instance_tag e = cc
 edge-is vector_tag e = cc
 edge-is no_tag e = cc
 
 -- it is a known field, and neither the inputs' nor a type's
-pub edge-known : (t : EdgeTag) → is_unknown (edge_tag_lem t) ≡ false
+pub edge-known : (t : EdgeTag) → is_unknown (edge_tag t) ≡ false
 unfolding is_kind
 edge-known by_position = refl
 edge-known stated = refl
 
-pub edge_no_inputs : (t : EdgeTag) → is_kind inputs_tag (edge_tag_lem t) ≡ false
+pub edge_no_inputs : (t : EdgeTag) → is_kind inputs_tag (edge_tag t) ≡ false
 unfolding is_kind
 edge_no_inputs by_position = refl
 edge_no_inputs stated = refl
 
-pub edge_no_type : (t : EdgeTag) → is_kind type_tag (edge_tag_lem t) ≡ false
+pub edge_no_type : (t : EdgeTag) → is_kind type_tag (edge_tag t) ≡ false
 unfolding is_kind
 edge_no_type by_position = refl
 edge_no_type stated = refl
@@ -188,7 +188,7 @@ pub known-rank : (tag : Tag) → is_unknown tag ≡ false → rank tag < 6
 unfolding is_kind
 known-rank inputs_tag e = omega arith
 known-rank type_tag e = omega arith
-known-rank (edge_tag_lem t) e = omega arith
+known-rank (edge_tag t) e = omega arith
 known-rank bridge_tag e = omega arith
 known-rank instance_tag e = omega arith
 known-rank vector_tag e = omega arith
@@ -202,7 +202,7 @@ pub past : (previous : Previous) (tag : Tag) → 3 ≤ reached previous → reac
 unfolding may_follow
 past previous inputs_tag low high h = ne_eqb (reached previous) 0 (omega arith)
 past previous type_tag low high h = between_above 1 2 (reached previous) h
-past previous (edge_tag_lem t) low high h = ne_eqb (reached previous) 2 (omega arith)
+past previous (edge_tag t) low high h = ne_eqb (reached previous) 2 (omega arith)
 past previous bridge_tag low high h = between_above 1 3 (reached previous) h
 past previous instance_tag low high h = between_above 1 4 (reached previous) h
 past previous vector_tag low high h = between_above 1 5 (reached previous) h
@@ -214,7 +214,7 @@ pub first-place : (previous : Previous) (tag : Tag) → reached previous ≡ 0 �
 unfolding may_follow is_kind
 first-place previous inputs_tag e other known = cc
 first-place previous type_tag e other known = between_below 1 2 (reached previous) (omega arith)
-first-place previous (edge_tag_lem t) e other known = ne_eqb (reached previous) 2 (omega arith)
+first-place previous (edge_tag t) e other known = ne_eqb (reached previous) 2 (omega arith)
 first-place previous bridge_tag e other known = between_below 1 3 (reached previous) (omega arith)
 first-place previous instance_tag e other known = between_below 1 4 (reached previous) (omega arith)
 first-place previous vector_tag e other known = between_below 1 5 (reached previous) (omega arith)
@@ -225,7 +225,7 @@ pub follows_alike : (p q : Previous) (tag : Tag) → reached p ≡ reached q →
 unfolding may_follow
 follows_alike p q inputs_tag e = ap (λ (n : ℕ). eqb n 0) e
 follows_alike p q type_tag e = ap (between 1 2) e
-follows_alike p q (edge_tag_lem t) e = ap (λ (n : ℕ). eqb n 2) e
+follows_alike p q (edge_tag t) e = ap (λ (n : ℕ). eqb n 2) e
 follows_alike p q bridge_tag e = ap (between 1 3) e
 follows_alike p q instance_tag e = ap (between 1 4) e
 follows_alike p q vector_tag e = ap (between 1 5) e
@@ -236,8 +236,8 @@ pub after-a-type : (tag : Tag) → not (may_follow (after_tag type_tag) tag) ≡
 unfolding may_follow is_kind between
 after-a-type inputs_tag = refl
 after-a-type type_tag = refl
-after-a-type (edge_tag_lem by_position) = refl
-after-a-type (edge_tag_lem stated) = refl
+after-a-type (edge_tag by_position) = refl
+after-a-type (edge_tag stated) = refl
 after-a-type bridge_tag = refl
 after-a-type instance_tag = refl
 after-a-type vector_tag = refl
@@ -253,7 +253,7 @@ kind-at : (tag : Tag) → 3 ≤ rank tag → kind_at (rank tag) ≡ tag
 unfolding kind_at
 kind-at inputs_tag h = absurd (omega arith)
 kind-at type_tag h = absurd (omega arith)
-kind-at (edge_tag_lem t) h = absurd (omega arith)
+kind-at (edge_tag t) h = absurd (omega arith)
 kind-at bridge_tag h = refl
 kind-at instance_tag h = refl
 kind-at vector_tag h = refl

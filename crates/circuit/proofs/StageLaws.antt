@@ -12,7 +12,7 @@ use Rattle.switch.specs.Conduction.{Value, EdgeTag}
 use Rattle.switch.specs.Modules.{ModuleType}
 use Rattle.circuit.specs.Fields.{Field, Cut, clean, broken, field, cut_from, two_bytes}
 use Rattle.circuit.specs.Circuit.{Circuit, Instance, Listed}
-use Rattle.circuit.specs.Order.{Tag, inputs_tag, type_tag, edge_tag_lem, bridge_tag, instance_tag, vector_tag, no_tag, tag_of, is_kind, is_edge, edge_tag_of, is_unknown, rank, Previous, start_of_file, after_tag, reached, may_follow}
+use Rattle.circuit.specs.Order.{Tag, inputs_tag, type_tag, edge_tag, bridge_tag, instance_tag, vector_tag, no_tag, tag_of, is_kind, is_edge, edge_tag_of, is_unknown, rank, Previous, start_of_file, after_tag, reached, may_follow}
 use Rattle.circuit.specs.Known.{Known, start, type_in, edges_in, listed_in, instance_in, vector_in, latest, with_edges, edges_added, taken, type_at_after, known_after}
 use Rattle.circuit.specs.Table.{Test, Verdict, passes, refused_at, first_of, misplaced, unjudged, not_complementary, is_empty, inputs_tests, type_tests, edge_tests, bridge_tests, instance_tests, vector_tests, body_tests, field_tests, end_tests}
 use Rattle.circuit.specs.Reading.{Reading, accepted, unless, read_from, reading_with}
@@ -242,7 +242,7 @@ abbrev pub edge_as : Field → EdgeTag
 edge_as f = edge_tag_of (tag_of f.tag)
 
 abbrev pub after_edge : Field → Previous
-after_edge f = after_tag (edge_tag_lem (edge_as f))
+after_edge f = after_tag (edge_tag (edge_as f))
 
 -- what a field makes of the types, as the next edge of the latest or as the next type, and the stage from there
 module _ (types : List ModuleType) (f : Field) where
@@ -304,7 +304,7 @@ pub types-past : (types : List ModuleType) (previous : Previous) (tag : Tag) →
 unfolding may_follow is_kind is_edge
 types-past types previous inputs_tag b other no-type h = let l = b.low in ne_eqb (reached previous) 0 (omega arith)
 types-past types previous type_tag b other no-type h = cc
-types-past types previous (edge_tag_lem t) b other no-type h = no_edge_lem (is_empty types) refl other
+types-past types previous (edge_tag t) b other no-type h = no_edge_lem (is_empty types) refl other
   where
     no_edge_lem : (em : Bool) → is_empty types ≡ em → not em ≡ false → eqb (reached previous) 2 ≡ false
     no_edge_lem true e o = let n = b.none e in ne_eqb (reached previous) 2 (omega arith)
@@ -323,7 +323,7 @@ module _ (wanted : Bool) (size P : ℕ) (types : List ModuleType) (previous : Pr
       ≡ unless (first_of (edge_tests (edge_as f) (latest types) f.at f.body)) (read_from wanted size (knowing (after_edge f) type_at (with_types P (with_edge types f))) rest)
   unfolding is_edge may_follow unjudged body_tests taken
   read_edge f rest own u =
-      let kind = edge_tag_lem (edge_as f) in
+      let kind = edge_tag (edge_as f) in
       read-own wanted size (knowing previous type_at (with_types P types)) f rest kind (edge-is (tag_of f.tag) own) (edge-known (edge_as f)) u (rw u)
       ∙ rw (edge_no_type (edge_as f)) refl
 

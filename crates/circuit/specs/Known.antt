@@ -7,7 +7,7 @@ use Rattle.switch.specs.Bridges.{Bridge, nodes, input}
 use Rattle.circuit.specs.Fields.{Field, two_bytes}
 use Rattle.circuit.specs.Circuit.{Circuit, Instance, Listed, Reference, no_type}
 use Rattle.circuit.specs.Numbers.{signed, choice_of, reference_of}
-use Rattle.circuit.specs.Order.{Tag, inputs_tag, type_tag, edge_tag_lem, bridge_tag, instance_tag, vector_tag, no_tag, tag_of, is_kind}
+use Rattle.circuit.specs.Order.{Tag, inputs_tag, type_tag, edge_tag, bridge_tag, instance_tag, vector_tag, no_tag, tag_of, is_kind}
 use Rattle.circuit.specs.Order.{Previous, start_of_file, after_tag}
 
 -- what stands before the next field; the offset of the latest type's field; the circuit so far
@@ -87,7 +87,7 @@ taken type_tag c body =
       instances = c.instances;
       vectors = c.vectors;
     }
-taken (edge_tag_lem e) c body =
+taken (edge_tag e) c body =
     record {
       inputs = c.inputs;
       types = edges_added c.types (edges_in e (latest c.types).output body);

@@ -10,7 +10,7 @@ use Rattle.switch.specs.Conduction.{EdgeTag, by_position, stated, between}
 pub data Tag : Type 0 where
   inputs_tag : Tag
   type_tag : Tag
-  edge_tag_lem : EdgeTag → Tag
+  edge_tag : EdgeTag → Tag
   bridge_tag : Tag
   instance_tag : Tag
   vector_tag : Tag
@@ -25,7 +25,7 @@ edge_tag_number stated = 7
 abbrev pub tag_number : Tag → ℕ
 tag_number inputs_tag = 1
 tag_number type_tag = 2
-tag_number (edge_tag_lem e) = edge_tag_number e
+tag_number (edge_tag e) = edge_tag_number e
 tag_number bridge_tag = 4
 tag_number instance_tag = 5
 tag_number vector_tag = 6
@@ -36,11 +36,11 @@ unfoldable pub tag_of : ℕ → Tag
 tag_of n =
     cond (eqb n (tag_number inputs_tag)) inputs_tag
     (cond (eqb n (tag_number type_tag)) type_tag
-    (cond (eqb n (tag_number (edge_tag_lem by_position))) (edge_tag_lem by_position)
+    (cond (eqb n (tag_number (edge_tag by_position))) (edge_tag by_position)
     (cond (eqb n (tag_number bridge_tag)) bridge_tag
     (cond (eqb n (tag_number instance_tag)) instance_tag
     (cond (eqb n (tag_number vector_tag)) vector_tag
-    (cond (eqb n (tag_number (edge_tag_lem stated))) (edge_tag_lem stated) no_tag))))))
+    (cond (eqb n (tag_number (edge_tag stated))) (edge_tag stated) no_tag))))))
 
 -- a field is of this kind
 unfoldable pub is_kind : Tag → Tag → Bool
@@ -50,7 +50,7 @@ is_kind kind tag = eqb (tag_number tag) (tag_number kind)
 unfoldable pub is_edge : Tag → Bool
 is_edge inputs_tag = false
 is_edge type_tag = false
-is_edge (edge_tag_lem e) = true
+is_edge (edge_tag e) = true
 is_edge bridge_tag = false
 is_edge instance_tag = false
 is_edge vector_tag = false
@@ -60,7 +60,7 @@ is_edge no_tag = false
 unfoldable pub edge_tag_of : Tag → EdgeTag
 edge_tag_of inputs_tag = by_position
 edge_tag_of type_tag = by_position
-edge_tag_of (edge_tag_lem e) = e
+edge_tag_of (edge_tag e) = e
 edge_tag_of bridge_tag = by_position
 edge_tag_of instance_tag = by_position
 edge_tag_of vector_tag = by_position
@@ -75,7 +75,7 @@ is_unknown tag = is_kind no_tag tag
 abbrev pub rank : Tag → ℕ
 rank inputs_tag = 1
 rank type_tag = 2
-rank (edge_tag_lem e) = 2
+rank (edge_tag e) = 2
 rank bridge_tag = 3
 rank instance_tag = 4
 rank vector_tag = 5
@@ -106,7 +106,7 @@ not_past tag previous = between 1 (rank tag) (reached previous)
 unfoldable pub may_follow : Previous → Tag → Bool
 may_follow previous inputs_tag = at_start previous
 may_follow previous type_tag = not_past type_tag previous
-may_follow previous (edge_tag_lem e) = in_type previous
+may_follow previous (edge_tag e) = in_type previous
 may_follow previous bridge_tag = not_past bridge_tag previous
 may_follow previous instance_tag = not_past instance_tag previous
 may_follow previous vector_tag = not_past vector_tag previous

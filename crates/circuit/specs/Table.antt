@@ -10,7 +10,7 @@ use Rattle.circuit.specs.Fields.{Field, two_bytes}
 use Rattle.circuit.specs.Circuit.{Circuit, Listed, Choice, exhaustive, no_faults, list, type_of_instance, user_list, chosen_size}
 use Rattle.circuit.specs.Circuit.{fault_count}
 use Rattle.circuit.specs.Numbers.{signed, choice_in_range, reference_good}
-use Rattle.circuit.specs.Order.{Tag, inputs_tag, type_tag, edge_tag_lem, bridge_tag, instance_tag, vector_tag, no_tag, tag_of, is_edge}
+use Rattle.circuit.specs.Order.{Tag, inputs_tag, type_tag, edge_tag, bridge_tag, instance_tag, vector_tag, no_tag, tag_of, is_edge}
 use Rattle.circuit.specs.Order.{is_unknown, Previous, at_start, in_type, may_follow}
 use Rattle.circuit.specs.Known.{Known, edges_told, bridge_of, instance_in, latest}
 
@@ -167,7 +167,7 @@ vector_tests P count at body =
 unfoldable pub body_tests : Tag → Circuit → ℕ → List ℕ → List Test
 body_tests inputs_tag c at body = inputs_tests at body
 body_tests type_tag c at body = type_tests (length c.types) at body
-body_tests (edge_tag_lem e) c at body = edge_tests e (latest c.types) at body
+body_tests (edge_tag e) c at body = edge_tests e (latest c.types) at body
 body_tests bridge_tag c at body = bridge_tests (length c.bridges) at body
 body_tests instance_tag c at body = instance_tests c at body
 body_tests vector_tag c at body = vector_tests c.inputs (length c.vectors) at body

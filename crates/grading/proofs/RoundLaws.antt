@@ -12,7 +12,7 @@ use Rattle.words.specs.Each.{word_of_each}
 use Rattle.words.proofs.Greatest.{greatest_cong, greatest-by-words}
 use Rattle.switch.specs.Conduction.{Value, at_x, Channel, channel_p, channel_n, Edge, transistor_on, Switching, by_values, edge_on, Link, links, ground, supply}
 use Rattle.switch.specs.Modules.{ModuleType, links_of}
-use Rattle.switch.specs.Deciding.{part_in_lem, renamings, joins, level_in, output_value}
+use Rattle.switch.specs.Deciding.{part_of_node, renamings, joins, level_in, output_value}
 use Rattle.switch.specs.Distances.{IsRail, DistanceFrom, GreatestIs}
 use Rattle.switch.specs.Depth.{deepest}
 use Rattle.switch.specs.Promises.{rounds_under, four_rounds}
@@ -49,7 +49,7 @@ no_links values unknown (e ∷ es) = rw (unknown e.label, off e.channel) (no_lin
 
 -- with nothing on, a node that is no rail is X
 no_level : (o : ℕ) → 2 ≤ o → level_in [] o ≡ at_x
-unfolding level_in joins renamings part_in_lem
+unfolding level_in joins renamings part_of_node
 no_level o h = rw (ne_eqb o supply (λ e. omega arith), ne_eqb o ground (λ e. omega arith))
 
 -- the labels of an instance where the outputs before it are X

@@ -3,7 +3,7 @@
 --   RoundCounts                                    how many rounds add a node
 --   GatePlanes, EdgeColumns, RailWords             what ties the planes of gates, the columns of edges and the words of joining to the meaning
 --   SettingBlocks, Check                           the complementary check, 64 settings at a time
---   Walks, Spreading, TypeValues                   what the walks by hand over a lent slice of edges share
+--   Spreading                                      the used edges of a type's record
 pub mod RoundLaws
 pub mod WideRounds
 pub mod RoundCounts
@@ -12,6 +12,4 @@ pub mod EdgeColumns
 pub mod RailWords
 pub mod SettingBlocks
 pub mod Check
-pub mod Walks
 pub mod Spreading
-pub mod TypeValues

@@ -8,7 +8,7 @@ use Rattle.words.specs.Tables.{table}
 use Rattle.switch.specs.Conduction.{at0, at1, at_x, channel_p, channel_n, by_position, stated, channel_by, n_end, n_ends, bad_ends, transistor_on, channel_of, p_ends, edge_on, edges_for, between, links}
 use Rattle.switch.specs.Modules.{all_of, in_range, type_in_range, edge_in_range, links_of, setting_of, value_of_bit}
 use Rattle.switch.specs.Bridges.{nodes, input}
-use Rattle.switch.specs.Deciding.{joins, renamings, part_in_lem, rename, all_below, one_rail, is_complementary}
+use Rattle.switch.specs.Deciding.{joins, renamings, part_of_node, rename, all_below, one_rail, is_complementary}
 use Rattle.print_lines.specs.Ascii.{bytes_of}
 use Rattle.print_lines.specs.Decimal.{digits_of, length_in, decimal}
 use Rattle.circuit.specs.Fields.{two_bytes, cut_in, cut_from}
@@ -75,5 +75,5 @@ file_listings :
     ≡ lines_of ("inputs 1\n" ∷ "type 1 2 2 1\n" ∷ "edge 1 2 0\n" ∷ "edge 0 2 0\n" ∷ "refused 10 at 23\n" ∷ []))
     × (listing_of_file (begin ++ edges ++ (3 ∷ 0 ∷ 3 ∷ 0 ∷ 2 ∷ 1 ∷ [])) ≡ lines_of ("inputs 1\n" ∷ "refused 7 at 23\n" ∷ []))
     × (listing_of_file [] ≡ lines_of ("refused 14 at 0\n" ∷ []))
-unfolding begin edges mixed-edges lines_of listing_of refusal_lines circuit_lines inputs_lines grouped_lines type_lines numbered_lines inputs_line type_line channel_text edge_line_by edge_line instance_line vector_line choice_text reference_text value_letter refusal_line spaced join_lists decimal digits_of length_in is_refused types_before finished before_from read_before n_end n_ends bad_ends reading_with read_from unless field_tests end_tests first_of body_tests inputs_tests type_tests edge_tests edge_tests_of bridge_tests instance_tests instance_tests_of vector_tests is_kind is_edge may_follow unjudged not_complementary is_empty list_unsuited list_empty is_letter tag_of type_in edges_told edges_in references_in instance_in letter_of vector_in latest with_edges edges_added taken type_at_after known_after signed choice_of choice_in_range reference_of reference_good two_bytes cut_in cut_from numbered exhaustive_size chosen_size fault_count user_list bit table joins renamings part_in_lem rename all_below one_rail is_complementary all_of in_range type_in_range edge_in_range links_of setting_of value_of_bit transistor_on channel_of p_ends edge_on edges_for channel_by edges_in_range pass_in_range between links
+unfolding begin edges mixed-edges lines_of listing_of refusal_lines circuit_lines inputs_lines grouped_lines type_lines numbered_lines inputs_line type_line channel_text edge_line_by edge_line instance_line vector_line choice_text reference_text value_letter refusal_line spaced join_lists decimal digits_of length_in is_refused types_before finished before_from read_before n_end n_ends bad_ends reading_with read_from unless field_tests end_tests first_of body_tests inputs_tests type_tests edge_tests edge_tests_of bridge_tests instance_tests instance_tests_of vector_tests is_kind is_edge may_follow unjudged not_complementary is_empty list_unsuited list_empty is_letter tag_of type_in edges_told edges_in references_in instance_in letter_of vector_in latest with_edges edges_added taken type_at_after known_after signed choice_of choice_in_range reference_of reference_good two_bytes cut_in cut_from numbered exhaustive_size chosen_size fault_count user_list bit table joins renamings part_of_node rename all_below one_rail is_complementary all_of in_range type_in_range edge_in_range links_of setting_of value_of_bit transistor_on channel_of p_ends edge_on edges_for channel_by edges_in_range pass_in_range between links
 file_listings = (refl, refl, refl, refl)

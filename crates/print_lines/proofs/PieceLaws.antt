@@ -9,7 +9,7 @@ use lib.Dec.{ltb}
 use lib.ListN.{length, length-append}
 use borrow.Author.Tests.{ltb-true, ltb-false}
 use Rattle.words.specs.Written.{written}
-use Rattle.print_lines.specs.Pieces.{text_from, line_in, LinesStand, PieceGiven, OnePiece, PiecesJoin, PieceMoves}
+use Rattle.print_lines.specs.Pieces.{text_from, line_in, PieceGiven, OnePiece, PiecesJoin, PieceMoves}
 use Rattle.print_lines.specs.declared.Piece.{Piece}
 
 -- ---- the text

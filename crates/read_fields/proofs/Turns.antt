@@ -10,7 +10,8 @@ use Rattle.circuit.specs.Table.{Verdict, passes}
 use Rattle.circuit.specs.Refusals.{verdict_of, refusal_number, refusal_place, numbered_verdict}
 use Rattle.circuit.specs.Verdicts.{is_refused}
 use Rattle.circuit.specs.declared.refusal.Refusal.TheVariants.{Nothing}
-use Rattle.read_fields.specs.Steps.{field_in, FieldAt, StepIs, NextIs, NextIn, own_field, behind_step, ends_by, verdict_by, kept_by}
+use Rattle.read_fields.specs.Steps.{field_in, FieldAt, StepIs, NextIs, NextIn, own_field, behind_step, Stepped, ends_by, verdict_by, kept_by}
+use Rattle.read_fields.specs.declared.cursor.Reader.{Reader}
 use Rattle.read_fields.specs.declared.Field.{Field as FieldRecord}
 use Rattle.read_fields.specs.declared.Step.{Step}
 use Rattle.read_fields.specs.declared.Step.TheVariants.{Whole, Broken, End}
@@ -54,6 +55,11 @@ module _ (file : List ℕ) (at : ℕ) where
   unfolding NextIs NextIn
   next_in own (Found f) is = is.0.inside
   next_in own Other is = tt
+
+-- a step of a reader over the file is a turn
+pub turned_by : (file : List ℕ) (own : Tag → Bool) (before after : Reader) (told : Step) (found : Next) → before.file.now ≡ file
+    → before.at ≤ length file → Stepped before after told → found ≡ own_field own told → Turned file before.at own found after.at
+turned_by file own before after told found same h step e = rw (step.moved, e) (turned file before.at own told h (rw same at step.stands))
 
 -- ---- what a stage's functions say of a field of its own, and of none
 

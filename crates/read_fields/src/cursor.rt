@@ -1,4 +1,4 @@
-// A reader: the file, and its place in it. No function over a struct that holds a slice is covered, so each is thin and proved by hand.
+// A reader: the file, and its place in it.
 ghost use Rattle.std.specs.Prelude.{◌≡◌, ◌<◌, ◌≤◌, ◌^◌, length};
 ghost use Rattle.read_fields.specs.Steps.{StepIs, behind_step, Stepped};
 

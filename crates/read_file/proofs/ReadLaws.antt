@@ -149,7 +149,7 @@ held_to {t = t} types bridges lists summed =
     let read = types.read in record {
       counted = read.count;
       nodes_of = λ n. ap (λ (l : List ℕ). numbered l n 0) types.nodes ∙ nodes_told read.types t.count t.all read.within read.count read.all n;
-      labels_of_lem = λ n. ap (λ (l : List ℕ). numbered l n 0) types.labels ∙ labels_told read.types t.count t.all read.within read.count read.all n;
+      labels_by_number = λ n. ap (λ (l : List ℕ). numbered l n 0) types.labels ∙ labels_told read.types t.count t.all read.within read.count read.all n;
       good = (stage-types _ _ read.types _ read.stage).each;
       few = bridges.within;
       summed = summed bridges.bridges bridges.count bridges.within bridges.ranges bridges.all;

@@ -117,13 +117,13 @@ module _ {file : List ℕ} {from P typeCount : ℕ} {held : Held} {all : List In
     module _ (ts : List ModuleType) (bs : List Listed) (told : ShapesAndLists ts bs typeCount held.nodes held.labels held.lists) where
       labelled : asked.k ≡ (type_of_instance ts (instance_in (body_of file f))).labels
       unfolding asked_of instance_in
-      labelled = ap (λ (a : Asked). a.k) asked_is ∙ told.labels_of_lem (get_or (body_of file f) 0 0)
+      labelled = ap (λ (a : Asked). a.k) asked_is ∙ told.labels_by_number (get_or (body_of file f) 0 0)
 
       chose : asked.given ≡ meant (type_of_instance ts (instance_in (body_of file f))) bs (instance_in (body_of file f)).choice
       unfolding asked_of instance_in
       chose =
           ap (λ (a : Asked). a.given) asked_is
-          ∙ given_is told (type_of_instance ts (instance_in (body_of file f))) _ _ _ _ (told.nodes_of (get_or (body_of file f) 0 0)) (told.labels_of_lem (get_or (body_of file f) 0 0)) refl
+          ∙ given_is told (type_of_instance ts (instance_in (body_of file f))) _ _ _ _ (told.nodes_of (get_or (body_of file f) 0 0)) (told.labels_by_number (get_or (body_of file f) 0 0)) refl
 
       small : asked.given.faults ≤ 65536
       unfolding instance_in

@@ -33,7 +33,7 @@ pub record ShapesAndLists (types : List ModuleType) (bridges : List Listed) (typ
     (lists : Lists) : Type 0 where
   pub counted : typeCount ≡ length types
   pub nodes_of : (n : ℕ) → numbered nodes n 0 ≡ (numbered types n no_type).highest
-  pub labels_of_lem : (n : ℕ) → numbered labels n 0 ≡ (numbered types n no_type).labels
+  pub labels_by_number : (n : ℕ) → numbered labels n 0 ≡ (numbered types n no_type).labels
   pub good : Each (λ (i : ℕ) (t : ModuleType). TypeGood t) types
   pub few : length bridges ≤ most_bridges
   pub summed : lists ≡ lists_of bridges

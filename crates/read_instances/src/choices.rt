@@ -50,7 +50,7 @@ fn faults_chosen(h: u8, k: u8, choice: u8, count: u16, node: u8, label: u8) -> C
 }
 
 // What a choice gives in a type with h and k, by the lists in sum.
-pub fn given_by_lem(h: u8, k: u8, choice: u8, lists: Lists) -> Chosen
+pub fn given_by(h: u8, k: u8, choice: u8, lists: Lists) -> Chosen
     ensures { result ≡ given_by h k choice lists }
 {
     let n = list_named(choice);

@@ -18,7 +18,7 @@ ghost use Rattle.read_fields.specs.Steps.{body_of, NextIn, ends_by, verdict_by, 
 ghost use Rattle.read_instances.specs.ReadInstances.{gathered_tests, InstanceFits, ShapesAndLists, HeldAt, InstancesRead};
 ghost use Rattle.read_instances.specs.Turns.{asked_of, none_asked, instance_verdict, FieldGiven, TurnGiven, instance_kept, InstanceNext};
 
-use crate::choices::{Chosen, given_by_lem};
+use crate::choices::{Chosen, given_by};
 use crate::columns::of_type;
 use crate::references::{reference_count, reference_in, references_good};
 use circuit::limits::{MOST_FAULTS, MOST_INSTANCES, MOST_TYPES};
@@ -157,7 +157,7 @@ fn asked_in(file: &[u8], f: Field, held: Held) -> Asked
     let lists = held.lists;
     let number = byte(file, f, 0);
     let k = of_type(labels, number);
-    let given = given_by_lem(of_type(nodes, number), k, byte(file, f, 1), lists);
+    let given = given_by(of_type(nodes, number), k, byte(file, f, 1), lists);
     Asked { k, given }
 }
 

@@ -1,5 +1,5 @@
 -- The loops that read types and edges: what holds of what was read so far, where each begins, and what each way through a turn makes of it.
-use Prim.Native.Nat.{ℕ, zero, suc, ◌+◌, ◌-◌, ◌<◌, ◌≤◌}
+use Prim.Native.Nat.{ℕ, zero, suc, ◌+◌, ◌<◌, ◌≤◌}
 use mathlib.Core.Path.{◌≡◌, refl, sym, ap, subst, ◌∙◌}
 use mathlib.Core.Bool.{Bool, true, false, ◌&&◌}
 use mathlib.Core.List.{List, [], ◌∷◌, ◌++◌, map, map-append, append-nil, append_assoc}
@@ -26,9 +26,9 @@ use Rattle.circuit.specs.Refusals.{verdict_of}
 use Rattle.circuit.specs.Verdicts.{is_refused}
 use Rattle.circuit.specs.Stages.{Stage, if_passes, edge_stage, failing_verdict, field_place, type_stage, stage_of}
 use Rattle.read_fields.specs.Steps.{body_of, field_in, FieldAt, NextIs, ends_by, verdict_by, kept_by}
-use Rattle.read_types.specs.EdgeTurns.{edge_tag, verdict_as, edge_verdict, edges_as, placed, list_with, LabelsFit, EdgeCodesFit, EdgesNext, shaped_record, EdgesEnded}
+use Rattle.read_types.specs.EdgeTurns.{edge_tag_told, verdict_as, edge_verdict, edges_as, placed, list_with, LabelsFit, EdgeCodesFit, EdgesNext, shaped_record, EdgesEnded}
 use Rattle.read_types.specs.ReadTypes.{bare_of, EdgesRead, TypeRead, TypesRead}
-use Rattle.read_types.specs.TypeTurns.{FoundWhole, type_verdict, FieldTold, TypeTold, ends_at_lem}
+use Rattle.read_types.specs.TypeTurns.{FoundWhole, type_verdict, FieldTold, TypeTold, type_ends_at}
 use Rattle.read_fields.specs.declared.Field.{Field as FieldRecord}
 use Rattle.read_fields.specs.declared.Next.{Next}
 use Rattle.read_fields.specs.declared.Next.TheVariants.{Found, Other}
@@ -174,10 +174,10 @@ module _ {file : List ℕ} {from : ℕ} {shape : Shape} {list : EdgeList} {at : 
   edges_few = omega (arith, edge_count, sofar.within)
 
   -- the verdict on a field is that in the type which the edges make so far
-  verdict_so_far : (f : FieldRecord) → edge_verdict file shape count f ≡ first_of (edge_tests (edge_tag f) made f.at (body_of file f))
+  verdict_so_far : (f : FieldRecord) → edge_verdict file shape count f ≡ first_of (edge_tests (edge_tag_told f) made f.at (body_of file f))
   unfolding verdict_as edge_tests type_record
   verdict_so_far f =
-      ap (λ (r : TypeRecord). first_of (edge_tests_of (edge_tag f) r.highest r.output r.labels r.count f.at (body_of file f))) sofar.is
+      ap (λ (r : TypeRecord). first_of (edge_tests_of (edge_tag_told f) r.highest r.output r.labels r.count f.at (body_of file f))) sofar.is
 
   -- what was read, with a verdict by which the stage ends here
   edges_read : (v : Refusal) → edge_stage made (cut_from file at) ≡ stage_of (verdict_of v) made (cut_from file at)
@@ -211,28 +211,28 @@ module _ {file : List ℕ} {from : ℕ} {shape : Shape} {list : EdgeList} {at : 
         edges_read v (stage_here ∙ if_refused (verdict_of v) _ tested e _ made (cut_from file at)) (λ g rest p. never-passes (verdict_of v) e p)
 
     module _ (accepted : is_refused (edge_verdict file shape count f) ≡ false) where
-      passed : EdgesPass (edge_tag f) made (body_of file f)
-      passed = edges-pass (edge_tag f) made f.at (body_of file f) (sym (verdict_so_far f) ∙ passes-is (edge_verdict file shape count f) accepted)
+      passed : EdgesPass (edge_tag_told f) made (body_of file f)
+      passed = edges-pass (edge_tag_told f) made f.at (body_of file f) (sym (verdict_so_far f) ∙ passes-is (edge_verdict file shape count f) accepted)
 
       -- how many edges, and a place for each
-      added_are : edges_told (edge_tag f) f.len ≡ length (edges_in (edge_tag f) made.output (body_of file f))
+      added_are : edges_told (edge_tag_told f) f.len ≡ length (edges_in (edge_tag_told f) made.output (body_of file f))
       unfolding NextIs
-      added_are = ap (edges_told (edge_tag f)) (sym (length_body file f here.0.inside)) ∙ sym (length_edges_in (edge_tag f) made.output (body_of file f))
+      added_are = ap (edges_told (edge_tag_told f)) (sym (length_body file f here.0.inside)) ∙ sym (length_edges_in (edge_tag_told f) made.output (body_of file f))
 
-      places : count + edges_told (edge_tag f) f.len ≤ most_edges
+      places : count + edges_told (edge_tag_told f) f.len ≤ most_edges
       places = omega (arith, edge_count, passed.few, added_are)
 
-      codes_fit : EdgeCodesFit (edge_tag f) file f
+      codes_fit : EdgeCodesFit (edge_tag_told f) file f
       unfolding NextIs
       codes_fit =
           let its = type-ranges made.highest made.output made.labels (edges_ranges made sofar.ranges sofar.within).0 in
-          codes_of_lem (edge_tag f) made file f its.highest its.labels_high here.0.inside passed.bytes
+          codes_of_lem (edge_tag_told f) made file f its.highest its.labels_high here.0.inside passed.bytes
 
       edges_added_lem : EdgesSoFar file from shape (list_with file shape.output list f) (f.body + f.len)
       unfolding NextIs with_edges type_record list_with edges_as
       edges_added_lem =
           let body = body_of file f in
-          let es = edges_in (edge_tag f) made.output body in
+          let es = edges_in (edge_tag_told f) made.output body in
           let fits : length made.edges + length es ≤ most_edges = passed.few in
           record {
             type = plus_edges (tag_of f.tag) made body;
@@ -247,7 +247,7 @@ module _ {file : List ℕ} {from : ℕ} {shape : Shape} {list : EdgeList} {at : 
                   output = r.output;
                   labels = r.labels;
                   count = r.count + length es;
-                  edges = placed r.edges r.count (map edge_record (edges_in (edge_tag f) r.output body));
+                  edges = placed r.edges r.count (map edge_record (edges_in (edge_tag_told f) r.output body));
                 }) sofar.is
                 ∙ stored-behind made es fits);
           }
@@ -471,7 +471,7 @@ module _ {file : List ℕ} {from : ℕ} {all : List TypeRecord} {count at : ℕ}
 
     -- and made a type of it
     module _ (one : OneType) (told : TypeTold file count n one) where
-      pub types_end : ends_at_lem n one.refusal ≡ true
+      pub types_end : type_ends_at n one.refusal ≡ true
           → TypesRead file from (record { refusal = one.refusal; at = at; count = count; all = all })
       unfolding ends_by TypeTold
       types_end ends = go n refl
@@ -483,7 +483,7 @@ module _ {file : List ℕ} {from : ℕ} {all : List TypeRecord} {count at : ℕ}
               ∙ ap (λ (v : Verdict). stage_of v sofar.types (cut_from file at)) (sym (rw e at told)))
           go (Found f) e = type_ends f (rw e at turn.own) one (type_verdict file count f) refl (rw e at told) (rw e at ends)
 
-      pub types_more : ends_at_lem n one.refusal ≡ false
+      pub types_more : type_ends_at n one.refusal ≡ false
           → TypesSoFar file from (set all count one.module_type) (count + 1) one.at × (count < most_types)
       unfolding ends_by TypeTold
       types_more goes = go n refl

@@ -19,8 +19,8 @@ use Rattle.read_types.specs.declared.edges.OneType.{OneType}
 use Rattle.read_types.specs.declared.edges.Shape.{Shape}
 
 -- the tag of an edge field
-abbrev pub edge_tag : FieldRecord → EdgeTag
-edge_tag f = edge_tag_of (tag_of f.tag)
+abbrev pub edge_tag_told : FieldRecord → EdgeTag
+edge_tag_told f = edge_tag_of (tag_of f.tag)
 
 -- the verdict on a field with this tag, in a type of this shape after `count` edges; and on an edge field by its own tag
 unfoldable pub verdict_as : EdgeTag → List ℕ → Shape → ℕ → FieldRecord → Verdict
@@ -28,14 +28,14 @@ verdict_as tag file shape count f =
     first_of (edge_tests_of tag shape.highest shape.output shape.labels count f.at (body_of file f))
 
 abbrev pub edge_verdict : List ℕ → Shape → ℕ → FieldRecord → Verdict
-edge_verdict file shape count f = verdict_as (edge_tag f) file shape count f
+edge_verdict file shape count f = verdict_as (edge_tag_told f) file shape count f
 
 -- the edges in it, as the code keeps them, in a type with the output node o
 unfoldable pub edges_as : EdgeTag → List ℕ → ℕ → FieldRecord → List EdgeRecord
 edges_as tag file o f = map edge_record (edges_in tag o (body_of file f))
 
 abbrev pub edges_kept : List ℕ → ℕ → FieldRecord → List EdgeRecord
-edges_kept file o f = edges_as (edge_tag f) file o f
+edges_kept file o f = edges_as (edge_tag_told f) file o f
 
 -- records stored one behind the other, from a place on
 unfoldable pub placed : List EdgeRecord → ℕ → List EdgeRecord → List EdgeRecord
@@ -45,7 +45,7 @@ placed places at (e ∷ es) = placed (set places at e) (suc at) es
 -- the list with the field's edges behind its own
 unfoldable pub list_with : List ℕ → ℕ → EdgeList → FieldRecord → EdgeList
 list_with file o list f =
-    record { count = list.count + edges_told (edge_tag f) f.len; edges = placed list.edges list.count (edges_kept file o f) }
+    record { count = list.count + edges_told (edge_tag_told f) f.len; edges = placed list.edges list.count (edges_kept file o f) }
 
 -- the labels of a field have room in an edge's code. A byte past the field's end is 0
 unfoldable pub LabelsFit : EdgeTag → List ℕ → Type 0
@@ -69,7 +69,7 @@ PassKept file f e = (o : ℕ) → e ≡ get_or (edges_as stated file o f) 0 no_e
 
 -- of the field that was found so, and behind `count` edges there is a place for each of its own
 unfoldable pub EdgesNext : List ℕ → ℕ → Next → Type 0
-EdgesNext file count (Found f) = EdgeCodesFit (edge_tag f) file f × (count + edges_told (edge_tag f) f.len ≤ most_edges)
+EdgesNext file count (Found f) = EdgeCodesFit (edge_tag_told f) file f × (count + edges_told (edge_tag_told f) f.len ≤ most_edges)
 EdgesNext file count Other = Unit {0}
 
 -- the record of a type of this shape, with these edges

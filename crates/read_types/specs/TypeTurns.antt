@@ -30,5 +30,5 @@ TypeTold file count (Found f) one = FieldTold file f (type_verdict file count f)
 TypeTold file count Other one = verdict_of one.refusal ≡ passes
 
 -- whether the stage ends: no type stands next, or one of which this refusal was told
-abbrev pub ends_at_lem : Next → Refusal → Bool
-ends_at_lem found refusal = ends_by (λ f. verdict_of refusal) found
+abbrev pub type_ends_at : Next → Refusal → Bool
+type_ends_at found refusal = ends_by (λ f. verdict_of refusal) found

@@ -6,7 +6,7 @@ ghost use Rattle.switch.specs.Records.{no_edge};
 ghost use Rattle.circuit.specs.Known.{edges_told};
 ghost use Rattle.circuit.specs.Refusals.{verdict_of};
 ghost use Rattle.read_fields.specs.Steps.{body_of, NextIn, ends_by, kept_by};
-ghost use Rattle.read_types.specs.EdgeTurns.{edge_tag, verdict_as, edge_verdict, edges_as, edges_kept, list_with, EdgeCodesFit, EdgesNext, EdgesEnded};
+ghost use Rattle.read_types.specs.EdgeTurns.{edge_tag_told, verdict_as, edge_verdict, edges_as, edges_kept, list_with, EdgeCodesFit, EdgesNext, EdgesEnded};
 ghost use Rattle.read_types.specs.ReadTypes.{EdgesRead};
 
 use crate::passes::{pass_edge, pass_verdict};
@@ -87,7 +87,7 @@ fn bad_nodes(h: u8, o: u8, a: u8, b: u8) -> bool
 
 // How many edges a field has: a pass transistor is one, and else each byte behind the two nodes gives one.
 fn edges_in(f: Field) -> usize
-    ensures { result ≡ edges_told (edge_tag f) f.len }
+    ensures { result ≡ edges_told (edge_tag_told f) f.len }
 {
     let len = f.len;
     if states_channel(f.tag) {
@@ -145,8 +145,8 @@ fn label_edge(file: &[u8], f: Field, o: u8, j: usize) -> Edge
 
 // One of a field's edges, by its number, in a type with the output node o.
 fn edge_for(file: &[u8], f: Field, o: u8, j: usize) -> Edge
-    requires edge_codes_fit { EdgeCodesFit (edge_tag f) file.now f }
-    requires j_bound { j < edges_told (edge_tag f) f.len }
+    requires edge_codes_fit { EdgeCodesFit (edge_tag_told f) file.now f }
+    requires j_bound { j < edges_told (edge_tag_told f) f.len }
     ensures { result ≡ get_or (edges_kept file.now o f) j no_edge }
 {
     if states_channel(f.tag) {

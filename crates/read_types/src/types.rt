@@ -10,7 +10,7 @@ ghost use Rattle.circuit.specs.Refusals.{verdict_of};
 ghost use Rattle.circuit.specs.Stages.{failing_before, failing_verdict};
 ghost use Rattle.read_fields.specs.Steps.{body_of, FieldAt};
 ghost use Rattle.read_types.specs.ReadTypes.{bare_of, TypeRead, TypesRead};
-ghost use Rattle.read_types.specs.TypeTurns.{FoundWhole, TypeTold, ends_at_lem};
+ghost use Rattle.read_types.specs.TypeTurns.{FoundWhole, TypeTold, type_ends_at};
 
 use crate::edges::{OneType, Shape, read_edges};
 use circuit::limits::MOST_TYPES;
@@ -145,7 +145,7 @@ fn type_of(file: &[u8], found: Next, count: usize) -> OneType
 
 // Whether the stage ends here: no type stands next, or one that is refused.
 fn ends(found: Next, refusal: Refusal) -> bool
-    ensures { result ≡ ends_at_lem found refusal }
+    ensures { result ≡ type_ends_at found refusal }
 {
     match found {
         Next::Found(_) => refuses(refusal),

@@ -13,7 +13,7 @@ use lib.ListN.{length, get_or}
 use borrow.Author.Tests.{eqb-true, eqb-false}
 use Rattle.switch.specs.Conduction.{Value, Link, Among, Joined, here, forth, back, ground, supply}
 use Rattle.switch.specs.Modules.{ModuleType, all_of, links_of, setting_of, ExactlyOne, only_first, only_second, Complementary}
-use Rattle.switch.specs.Deciding.{rename, part_in_lem, renamings, joins, all_below, one_rail, is_complementary, is_marked}
+use Rattle.switch.specs.Deciding.{rename, part_of_node, renamings, joins, all_below, one_rail, is_complementary, is_marked}
 use Rattle.switch.specs.Bridges.{Marked, closing}
 use Rattle.switch.specs.Statements.{JoinsDecides, ComplementaryDecides, MarkDecides}
 use Rattle.switch.proofs.Paths.{Linked, more-links, one_more_lem, both}
@@ -93,7 +93,7 @@ module _ (p q i j : ℕ) where
 
 -- the part of a node over ws
 part : List Link → ℕ → ℕ
-part ws m = part_in_lem (renamings ws) m
+part ws m = part_of_node (renamings ws) m
 
 no_link : (a b : ℕ) → Joined [] a b → a ≡ b
 no_link a b here = refl
@@ -113,7 +113,7 @@ module _ (ws : List Link) (to : (a b : ℕ) → Joined ws a b ↔ (part ws a ≡
 
 -- two nodes are joined exactly when they are in one part
 one_part : (ws : List Link) (a b : ℕ) → Joined ws a b ↔ (part ws a ≡ part ws b)
-unfolding part part_in_lem renamings
+unfolding part part_of_node renamings
 one_part [] a b = (no_link a b, λ e. subst (Joined [] a) e here)
 one_part ((x, y) ∷ ws) a b = (
   λ j. (renamed (part ws x) (part ws y) (part ws a) (part ws b)).0 (parts_linked ws (one_part ws) x y a b ((one_more_lem ws x y a b).0 j)),

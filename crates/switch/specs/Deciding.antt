@@ -14,18 +14,18 @@ unfoldable pub rename : ℕ → ℕ → ℕ → ℕ
 rename old new part = cond (eqb part old) new part
 
 -- a list of renamings, the latest first, gives each node its part
-unfoldable pub part_in_lem : List Renaming → ℕ → ℕ
-part_in_lem [] m = m
-part_in_lem (r ∷ rs) m = rename r.0 r.1 (part_in_lem rs m)
+unfoldable pub part_of_node : List Renaming → ℕ → ℕ
+part_of_node [] m = m
+part_of_node (r ∷ rs) m = rename r.0 r.1 (part_of_node rs m)
 
 -- each link unites the parts of its two nodes
 unfoldable pub renamings : List Link → List Renaming
 renamings [] = []
-renamings (w ∷ ws) = let rs = renamings ws in (part_in_lem rs w.0, part_in_lem rs w.1) ∷ rs
+renamings (w ∷ ws) = let rs = renamings ws in (part_of_node rs w.0, part_of_node rs w.1) ∷ rs
 
 -- are two nodes joined: are they in one part
 unfoldable pub joins : List Link → ℕ → ℕ → Bool
-joins ws a b = let rs = renamings ws in eqb (part_in_lem rs a) (part_in_lem rs b)
+joins ws a b = let rs = renamings ws in eqb (part_of_node rs a) (part_of_node rs b)
 
 -- does a test pass at each number below n
 unfoldable pub all_below : ℕ → (ℕ → Bool) → Bool

@@ -1,4 +1,4 @@
-// The grader for programs in C and Rust: three functions, whose arguments are numbers, and slices as a pointer and a length (include/togyamiru.h).
+// The grader for programs in C and Rust: three functions over numbers and slices. The crate `togyamiru_c` exports them to C (include/togyamiru.h).
 #![tactic(auto)]
 
 mod answering;
@@ -12,8 +12,7 @@ use crate::answering::{answer_to, numbers_of, put_numbers};
 use grading::answers::{counts_of, number_of, place_of};
 
 // Grades a file into lent buffers. The answer is six numbers: the refusal's number and its place, 0 and 0 where there is none, and the counts of vectors, faults, classes and found.
-#[unsafe(no_mangle)]
-pub extern "C" fn togyamiru_grade(
+pub fn togyamiru_grade(
     file: &[u8],
     matrix: &mut [u64],
     classes: &mut [u16],
@@ -25,8 +24,7 @@ pub extern "C" fn togyamiru_grade(
 }
 
 // Grades as `togyamiru_grade` does. The answer is as many numbers as there is room for: those six, then the rounds of joining.
-#[unsafe(no_mangle)]
-pub extern "C" fn togyamiru_grade_numbers(
+pub fn togyamiru_grade_numbers(
     file: &[u8],
     matrix: &mut [u64],
     classes: &mut [u16],
@@ -40,8 +38,7 @@ pub extern "C" fn togyamiru_grade_numbers(
 }
 
 // Lists the rows of a file in a lent buffer, a number each. The answer is three numbers: the refusal's number and its place, 0 and 0 where there is none, and the count of faults.
-#[unsafe(no_mangle)]
-pub extern "C" fn togyamiru_rows(file: &[u8], rows: &mut [u32], answer: &mut [u64; 3])
+pub fn togyamiru_rows(file: &[u8], rows: &mut [u32], answer: &mut [u64; 3])
     ensures { RowsPromise file.now rows.old answer.new rows.new }
 {
     let mut matrix = [0u64; 1];

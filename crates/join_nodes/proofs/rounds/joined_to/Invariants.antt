@@ -1,0 +1,18 @@
+-- `join_nodes::rounds::joined_to` meets its contract. The loop's invariant: for each word of a node, a node has a bit exactly where a path of at most
+-- `rounds` links joins it to the rail (`WideReached`); `rounds` is not above the greatest distance (`NotAbove`); so many rounds were made, and each
+-- added a node (`RoundsMade`); `next` is as `joined`. The measure: what is left of 32 rounds. Assumes nothing.
+use mathlib.Core.Path.{◌≡◌}
+use Prim.Native.Nat.{◌-◌}
+use Rattle.join_nodes.proofs.WideRounds.{WideReached}
+use Rattle.join_nodes.proofs.RoundCounts.{NotAbove, RoundsMade}
+use Rattle.join_nodes.proofs.rounds.joined_to.Given as goal
+
+abbrev pub invariant-loop-count : goal.invariant-loop-count
+invariant-loop-count l =
+    (l.next ≡ l.joined)
+    × WideReached l.firsts l.seconds l.gates l.planes l.count l.width l.rail l.rounds l.joined
+    × NotAbove l.firsts l.seconds l.gates l.planes l.count l.width l.rail l.rounds
+    × RoundsMade l.firsts l.seconds l.gates l.planes l.count l.width l.rail l.rounds l.joined
+
+abbrev pub decreases-loop-count : goal.decreases-loop-count
+decreases-loop-count l = 32 - l.rounds

@@ -1,0 +1,20 @@
+-- `read_instances::ends` meets its contract: a field that is refused ends the stage, and so does none of its own. Assumes nothing.
+use mathlib.Core.Path.{ap, ◌∙◌}
+use Rattle.circuit.specs.Verdicts.{is_refused}
+use Rattle.read_fields.proofs.Turns.{ends_found, ends_other}
+use Rattle.read_instances.specs.Turns.{instance_verdict}
+use Rattle.read_instances.proofs.FieldGiven.{field-given}
+use Rattle.read_instances.proofs.ends.Goals as goal
+
+pub verdict_on-requires : goal.verdict_on-requires
+verdict_on-requires c =
+    let a = c.args in
+    field-given a.file.now a.found c.in-Found.f a.asked a.faults c.in-Found.is c.requires
+
+pub returns-in-Found : goal.returns-in-Found
+returns-in-Found c =
+    let a = c.args in
+    c.refuses.ensures ∙ ap is_refused c.verdict_on.ensures ∙ ends_found a.found (instance_verdict a.file.now a.inputs a.type_count a.asked a.count a.faults) c.in-Found.f c.in-Found.is
+
+pub returns-in-Other : goal.returns-in-Other
+returns-in-Other c = let a = c.args in ends_other a.found (instance_verdict a.file.now a.inputs a.type_count a.asked a.count a.faults) c.in-Other.is

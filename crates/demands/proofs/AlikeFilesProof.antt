@@ -13,7 +13,7 @@ use Rattle.switch.specs.Conduction.{Value, at_x}
 use Rattle.switch.specs.Modules.{all_of}
 use Rattle.switch.proofs.Paths.{both}
 use Rattle.circuit.specs.Circuit.{Circuit, join_lists}
-use Rattle.circuit.specs.Order.{Tag, inputs_tag, type_tag, edge_tag_lem, bridge_tag, instance_tag, vector_tag, no_tag, tag_of, is_kind}
+use Rattle.circuit.specs.Order.{Tag, inputs_tag, type_tag, edge_tag, bridge_tag, instance_tag, vector_tag, no_tag, tag_of, is_kind}
 use Rattle.circuit.specs.Known.{start, letter_of, vector_in, taken}
 use Rattle.circuit.specs.Reading.{reading_of}
 use Rattle.grading.specs.Rows.{Row, rows_of, CellMarked}
@@ -67,7 +67,7 @@ no_vector_added : (tag : Tag) (c : Circuit) (body : List ℕ) → T (not (is_kin
 unfolding is_kind taken
 no_vector_added inputs_tag c body other = refl
 no_vector_added type_tag c body other = refl
-no_vector_added (edge_tag_lem t) c body other = refl
+no_vector_added (edge_tag t) c body other = refl
 no_vector_added bridge_tag c body other = refl
 no_vector_added instance_tag c body other = refl
 no_vector_added vector_tag c body other = absurd other

@@ -29,7 +29,7 @@ use Rattle.demands.proofs.OtherVectors.{other_vectors_are_accepted}
 use Rattle.demands.proofs.FileSplits.{accepted_is_split, split_once}
 use Rattle.demands.proofs.AlikeFilesExamples.{not_any_head, nand_refined}
 use Rattle.demands.proofs.Determines.{demands_leave_one_outcome, demands_are_the_promise}
-use Rattle.demands.proofs.ContractsProof.{grade_is_kept, entry_is_kept, numbers_are_kept}
+use Rattle.demands.proofs.CodeCallsProof.{grade_is_kept, entry_is_kept, numbers_are_kept}
 use Rattle.demands.proofs.CircuitCallsProof.{circuit_is_graded_as_file, circuit_answers_as_file, grade_circuit_is_kept}
 use Rattle.demands.proofs.CircuitCallsProof.{circuits_meet_two, circuit_column_is_of_its_vector, circuits_meet_three}
 use Rattle.demands.proofs.UniqueProof.{unique}

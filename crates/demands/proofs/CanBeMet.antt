@@ -6,7 +6,7 @@ use mathlib.Core.List.{List, [], ◌∷◌}
 use native.Mathlib.Omega.{arith}
 use lib.Dec.{T}
 use lib.ListN.{length, get_or, replicate}
-use denote.Ref.{Bor}
+use denote.Ref.{Bor, MutBor}
 use Rattle.switch.specs.Modules.{in_range}
 use Rattle.switch.specs.Records.{no_edge, edges_of, type_of, type_with, TypeGiven, EdgesGiven}
 use Rattle.switch.specs.declared.ModuleType.{ModuleType}
@@ -38,9 +38,13 @@ use Rattle.print_report.specs.Held.{RowsHeld}
 use Rattle.demands.specs.Files.{inverter_fields, one_under}
 use Rattle.demands.proofs.Computing.{computing}
 
--- a value lent, at some place under some name
+-- a value lent, at some place
 abbrev pub lent : {X : Type 0} → X → Bor X
 lent x = record { ref_ptr = (0, 0); now = x }
+
+-- a value lent to be written, under some name too
+abbrev pub lent_mut : {X : Type 0} → X → MutBor X
+lent_mut x = record { ref_ptr = (0, 0); ghost_name = 0; now = x }
 
 -- a field without a body, at the start
 abbrev pub empty_field : Field
@@ -90,7 +94,7 @@ held-at-none = record {
   told = record {
     counted = refl;
     nodes_of = nodes_told [] 0 no_types (omega arith) refl refl;
-    labels_of_lem = labels_told [] 0 no_types (omega arith) refl refl;
+    labels_by_number = labels_told [] 0 no_types (omega arith) refl refl;
     good = each_none _;
     few = omega arith;
     summed = refl;

@@ -1,6 +1,6 @@
 -- Demand 2, cells: the cell of a row and a vector is the mark of the row's bridge under the vector, by a path or by the bridge's ends, and
 -- past the last vector it is 0. The rails of a row's instance are apart, since reading accepts complementary types only.
-use Prim.Native.Nat.{ℕ, ◌-◌, ◌/◌, ◌≤◌, ◌<◌}
+use Prim.Native.Nat.{ℕ, ◌/◌, ◌≤◌, ◌<◌}
 use mathlib.Core.Path.{◌≡◌, refl, sym, ◌∙◌}
 use mathlib.Core.Bool.{Bool, true, false}
 use mathlib.Core.Logic.{◌↔◌}

@@ -9,7 +9,7 @@ use Rattle.words.specs.Rows.{row_of}
 use Rattle.switch.specs.Conduction.{channel_bit, channel_by, between, p_ends, n_end, n_ends, bad_ends, channel_of, transistor_on, edges_for, edge_on, links}
 use Rattle.switch.specs.Modules.{all_of, any_of, type_in_range, edge_in_range, links_of, value_of_bit, setting_of}
 use Rattle.switch.specs.Bridges.{to_label, closing}
-use Rattle.switch.specs.Deciding.{rename, part_in_lem, renamings, joins, all_below, one_rail, is_complementary, level_in, is_marked}
+use Rattle.switch.specs.Deciding.{rename, part_of_node, renamings, joins, all_below, one_rail, is_complementary, level_in, is_marked}
 use Rattle.switch.specs.Depth.{is_among, handed_over, next_nodes, nodes_within, all_joined_among, reaches_all, least_from, depth, deepest}
 use Rattle.circuit.specs.Fields.{two_bytes, cut_in, cut_from}
 use Rattle.circuit.specs.Circuit.{Circuit, numbered, join_lists, node_pairs, node_inputs, exhaustive_list, exhaustive_size, user_list, chosen, chosen_size, faults_of, fault_count}
@@ -34,7 +34,7 @@ use Rattle.demands.specs.Graders.{refusal_of, refusing, outcome_of, grades_by, w
 unfoldable pub computing : Unit {0}
 unfolding bit pack word sum_to greatest_to table up_to row_of choice_byte
     channel_bit channel_by between p_ends n_end n_ends bad_ends channel_of transistor_on edges_for edge_on links all_of any_of type_in_range edge_in_range links_of value_of_bit setting_of
-    to_label closing rename part_in_lem renamings joins all_below one_rail is_complementary level_in is_marked is_among handed_over next_nodes nodes_within all_joined_among reaches_all least_from depth deepest
+    to_label closing rename part_of_node renamings joins all_below one_rail is_complementary level_in is_marked is_among handed_over next_nodes nodes_within all_joined_among reaches_all least_from depth deepest
     two_bytes cut_in cut_from numbered join_lists node_pairs node_inputs exhaustive_list exhaustive_size user_list chosen chosen_size faults_of fault_count
     signed choice_of choice_in_range reference_of reference_good
     tag_of is_kind is_edge may_follow type_in edges_told edges_in bridge_of listed_in references_in instance_in letter_of vector_in latest with_edges edges_added taken type_at_after known_after

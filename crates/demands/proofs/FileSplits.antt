@@ -13,7 +13,7 @@ use Rattle.switch.specs.Modules.{all_of}
 use Rattle.switch.proofs.Paths.{both}
 use Rattle.circuit.specs.Fields.{Field, cut_from, two_bytes}
 use Rattle.circuit.specs.Circuit.{Circuit, join_lists}
-use Rattle.circuit.specs.Order.{Tag, inputs_tag, type_tag, edge_tag_lem, bridge_tag, instance_tag, no_tag, vector_tag, tag_of, is_kind, is_unknown, after_tag, may_follow}
+use Rattle.circuit.specs.Order.{Tag, inputs_tag, type_tag, edge_tag, bridge_tag, instance_tag, no_tag, vector_tag, tag_of, is_kind, is_unknown, after_tag, may_follow}
 use Rattle.circuit.specs.Known.{Known, start, known_after}
 use Rattle.circuit.specs.Table.{Verdict, passes, refused_at, first_of, misplaced, field_tests}
 use Rattle.circuit.specs.Reading.{Reading, accepted, unless, read_from}
@@ -163,7 +163,7 @@ after-a-vector : (tag : Tag) → is_unknown tag ≡ false → misplaced (after_t
 unfolding is_kind may_follow between
 after-a-vector inputs_tag u m = cc
 after-a-vector type_tag u m = cc
-after-a-vector (edge_tag_lem t) u m = cc
+after-a-vector (edge_tag t) u m = cc
 after-a-vector bridge_tag u m = cc
 after-a-vector instance_tag u m = cc
 after-a-vector vector_tag u m = refl

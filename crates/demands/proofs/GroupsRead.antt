@@ -18,7 +18,7 @@ use Rattle.switch.specs.Grouped.{Group, of_groups}
 use Rattle.switch.proofs.Channels.{in_between}
 use Rattle.circuit.specs.Fields.{Field, Cut, clean, broken, field}
 use Rattle.circuit.specs.Circuit.{no_type}
-use Rattle.circuit.specs.Order.{Tag, inputs_tag, type_tag, edge_tag_lem, bridge_tag, instance_tag, vector_tag, no_tag, tag_of, is_kind, is_edge, edge_tag_of, is_unknown}
+use Rattle.circuit.specs.Order.{Tag, inputs_tag, type_tag, edge_tag, bridge_tag, instance_tag, vector_tag, no_tag, tag_of, is_kind, is_edge, edge_tag_of, is_unknown}
 use Rattle.circuit.specs.Known.{Known, known_after, latest, type_in, edges_told, edges_in, with_edges, edges_added, taken}
 use Rattle.circuit.specs.Table.{Verdict, passes, refused_at, first_of, misplaced, unjudged, not_complementary, edges_in_range, body_tests, field_tests, end_tests}
 use Rattle.circuit.specs.Table.{edge_tests, edge_tests_of}
@@ -124,13 +124,13 @@ module _ (k : GroupsKnown) (along : Along k.known.circuit.types k.groups) (body 
       rw (get_or-eq_default (set types (length types - 1) t) no_type {n = length (set types (length types - 1) t) - 1} (omega arith)) (omega arith)
 
   -- an edge field that both take has tag 3
-  pub along_after : (tag : Tag) → (is_edge tag ≡ true → (tag ≡ edge_tag_lem by_position) × (length body ≤ 6))
+  pub along_after : (tag : Tag) → (is_edge tag ≡ true → (tag ≡ edge_tag by_position) × (length body ≤ 6))
       → Along (taken tag k.known.circuit body).types (groups_with tag k body)
   unfolding taken groups_with is_kind is_edge
   along_after inputs_tag short = along
   along_after type_tag short = type_more
-  along_after (edge_tag_lem by_position) short = record { aligned = edges_aligned; few = edges_few (short refl).1 (dec_lt 0 (length types)) }
-  along_after (edge_tag_lem stated) short = let other = (short refl).0 in let z : ◌≡◌ {A = ℕ} 0 1 = cc in absurd (omega arith)
+  along_after (edge_tag by_position) short = record { aligned = edges_aligned; few = edges_few (short refl).1 (dec_lt 0 (length types)) }
+  along_after (edge_tag stated) short = let other = (short refl).0 in let z : ◌≡◌ {A = ℕ} 0 1 = cc in absurd (omega arith)
   along_after bridge_tag short = along
   along_after instance_tag short = along
   along_after vector_tag short = along
@@ -139,11 +139,11 @@ module _ (k : GroupsKnown) (along : Along k.known.circuit.types k.groups) (body 
 -- ---- the tests
 
 -- of fields that are no edges the same are unknown
-unknown_alike : (tag : Tag) → is_edge tag ≡ false → (is_unknown tag || is_kind (edge_tag_lem stated) tag) ≡ is_unknown tag
+unknown_alike : (tag : Tag) → is_edge tag ≡ false → (is_unknown tag || is_kind (edge_tag stated) tag) ≡ is_unknown tag
 unfolding is_kind is_edge
 unknown_alike inputs_tag e = refl
 unknown_alike type_tag e = refl
-unknown_alike (edge_tag_lem t) e = cc
+unknown_alike (edge_tag t) e = cc
 unknown_alike bridge_tag e = refl
 unknown_alike instance_tag e = refl
 unknown_alike vector_tag e = refl
@@ -195,19 +195,19 @@ module _ (k : GroupsKnown) (along : Along k.known.circuit.types k.groups) (f : F
 
   abbrev Alike : Type 0
   Alike = (first_of (field_tests before f) ≡ first_of (groups_field_tests k f))
-      ⊎ ((tag : EdgeTag) × (tag_of f.tag ≡ edge_tag_lem tag) × (first_of (groups_field_tests k f) ≡ refused_at (number_then tag) f.at))
+      ⊎ ((tag : EdgeTag) × (tag_of f.tag ≡ edge_tag tag) × (first_of (groups_field_tests k f) ≡ refused_at (number_then tag) f.at))
 
-  pub pass_refused : tag_of f.tag ≡ edge_tag_lem stated → first_of (groups_field_tests k f) ≡ refused_at 3 f.at
+  pub pass_refused : tag_of f.tag ≡ edge_tag stated → first_of (groups_field_tests k f) ≡ refused_at 3 f.at
   unfolding groups_field_tests is_kind first_of
   pass_refused e = rw e refl
 
-  edge_alike : tag_of f.tag ≡ edge_tag_lem by_position → Alike
+  edge_alike : tag_of f.tag ≡ edge_tag by_position → Alike
   unfolding field_tests groups_field_tests group_tests body_tests edge_tests edge_tests_of edges_told is_kind is_edge first_of
   edge_alike e =
       let t = latest before.circuit.types in
       rw e
       (told
-      (edge_verdicts (unjudged before.previous) (misplaced before.previous (edge_tag_lem by_position)) (not_complementary before.circuit.types) (not (between 3 6 (length f.body)))
+      (edge_verdicts (unjudged before.previous) (misplaced before.previous (edge_tag by_position)) (not_complementary before.circuit.types) (not (between 3 6 (length f.body)))
       (leb most_groups (length (latest_groups k.groups))) (ltb most_edges (length t.edges + (length f.body - 2))) f.at before.type_at
       (groups_failing k)
       (cond (not (edges_in_range t.highest t.labels f.body)) (refused_at 7 f.at)
@@ -215,14 +215,14 @@ module _ (k : GroupsKnown) (along : Along k.known.circuit.types k.groups) (f : F
       fits_still))
     where
       told : {A : Type 0} {v : Verdict} → A ⊎ (v ≡ refused_at 6 f.at)
-          → A ⊎ ((tag : EdgeTag) × (edge_tag_lem by_position ≡ edge_tag_lem tag) × (v ≡ refused_at (number_then tag) f.at))
+          → A ⊎ ((tag : EdgeTag) × (edge_tag by_position ≡ edge_tag tag) × (v ≡ refused_at (number_then tag) f.at))
       told (inl a) = inl a
       told (inr b) = inr (by_position, refl, b)
 
   pub verdict_alike : Alike
   verdict_alike = go (is_edge (tag_of f.tag)) refl
     where
-      by_tag : (tag : EdgeTag) → tag_of f.tag ≡ edge_tag_lem tag → Alike
+      by_tag : (tag : EdgeTag) → tag_of f.tag ≡ edge_tag tag → Alike
       by_tag by_position e = edge_alike e
       by_tag stated e = inr (stated, e, pass_refused e)
 
@@ -234,15 +234,15 @@ module _ (k : GroupsKnown) (along : Along k.known.circuit.types k.groups) (f : F
 
 -- both read the same circuit, whose types have the edges of their groups, or refuse alike
 unfoldable pub ReadAlike : Reading → GroupsReading → Type 0
-ReadAlike (accepted c) (accepted_with d groups) = (c ≡ d) × Aligned d.types groups
+ReadAlike (accepted c) (accepted_with d gs) = (c ≡ d) × Aligned d.types gs
 ReadAlike (accepted c) (refused_with n p) = ⊥
-ReadAlike (refusal n p) (accepted_with d groups) = ⊥
+ReadAlike (refusal n p) (accepted_with d gs) = ⊥
 ReadAlike (refusal n p) (refused_with m q) = (n ≡ m) × (p ≡ q)
 
 -- the reading of before refuses an edge field of what is left, as one too many or for its tag
 abbrev pub RefusedThen : Cut → GroupsReading → Type 0
 RefusedThen cut reading =
-    (f : Field) × (tag : EdgeTag) × FieldOf cut f × (tag_of f.tag ≡ edge_tag_lem tag) × (reading ≡ refused_with (number_then tag) f.at)
+    (f : Field) × (tag : EdgeTag) × FieldOf cut f × (tag_of f.tag ≡ edge_tag tag) × (reading ≡ refused_with (number_then tag) f.at)
 
 by_verdict : (v : Verdict) (r : Reading) (g : GroupsReading) (cut : Cut) → (v ≡ passes → ReadAlike r g ⊎ RefusedThen cut g)
     → ReadAlike (unless v r) (unless_refused v g) ⊎ RefusedThen cut (unless_refused v g)
@@ -251,7 +251,7 @@ by_verdict passes r g cut later = later refl
 by_verdict (refused_at number place) r g cut later = inl (refl, refl)
 
 -- an edge field that both take has tag 3, and no more than four labels
-labels-few : (k : GroupsKnown) (f : Field) → first_of (field_tests k.known f) ≡ passes → tag_of f.tag ≡ edge_tag_lem by_position → length f.body ≤ 6
+labels-few : (k : GroupsKnown) (f : Field) → first_of (field_tests k.known f) ≡ passes → tag_of f.tag ≡ edge_tag by_position → length f.body ≤ 6
 unfolding field_tests body_tests BytesPass
 labels-few k f passed e =
     let three = first_passes _ _ (rw e at passed) in
@@ -260,10 +260,10 @@ labels-few k f passed e =
     (edges-pass by_position (latest k.known.circuit.types) f.at f.body nine.1).bytes.1
 
 both-take : (k : GroupsKnown) (along : Along k.known.circuit.types k.groups) (f : Field) → first_of (field_tests k.known f) ≡ passes
-    → first_of (groups_field_tests k f) ≡ passes → is_edge (tag_of f.tag) ≡ true → (tag_of f.tag ≡ edge_tag_lem by_position) × (length f.body ≤ 6)
+    → first_of (groups_field_tests k f) ≡ passes → is_edge (tag_of f.tag) ≡ true → (tag_of f.tag ≡ edge_tag by_position) × (length f.body ≤ 6)
 both-take k along f passed then-passed e = go (edge_tag_of (tag_of f.tag)) (edge-is (tag_of f.tag) e)
   where
-    go : (tag : EdgeTag) → tag_of f.tag ≡ edge_tag_lem tag → (tag_of f.tag ≡ edge_tag_lem by_position) × (length f.body ≤ 6)
+    go : (tag : EdgeTag) → tag_of f.tag ≡ edge_tag tag → (tag_of f.tag ≡ edge_tag by_position) × (length f.body ≤ 6)
     go by_position is = (is, labels-few k f passed is)
     go stated is = let refused = pass_refused k along f is in let z : ◌≡◌ {A = ℕ} 0 1 = cc in absurd (omega arith)
 

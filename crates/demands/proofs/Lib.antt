@@ -10,7 +10,7 @@
 --   transistors   GroupsGrade, GroupsRead, SingleTransistorsProof; by computing WrongEdges
 --   channels      PassTransistorsProof, TagsGraded, PassesBefore; by computing WrongPasses
 --   rounds        RoundsProof; by computing WrongRoundsProof, RoundsKnownProof
---   contracts     ContractsProof, CircuitCallsProof, StepsOnce, CanBeMet, UniqueProof, MetProof
+--   contracts     CodeCallsProof, CircuitCallsProof, StepsOnce, CanBeMet, UniqueProof, MetProof
 --   all of them   AllProofs
 --   by computing  KnownProof, PassKnownProof, WrongProof, BreaksProof; MeetsProof, what the demands do not break
 pub mod Gave
@@ -69,7 +69,7 @@ pub mod Determines
 pub mod StepsOnce
 pub mod CanBeMet
 pub mod UniqueProof
-pub mod ContractsProof
+pub mod CodeCallsProof
 pub mod CircuitCallsProof
 pub mod MetProof
 pub mod AllProofs

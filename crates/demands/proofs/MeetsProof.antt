@@ -14,7 +14,7 @@ use Rattle.circuit.specs.Table.{refused_at}
 use Rattle.circuit.proofs.CircuitLaws.{accepted-is-good}
 use Rattle.circuit.proofs.Tested.{never-passes}
 use Rattle.grading.specs.Buffers.{Buffers, room_of}
-use Rattle.grading.specs.Rows.{Row, cell, mark_of}
+use Rattle.grading.specs.Rows.{Row, mark_of}
 use Rattle.grading.specs.Grading.{Grading, graded, grading_of, over}
 use Rattle.grading.specs.Grading.{refused}
 use Rattle.grading.specs.Promise.{is_graded}

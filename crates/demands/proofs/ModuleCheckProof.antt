@@ -2,7 +2,7 @@
 -- accept a file that the table refuses, which is computed. Assumes nothing.
 use Prim.Native.Nat.{ℕ, ◌+◌}
 use mathlib.Core.Path.{◌≡◌, refl}
-use mathlib.Core.Bool.{Bool, true, false, cond, not, ◌&&◌}
+use mathlib.Core.Bool.{Bool, true, not, ◌&&◌}
 use mathlib.Core.List.{List, [], ◌∷◌, ◌++◌, map}
 use lib.ListN.{length}
 use Rattle.switch.specs.Modules.{ModuleType}
@@ -12,7 +12,7 @@ use Rattle.circuit.specs.Fields.{Field, Cut, clean, broken, field, cut_from}
 use Rattle.words.specs.Tables.{table}
 use Rattle.circuit.specs.Circuit.{Circuit, primary, no_faults}
 use Rattle.switch.specs.Conduction.{by_position, stated}
-use Rattle.circuit.specs.Order.{Tag, inputs_tag, type_tag, edge_tag_lem, bridge_tag, instance_tag, vector_tag, no_tag, tag_of, is_edge}
+use Rattle.circuit.specs.Order.{Tag, inputs_tag, type_tag, edge_tag, bridge_tag, instance_tag, vector_tag, no_tag, tag_of, is_edge}
 use Rattle.circuit.specs.Known.{Known, start, known_after, latest}
 use Rattle.circuit.specs.Table.{unjudged, not_complementary, body_tests, field_tests, end_tests}
 use Rattle.circuit.specs.Table.{inputs_tests, type_tests, edge_tests, edge_tests_of, bridge_tests, instance_tests, instance_tests_of, vector_tests}
@@ -35,8 +35,8 @@ other_tests : (check : ModuleType → Bool) (asked : Bool) (known : Known) (tag 
 unfolding rejudged body_tests inputs_tests type_tests edge_tests edge_tests_of bridge_tests instance_tests instance_tests_of vector_tests
 other_tests check asked known inputs_tag c at body = refl
 other_tests check asked known type_tag c at body = refl
-other_tests check asked known (edge_tag_lem by_position) c at body = refl
-other_tests check asked known (edge_tag_lem stated) c at body = refl
+other_tests check asked known (edge_tag by_position) c at body = refl
+other_tests check asked known (edge_tag stated) c at body = refl
 other_tests check asked known bridge_tag c at body = refl
 other_tests check asked known instance_tag c at body = refl
 other_tests check asked known vector_tag c at body = refl

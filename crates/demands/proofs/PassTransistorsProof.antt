@@ -19,7 +19,7 @@ use Rattle.switch.proofs.Paths.{both}
 use Rattle.circuit.specs.Limits.{most_bytes}
 use Rattle.circuit.specs.Fields.{Field, Cut, clean, broken, field, cut_in, cut_from, two_bytes}
 use Rattle.circuit.specs.Circuit.{Circuit}
-use Rattle.circuit.specs.Order.{Tag, inputs_tag, type_tag, edge_tag_lem, bridge_tag, instance_tag, vector_tag, no_tag, tag_of, is_kind, is_edge, edge_tag_of, is_unknown}
+use Rattle.circuit.specs.Order.{Tag, inputs_tag, type_tag, edge_tag, bridge_tag, instance_tag, vector_tag, no_tag, tag_of, is_kind, is_edge, edge_tag_of, is_unknown}
 use Rattle.circuit.specs.Order.{Previous, after_tag, in_type, may_follow}
 use Rattle.circuit.specs.Known.{Known, start, type_in, edges_in, latest, with_edges, edges_added, taken, known_after}
 use Rattle.circuit.specs.Table.{Test, Verdict, passes, refused_at, first_of, body_tests, field_tests, end_tests}
@@ -81,8 +81,8 @@ module _ (previous : Previous) (types : List ModuleType) (f : Field) (rest : Cut
     past_types = λ e. rw is (later.to_a_type types (type_in f.body) refl);
   }
 
-  by_edge : (e : EdgeTag) → tag_of f.tag ≡ edge_tag_lem e → in_type previous ≡ true
-      → Adding (after_tag (edge_tag_lem e)) (edges_added types (edges_in e (latest types).output f.body)) rest all → Adding previous types (field f rest) all
+  by_edge : (e : EdgeTag) → tag_of f.tag ≡ edge_tag e → in_type previous ≡ true
+      → Adding (after_tag (edge_tag e)) (edges_added types (edges_in e (latest types).output f.body)) rest all → Adding previous types (field f rest) all
   unfolding edges_behind types_in is_edge edge_tag_of with_edges
   by_edge e is within later = record {
     to_a_type = λ ts t last.
@@ -98,7 +98,7 @@ by_field : (known : Known) (f : Field) (rest : Cut) (all : List ModuleType) (tag
 unfolding taken may_follow is_edge is_kind
 by_field known f rest all inputs_tag is follows later = by_another known.previous known.circuit.types f rest all inputs_tag is refl refl refl later
 by_field known f rest all type_tag is follows later = by_type known.previous known.circuit.types f rest all is later
-by_field known f rest all (edge_tag_lem e) is follows later = by_edge known.previous known.circuit.types f rest all e is follows later
+by_field known f rest all (edge_tag e) is follows later = by_edge known.previous known.circuit.types f rest all e is follows later
 by_field known f rest all bridge_tag is follows later = by_another known.previous known.circuit.types f rest all bridge_tag is refl refl refl later
 by_field known f rest all instance_tag is follows later = by_another known.previous known.circuit.types f rest all instance_tag is refl refl refl later
 by_field known f rest all vector_tag is follows later = by_another known.previous known.circuit.types f rest all vector_tag is refl refl refl later
@@ -195,7 +195,7 @@ first_one Holds (t ∷ ts) all n p e = go t.refuses refl e (first_one Holds ts a
 
 -- a field of this kind may be refused by this number: by 8 only with tag 3, by 3 only where the tag is none
 unfoldable may_have : Tag → ℕ → Bool
-may_have tag n = (not (eqb n 8) || is_kind (edge_tag_lem by_position) tag) && (not (eqb n 3) || is_unknown tag)
+may_have tag n = (not (eqb n 8) || is_kind (edge_tag by_position) tag) && (not (eqb n 3) || is_unknown tag)
 
 -- a refusal for such a field: at its offset, but for 9, which is at its type's
 Refused : Tag → ℕ → ℕ → ℕ → Type 0
@@ -205,8 +205,8 @@ by-body : (tag : Tag) (c : Circuit) (at : ℕ) (body : List ℕ) → AllTests (R
 unfolding AllTests Refused may_have is_kind body_tests inputs_tests type_tests edge_tests edge_tests_of bridge_tests instance_tests instance_tests_of vector_tests
 by-body inputs_tag c at body = search rules
 by-body type_tag c at body = search rules
-by-body (edge_tag_lem by_position) c at body = search rules
-by-body (edge_tag_lem stated) c at body = search rules
+by-body (edge_tag by_position) c at body = search rules
+by-body (edge_tag stated) c at body = search rules
 by-body bridge_tag c at body = search rules
 by-body instance_tag c at body = search rules
 by-body vector_tag c at body = search rules
@@ -268,8 +268,8 @@ eight file place e =
     (refused-from-start file 8 place (λ q. omega arith) e) in
     let f = its.0 in
     let tag = tag_of f.tag in
-    let kind : tag ≡ edge_tag_lem by_position =
-    kind_is (edge_tag_lem by_position) tag (is_true _ (both (is_kind (edge_tag_lem by_position) tag) true its.2.0).0) in
+    let kind : tag ≡ edge_tag by_position =
+    kind_is (edge_tag by_position) tag (is_true _ (both (is_kind (edge_tag by_position) tag) true its.2.0).0) in
     (f, record { among = its.1; edge = kind }, its.2.1 refl)
 
 -- a field of a file has the tag that stands at its offset, so two at one offset have one tag

@@ -13,7 +13,7 @@ use Rattle.switch.specs.Conduction.{by_position, stated}
 use Rattle.circuit.specs.Limits.{most_bytes}
 use Rattle.circuit.specs.Fields.{Field, Cut, clean, broken, field, cut_from}
 use Rattle.circuit.specs.Circuit.{Circuit}
-use Rattle.circuit.specs.Order.{Tag, inputs_tag, type_tag, edge_tag_lem, bridge_tag, instance_tag, vector_tag, no_tag, tag_of, is_kind, is_unknown}
+use Rattle.circuit.specs.Order.{Tag, inputs_tag, type_tag, edge_tag, bridge_tag, instance_tag, vector_tag, no_tag, tag_of, is_kind, is_unknown}
 use Rattle.circuit.specs.Known.{Known, start, known_after}
 use Rattle.circuit.specs.Table.{Verdict, passes, refused_at, first_of, body_tests, field_tests, end_tests}
 use Rattle.circuit.specs.Table.{inputs_tests, type_tests, edge_tests, edge_tests_of, bridge_tests, instance_tests, instance_tests_of, vector_tests}
@@ -21,7 +21,7 @@ use Rattle.circuit.specs.Reading.{Reading, refusal, unless, read_from, reading_w
 use Rattle.circuit.specs.Refusals.{refusal_number, refusal_place}
 use Rattle.circuit.proofs.OrderLaws.{kind_is}
 use Rattle.grading.specs.Buffers.{Buffers, room_of}
-use Rattle.grading.specs.Grading.{refused, grading_of, after_reading}
+use Rattle.grading.specs.Grading.{grading_of, after_reading}
 use Rattle.grading.specs.Promise.{number_of, place_of}
 use Rattle.demands.specs.Calls.{Kept}
 use Rattle.demands.specs.Graders.{called, refusal_of, refusing, outcome_of, rightly, grades_by, read_taking, taking_and_testing}
@@ -38,8 +38,8 @@ body_kept : (f : Field) (tag : Tag) (c : Circuit) (at : ℕ) (body : List ℕ) �
 unfolding seven_unknown body_tests inputs_tests type_tests edge_tests edge_tests_of bridge_tests instance_tests instance_tests_of vector_tests
 body_kept f inputs_tag c at body = refl
 body_kept f type_tag c at body = refl
-body_kept f (edge_tag_lem by_position) c at body = refl
-body_kept f (edge_tag_lem stated) c at body = refl
+body_kept f (edge_tag by_position) c at body = refl
+body_kept f (edge_tag stated) c at body = refl
 body_kept f bridge_tag c at body = refl
 body_kept f instance_tag c at body = refl
 body_kept f vector_tag c at body = refl
@@ -47,12 +47,12 @@ body_kept f no_tag c at body = refl
 
 module _ (known : Known) (f : Field) where
   -- another field than one with tag 7 is tested alike
-  tested_alike : is_kind (edge_tag_lem stated) (tag_of f.tag) ≡ false → tests_without_passes known f ≡ field_tests known f
+  tested_alike : is_kind (edge_tag stated) (tag_of f.tag) ≡ false → tests_without_passes known f ≡ field_tests known f
   unfolding field_tests seven_unknown
   tested_alike other = rw (other, or-false (is_unknown (tag_of f.tag)), body_kept f (tag_of f.tag) known.circuit f.at f.body)
 
   -- one with tag 7 was refused by 3
-  seven_refused : tag_of f.tag ≡ edge_tag_lem stated → first_of (tests_without_passes known f) ≡ refused_at 3 f.at
+  seven_refused : tag_of f.tag ≡ edge_tag stated → first_of (tests_without_passes known f) ≡ refused_at 3 f.at
   unfolding field_tests seven_unknown first_of is_kind
   seven_refused is = rw is
 
@@ -60,7 +60,7 @@ module _ (known : Known) (f : Field) where
 
 -- a field with tag 7 was met, and refused by 3
 abbrev MetIn : Cut → Reading → Type 0
-MetIn cut r = (f : Field) × FieldOf cut f × (tag_of f.tag ≡ edge_tag_lem stated) × (r ≡ refusal 3 f.at)
+MetIn cut r = (f : Field) × FieldOf cut f × (tag_of f.tag ≡ edge_tag stated) × (r ≡ refusal 3 f.at)
 
 abbrev then : ℕ → Known → Cut → Reading
 then = read_taking known_after tests_without_passes (end_tests true)
@@ -77,7 +77,7 @@ read_alike : (size : ℕ) (known : Known) (cut : Cut) → (then size known cut �
 unfolding read_taking read_from FieldOf unless
 read_alike size known clean = inl refl
 read_alike size known (broken at) = inl refl
-read_alike size known (field f rest) = go (is_kind (edge_tag_lem stated) (tag_of f.tag)) refl (read_alike size (known_after known f) rest)
+read_alike size known (field f rest) = go (is_kind (edge_tag stated) (tag_of f.tag)) refl (read_alike size (known_after known f) rest)
   where
     now : Reading
     now = read_from true size (known_after known f) rest
@@ -85,10 +85,10 @@ read_alike size known (field f rest) = go (is_kind (edge_tag_lem stated) (tag_of
     was : Reading
     was = then size (known_after known f) rest
 
-    go : (b : Bool) → is_kind (edge_tag_lem stated) (tag_of f.tag) ≡ b → (was ≡ now) ⊎ MetIn rest was
+    go : (b : Bool) → is_kind (edge_tag stated) (tag_of f.tag) ≡ b → (was ≡ now) ⊎ MetIn rest was
         → (then size known (field f rest) ≡ read_from true size known (field f rest)) ⊎ MetIn (field f rest) (then size known (field f rest))
     go true e later =
-        let is = kind_is (edge_tag_lem stated) (tag_of f.tag) e in inr (f, inl refl, is, rw (seven_refused known f is))
+        let is = kind_is (edge_tag stated) (tag_of f.tag) e in inr (f, inl refl, is, rw (seven_refused known f is))
     go false e later = rw (tested_alike known f e) (later-alike f rest (first_of (field_tests known f)) was now later)
 
 -- ---- as before

@@ -10,7 +10,7 @@ use Rattle.switch.specs.Conduction.{by_position, stated}
 use Rattle.circuit.specs.Fields.{Field, Cut, clean, broken, field, cut_from}
 use Rattle.circuit.specs.Circuit.{Circuit}
 use Rattle.circuit.specs.Known.{Known, start, known_after}
-use Rattle.circuit.specs.Order.{Tag, inputs_tag, type_tag, edge_tag_lem, bridge_tag, instance_tag, vector_tag, no_tag, tag_of}
+use Rattle.circuit.specs.Order.{Tag, inputs_tag, type_tag, edge_tag, bridge_tag, instance_tag, vector_tag, no_tag, tag_of}
 use Rattle.circuit.specs.Table.{Test, Verdict, passes, refused_at, first_of, body_tests, field_tests, end_tests}
 use Rattle.circuit.specs.Table.{inputs_tests, type_tests, edge_tests, edge_tests_of, bridge_tests, instance_tests, instance_tests_of, vector_tests}
 use Rattle.circuit.specs.Refusals.{refusal_number, refusal_place}
@@ -61,8 +61,8 @@ unfolding AllTold refusing refusal_of number_of place_of counts_of refusal_numbe
     body_tests inputs_tests type_tests edge_tests edge_tests_of bridge_tests instance_tests instance_tests_of vector_tests
 told-body inputs_tag c at body = ((refl, refl, refl), ((refl, refl, refl), tt))
 told-body type_tag c at body = ((refl, refl, refl), ((refl, refl, refl), ((refl, refl, refl), tt)))
-told-body (edge_tag_lem by_position) c at body = ((refl, refl, refl), ((refl, refl, refl), ((refl, refl, refl), ((refl, refl, refl), tt))))
-told-body (edge_tag_lem stated) c at body = ((refl, refl, refl), ((refl, refl, refl), ((refl, refl, refl), tt)))
+told-body (edge_tag by_position) c at body = ((refl, refl, refl), ((refl, refl, refl), ((refl, refl, refl), ((refl, refl, refl), tt))))
+told-body (edge_tag stated) c at body = ((refl, refl, refl), ((refl, refl, refl), ((refl, refl, refl), tt)))
 told-body bridge_tag c at body = ((refl, refl, refl), ((refl, refl, refl), ((refl, refl, refl), tt)))
 told-body instance_tag c at body = (
   (refl, refl, refl),

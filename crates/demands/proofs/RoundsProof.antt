@@ -14,13 +14,14 @@ use Rattle.words.proofs.Greatest.{greatest_cong}
 use Rattle.switch.specs.Conduction.{Value, at0, at_x, Link}
 use Rattle.switch.specs.Modules.{ModuleType}
 use Rattle.switch.specs.Distances.{DistanceFrom, GreatestIs}
+use Rattle.switch.specs.Deciding.{output_value}
 use Rattle.switch.specs.Depth.{deepest}
 use Rattle.switch.specs.Promises.{four_rounds}
 use Rattle.switch.specs.Records.{type_of}
 use Rattle.switch.specs.Statements.{Accepted, DistanceUnder}
 use Rattle.switch.specs.declared.Rails.{Rails}
 use Rattle.switch.proofs.DepthBounds.{rounds_are_distances, at_most_below_highest}
-use Rattle.circuit.specs.Circuit.{Circuit, Instance, Reference, no_faults}
+use Rattle.circuit.specs.Circuit.{Circuit, Instance, Reference, no_faults, type_of_instance}
 use Rattle.circuit.specs.Reading.{accepted, reading_of}
 use Rattle.circuit.specs.Laws.{CircuitGood}
 use Rattle.circuit.proofs.CircuitLaws.{accepted-is-good}
@@ -127,7 +128,8 @@ same_outputs : (types : List ModuleType) (vector outputs : List Value) (is : Lis
     → outputs_after types vector outputs is ≡ outputs_after types vector outputs (without_choices is)
 unfolding outputs_after label_values wired_by wiring
 same_outputs types vector outputs [] = refl
-same_outputs types vector outputs (i ∷ is) = same_outputs types vector _ is
+same_outputs types vector outputs (i ∷ is) =
+    same_outputs types vector (outputs ++ (output_value (type_of_instance types i) (label_values vector outputs i) ∷ [])) is
 
 instance-without : (is : List Instance) (i : ℕ) → get_or (without_choices is) i no_instance ≡ wired_by (wiring (get_or is i no_instance))
 unfolding wired_by wiring

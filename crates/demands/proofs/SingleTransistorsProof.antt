@@ -15,7 +15,7 @@ use Rattle.switch.specs.Grouped.{Group}
 use Rattle.circuit.specs.Limits.{most_bytes}
 use Rattle.circuit.specs.Fields.{Field, Cut, clean, broken, field, cut_from}
 use Rattle.circuit.specs.Circuit.{Circuit}
-use Rattle.circuit.specs.Order.{Tag, inputs_tag, type_tag, edge_tag_lem, bridge_tag, instance_tag, vector_tag, no_tag, tag_of}
+use Rattle.circuit.specs.Order.{Tag, inputs_tag, type_tag, edge_tag, bridge_tag, instance_tag, vector_tag, no_tag, tag_of}
 use Rattle.circuit.specs.Known.{Known, start, known_after, latest}
 use Rattle.circuit.specs.Table.{Test, refused_at, first_of, body_tests, field_tests, end_tests}
 use Rattle.circuit.specs.Table.{inputs_tests, type_tests, edge_tests, edge_tests_of, bridge_tests, instance_tests, instance_tests_of, vector_tests}
@@ -190,8 +190,8 @@ two-body : (tag : Tag) (c : Circuit) (at : ℕ) (body : List ℕ) → AllTwo (bo
 unfolding AllTwo body_tests inputs_tests type_tests edge_tests edge_tests_of bridge_tests instance_tests instance_tests_of vector_tests
 two-body inputs_tag c at body = search rules
 two-body type_tag c at body = search rules
-two-body (edge_tag_lem by_position) c at body = search rules
-two-body (edge_tag_lem stated) c at body = search rules
+two-body (edge_tag by_position) c at body = search rules
+two-body (edge_tag stated) c at body = search rules
 two-body bridge_tag c at body = search rules
 two-body instance_tag c at body = search rules
 two-body vector_tag c at body = search rules

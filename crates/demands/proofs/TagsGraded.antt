@@ -160,7 +160,7 @@ work_of n rounds marks rows =
     let classes = classes_by same_class rows in record {
       words = join_lists (map (λ (row : Row). row_of n (marks row)) rows);
       classes = classes;
-      class_count_lem = largest classes;
+      count_of_classes = largest classes;
       found = found_by n marks rows classes (largest classes);
       rounds = rounds;
     }

@@ -32,7 +32,7 @@ use Rattle.read_file.proofs.StagesOnce.{stages_once}
 use Rattle.grading.specs.declared.Answer.TheVariants.{ShortMatrix}
 use Rattle.demands.proofs.Outcomes.{same_counts, answered_once}
 use Rattle.demands.proofs.StepsOnce.{step_once, next_once}
-use Rattle.demands.proofs.CanBeMet.{lent, empty_field, bare_type, edges-given, type_given, no_bridges, bridges-listed, codes_fit, codes_of_none}
+use Rattle.demands.proofs.CanBeMet.{lent, lent_mut, empty_field, bare_type, edges-given, type_given, no_bridges, bridges-listed, codes_fit, codes_of_none}
 use Rattle.demands.proofs.CanBeMet.{rows-held, held_none, held-at-none, first_input, instance-given, reading_of_none, none_read, circuit-given}
 
 both : {A B : Type 0} {one other : A × B} → one.0 ≡ other.0 → one.1 ≡ other.1 → one ≡ other
@@ -70,9 +70,9 @@ unique = record {
   words_first_mark = record { asks_nothing = λ κs a. tt; one_outcome = λ κs a asked one other p q. both (p ∙ sym q) refl };
   words_first_ones = record { asks_nothing = λ κs a. tt; one_outcome = λ κs a asked one other p q. both (p ∙ sym q) refl };
   words_greater = record { asks_nothing = λ κs a. tt; one_outcome = λ κs a asked one other p q. both (p ∙ sym q) refl };
-  print_lines_put_byte = record { can_be_met = λ κs. ((lent (0 ∷ []), (0, (0, tt))), omega arith); one_outcome = λ κs a asked one other p q. both (p.0 ∙ sym q.0) (ap (λ x. (x, (tt, (tt, tt)))) (p.1 ∙ sym q.1)) };
-  print_lines_put_bytes = record { can_be_met = λ κs. ((lent [], (0, (lent [], tt))), omega arith); one_outcome = λ κs a asked one other p q. both (p.0 ∙ sym q.0) (ap (λ x. (x, (tt, (tt, tt)))) (p.1 ∙ sym q.1)) };
-  print_lines_put_number = record { can_be_met = λ κs. ((lent (replicate 20 0), (0, (0, tt))), omega arith); one_outcome = λ κs a asked one other p q. both (p.0 ∙ sym q.0) (ap (λ x. (x, (tt, (tt, tt)))) (p.1 ∙ sym q.1)) };
+  print_lines_put_byte = record { can_be_met = λ κs. ((lent_mut (0 ∷ []), (0, (0, tt))), omega arith); one_outcome = λ κs a asked one other p q. both (p.0 ∙ sym q.0) (ap (λ x. (x, (tt, (tt, tt)))) (p.1 ∙ sym q.1)) };
+  print_lines_put_bytes = record { can_be_met = λ κs. ((lent_mut [], (0, (lent [], tt))), omega arith); one_outcome = λ κs a asked one other p q. both (p.0 ∙ sym q.0) (ap (λ x. (x, (tt, (tt, tt)))) (p.1 ∙ sym q.1)) };
+  print_lines_put_number = record { can_be_met = λ κs. ((lent_mut (replicate 20 0), (0, (0, tt))), omega arith); one_outcome = λ κs a asked one other p q. both (p.0 ∙ sym q.0) (ap (λ x. (x, (tt, (tt, tt)))) (p.1 ∙ sym q.1)) };
   print_lines_give = record {
     asks_nothing = λ κs a. tt;
     one_outcome = λ κs a asked one other p q. let same = given_once p q in both same.0 (λ i. (tt, (same.1 i, tt)));
@@ -125,7 +125,7 @@ unique = record {
     asks = λ M 𝓤 𝓛 mem run κs a g. refl;
     tells = λ M 𝓤 𝓛 mem run κs a g r s. refl;
     sole = record {
-      can_be_met = λ κs. ((lent (record { file = lent []; at = 0 }), tt), omega arith);
+      can_be_met = λ κs. ((lent_mut (record { file = lent []; at = 0 }), tt), omega arith);
       one_outcome = λ κs a asked one other p q.
           let same = step_once a.0.now.file.now a.0.now.at one.0 other.0 p.stands q.stands in
           both same (both (λ i. record {
@@ -167,11 +167,11 @@ unique = record {
   grading_kind_in = record { asks_nothing = λ κs a. tt; one_outcome = λ κs a asked one other p q. both (p ∙ sym q) refl };
   grading_first_in = record { asks_nothing = λ κs a. tt; one_outcome = λ κs a asked one other p q. both (p ∙ sym q) refl };
   grading_second_in = record { asks_nothing = λ κs a. tt; one_outcome = λ κs a asked one other p q. both (p ∙ sym q) refl };
-  grade_rows_list_rows = record { can_be_met = λ κs. ((unused_instance, (bare_type, (no_bridges, (0, (0, (lent [], (0, tt))))))), ((omega arith, omega arith, omega arith, omega arith), omega (arith, codes_of_none 2 1 (take 0 no_bridges)))); one_outcome = λ κs a asked one other p q. both (p.end ∙ sym q.end) (ap (λ x. (tt, (tt, (tt, (tt, (tt, (x, (tt, tt)))))))) (p.listed ∙ sym q.listed)) };
+  grade_rows_list_rows = record { can_be_met = λ κs. ((unused_instance, (bare_type, (no_bridges, (0, (0, (lent_mut [], (0, tt))))))), ((omega arith, omega arith, omega arith, omega arith), omega (arith, codes_of_none 2 1 (take 0 no_bridges)))); one_outcome = λ κs a asked one other p q. both (p.end ∙ sym q.end) (ap (λ x. (tt, (tt, (tt, (tt, (tt, (x, (tt, tt)))))))) (p.listed ∙ sym q.listed)) };
   grade_rows_rows_of = record { can_be_met = λ κs. ((circuit-given.0, tt), circuit-given.1); one_outcome = λ κs a given one other p q. both (p given.circuit given.is given.good ∙ sym (q given.circuit given.is given.good)) refl };
-  grade_inputs_put_signals = record { can_be_met = λ κs. ((replicate 256 unused_vector, (0, (lent (replicate 768 0), (lent (replicate 768 0), tt)))), (omega arith, (refl, refl))); one_outcome = λ κs a asked one other p q. both refl (λ i. (tt, (tt, ((p.0 ∙ sym q.0) i, ((p.1 ∙ sym q.1) i, tt))))) };
+  grade_inputs_put_signals = record { can_be_met = λ κs. ((replicate 256 unused_vector, (0, (lent_mut (replicate 768 0), (lent_mut (replicate 768 0), tt)))), (omega arith, (refl, refl))); one_outcome = λ κs a asked one other p q. both refl (λ i. (tt, (tt, ((p.0 ∙ sym q.0) i, ((p.1 ∙ sym q.1) i, tt))))) };
   grade_marks_mark_instance = record {
-    can_be_met = λ κs. ((bare_type, (record { type_number = 0; choice = 0; references = first_input }, (0, (0, (lent (replicate 2048 0), (0, (0, (lent (replicate 768 0), (lent (replicate 768 0), (lent [], tt)))))))))), instance-given);
+    can_be_met = λ κs. ((bare_type, (record { type_number = 0; choice = 0; references = first_input }, (0, (0, (lent (replicate 2048 0), (0, (0, (lent_mut (replicate 768 0), (lent_mut (replicate 768 0), (lent_mut [], tt)))))))))), instance-given);
     one_outcome = λ κs a asked one other p q.
         both (p.rounds_are ∙ sym q.rounds_are) (λ i. (
           tt,
@@ -197,24 +197,24 @@ unique = record {
         ));
   };
   grade_classes_write_keys = record {
-    can_be_met = λ κs. ((lent (replicate 2048 0), (0, (0, (0, (unused_instance, (0, tt)))))), ((omega arith, omega arith, omega arith), (refl, codes_fit (replicate 2048 0))));
+    can_be_met = λ κs. ((lent_mut (replicate 2048 0), (0, (0, (0, (unused_instance, (0, tt)))))), ((omega arith, omega arith, omega arith), (refl, codes_fit (replicate 2048 0))));
     one_outcome = λ κs a asked one other p q. both refl (λ i. ((p ∙ sym q) i, (tt, (tt, (tt, (tt, (tt, tt)))))));
   };
   grade_classes_class_rows = record {
-    can_be_met = λ κs. ((lent (replicate 2048 0), (0, (lent [], (lent [], tt)))), ((omega arith, refl), (omega arith, omega arith)));
+    can_be_met = λ κs. ((lent (replicate 2048 0), (0, (lent [], (lent_mut [], tt)))), ((omega arith, refl), (omega arith, omega arith)));
     one_outcome = λ κs a asked one other p q.
         let classes = p.classes_are ∙ sym q.classes_are in
         let found : one.0.found ≡ other.0.found = p.found_is ∙ rw classes (sym q.found_is) in
         both (λ i. record { count = (p.count_is ∙ sym q.count_is) i; found = found i }) (λ i. (tt, (tt, (tt, (classes i, tt)))));
   };
   grade_file_grade_circuit = record {
-    can_be_met = λ κs. ((circuit-given.0, (lent [], (lent [], tt))), circuit-given.1);
+    can_be_met = λ κs. ((circuit-given.0, (lent_mut [], (lent_mut [], tt))), circuit-given.1);
     one_outcome = λ κs a given one other p q.
         let same = answered_once (p given.circuit given.is given.good) (q given.circuit given.is given.good) in
         both same.0 (λ i. (tt, ((same.1 i).matrix, ((same.1 i).classes, tt))));
   };
   grade_file_grade_read = record {
-    can_be_met = λ κs. ((reading_of_none, (lent [], (lent [], tt))), none_read);
+    can_be_met = λ κs. ((reading_of_none, (lent_mut [], (lent_mut [], tt))), none_read);
     one_outcome = λ κs a read one other p q.
         let same = answered_once (p read.file read.tells) (q read.file read.tells) in
         both same.0 (λ i. (tt, ((same.1 i).matrix, ((same.1 i).classes, tt))));
@@ -237,7 +237,7 @@ unique = record {
     one_outcome = λ κs a asked one other p q. let same = given_once p q in both same.0 (λ i. (tt, (same.1 i, tt)));
   };
   print_report_report_piece = record {
-    can_be_met = λ κs. ((ShortMatrix 0, (lent [], (lent [], (lent [], (0, (lent [], tt)))))), rows-held);
+    can_be_met = λ κs. ((ShortMatrix 0, (lent [], (lent [], (lent [], (0, (lent_mut [], tt)))))), rows-held);
     one_outcome = λ κs a asked one other p q.
         let same = one_piece _ _ _ _ _ _ _ _ p.of_held q.of_held in both same.0 (λ i. (tt, (tt, (tt, (tt, (tt, (same.1 i, tt)))))));
   };

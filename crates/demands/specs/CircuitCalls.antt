@@ -13,7 +13,8 @@ use Rattle.grading.specs.Buffers.{Buffers, buffers_of}
 use Rattle.grading.specs.Promise.{is_graded}
 use Rattle.grading.specs.CircuitPromise.{PromiseOfCircuit}
 use Rattle.grading.specs.declared.Answer.{Answer}
-use Rattle.grade_file.proofs.grade.grade_circuit as grade_circuit
+use Rattle.grade_file.specs.contracts.grade.grade_circuit as grade_circuit
+use Rattle.grade_file.proofs.grade.grade_circuit.Reads as grade_circuit_reads
 use Rattle.demands.specs.Calls.{Call, Kept, Accepts}
 use Rattle.demands.specs.One.{RestKept}
 use Rattle.demands.specs.Two.{MatrixCell, vector_of_cell, mark_in, CellsTell, ClassesTell, AlikeButVectors}
@@ -99,4 +100,4 @@ circuit_call_of κs a r e = record {
 
 pub record GradeCircuitIsKept : Type 0 where
   pub keeps : (κs : Lfts 2) (a : Args grade_circuit.signature κs) (r : Answer) (e : AtExit grade_circuit.ended κs)
-      → grade_circuit.Reads.Learnt κs a r e → CircuitKept (circuit_call_of κs a r e)
+      → grade_circuit_reads.Learnt κs a r e → CircuitKept (circuit_call_of κs a r e)

@@ -206,7 +206,8 @@ abbrev pub at_driver : List ℕ
 at_driver = two_inverters (bridge_field 1 (nodes 0 2) ++ bridge_field 2 (nodes 0 1)) (list 1) (list 2) ("0" ∷ [])
 
 abbrev pub at_both : List ℕ
-at_both = two_inverters (bridge_field 1 (nodes 0 2) ++ bridge_field 2 (nodes 0 1) ++ bridge_field 2 (input 0 0)) (list 1) (list 2) ("0" ∷ [])
+at_both =
+    two_inverters (bridge_field 1 (nodes 0 2) ++ bridge_field 2 (nodes 0 1) ++ bridge_field 2 (input 0 0)) (list 1) (list 2) ("0" ∷ [])
 
 abbrev pub at_input : List ℕ
 at_input = two_inverters (bridge_field 1 (nodes 0 1) ++ bridge_field 2 (input 0 0)) (list 1) (list 2) ("0" ∷ [])

@@ -62,7 +62,7 @@ refusing n p = cond (eqb n 15) (ShortMatrix p) (cond (eqb n 22) (ShortClasses p)
 pub record Work : Type 0 where
   pub words : List ℕ
   pub classes : List ℕ
-  pub class_count_lem : ℕ
+  pub count_of_classes : ℕ
   pub found : ℕ
   pub rounds : ℕ
 
@@ -73,7 +73,7 @@ outcome_of work (graded c) before =
       answer = Graded (record {
         vectors = length c.vectors;
         faults = length (rows_of c);
-        classes = w.class_count_lem;
+        classes = w.count_of_classes;
         found = w.found;
         rounds = w.rounds;
       });
@@ -94,7 +94,7 @@ work_by packed marks same c =
     let classes = classes_by same (rows_of c) in record {
       words = join_lists (map (λ (row : Row). packed (length c.vectors) (marks c row)) (rows_of c));
       classes = classes;
-      class_count_lem = largest classes;
+      count_of_classes = largest classes;
       found = found_by (length c.vectors) (marks c) (rows_of c) classes (largest classes);
       rounds = rounds_of c;
     }

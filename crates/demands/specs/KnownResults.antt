@@ -9,7 +9,8 @@ use Rattle.grading.specs.Buffers.{buffers_of, room_for}
 use Rattle.demands.specs.Files.{field_bytes, inputs_field, type_field, edge_field, instance_field, times, inverter_fields}
 use Rattle.demands.specs.Files.{inverter, inverter_lines, inverter_under}
 use Rattle.demands.specs.Files.{inverter_listed, inverter_choosing, nand_under, nor_under, branches, inverter_then_nand}
-use Rattle.demands.specs.Files.{nand_of_one, one_type, split_rails, inverters_of, four_instances, two_inverters, driver_and_input, two_nands}
+use Rattle.demands.specs.Files.{nand_of_one, one_type, split_rails, inverters_of, four_instances}
+use Rattle.demands.specs.Files.{two_inverters, driver_and_input, two_nands}
 use Rattle.demands.specs.Files.{twin_nands, many_faults, of_edges, inverter_of, one_label, four_labels}
 use Rattle.demands.specs.Claims.{Claim, reads, floats, refuses, short, sizes, leaves, grades, turns, reports, AllHold}
 

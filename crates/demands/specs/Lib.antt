@@ -9,7 +9,7 @@
 --   ModuleCheck             number 9 by another check of types: by blocks of settings, and by wrong ones
 --   SingleTransistors       the grader of before, by groups of transistors; every file is answered as it was, but for those named
 --   PassTransistors         edges that state their channel: what is recorded, and that it is read; files without them answered as before
---   Contracts               contracts as terms; those of `grade` and of the entry for C
+--   CodeCalls               contracts as terms; those of `grade` and of the entry for C
 --   CircuitCalls            grading a circuit in place of its file
 --   Unique                  contracts of public functions that leave one outcome only
 --   Met                     who meets what these functions ask for
@@ -37,7 +37,7 @@ pub mod WrongRounds
 pub mod ModuleCheck
 pub mod SingleTransistors
 pub mod PassTransistors
-pub mod Contracts
+pub mod CodeCalls
 pub mod CircuitCalls
 pub mod Unique
 pub mod Met

@@ -72,7 +72,7 @@ abbrev pub OneHolds : Type 0
 OneHolds = (call : Call) → Kept call → One call
 
 -- for every file and any buffers there is an outcome that keeps the promise, and only one. That the code of `grade` always
--- gives one is `GradeIsKept` (Contracts)
+-- gives one is `GradeIsKept` (CodeCalls)
 pub record CanBeMet (file : List ℕ) (before : Buffers) : Type 0 where
   pub call : Call
   pub of_file : call.file ≡ file

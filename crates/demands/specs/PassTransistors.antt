@@ -12,7 +12,7 @@ use Rattle.switch.specs.Tags.{untagged_type}
 use Rattle.switch.specs.Examples.{edge}
 use Rattle.circuit.specs.Fields.{Field, Cut, clean, broken, field, cut_from}
 use Rattle.circuit.specs.Circuit.{Circuit, primary, exhaustive}
-use Rattle.circuit.specs.Order.{type_tag, edge_tag_lem, tag_of, is_kind, is_edge, edge_tag_of, is_unknown}
+use Rattle.circuit.specs.Order.{type_tag, edge_tag, tag_of, is_kind, is_edge, edge_tag_of, is_unknown}
 use Rattle.circuit.specs.Known.{Known, start, type_in, edges_in, latest, with_edges, edges_added, known_after}
 use Rattle.circuit.specs.Table.{Test, test, unjudged, not_complementary, field_tests, end_tests}
 use Rattle.circuit.specs.Reading.{Reading, accepted, refusal, reading_of}
@@ -92,7 +92,7 @@ TagsChangeNoAnswer =
 unfoldable pub seven_unknown : Field → Test → Test
 seven_unknown f t =
     let tag = tag_of f.tag in
-    cond (eqb t.number 3) (test 3 (is_unknown tag || is_kind (edge_tag_lem stated) tag) t.place) t
+    cond (eqb t.number 3) (test 3 (is_unknown tag || is_kind (edge_tag stated) tag) t.place) t
 
 abbrev pub tests_without_passes : Known → Field → List Test
 tests_without_passes known f = map (seven_unknown f) (field_tests known f)
@@ -152,7 +152,8 @@ pub record PassFieldsRead : Type 0 where
   })
   pub against_position : edges_in stated 2 (1 ∷ 2 ∷ 0 ∷ 3 ∷ []) ≡ pass 1 2 channel_n 3 ∷ []
   -- `TagsChangeNoAnswer` speaks of some files: 01's inverter, and the same by tag 7
-  pub but_for_tags : (c : Circuit) × (d : Circuit) × Accepts inverter c × Accepts passed_inverter d × (untagged_circuit c ≡ untagged_circuit d)
+  pub but_for_tags :
+      (c : Circuit) × (d : Circuit) × Accepts inverter c × Accepts passed_inverter d × (untagged_circuit c ≡ untagged_circuit d)
 
 -- ---- wrong ways to take tag 7
 
@@ -173,7 +174,7 @@ passes_taken edges known f =
     record {
       previous = after.previous;
       type_at = after.type_at;
-      circuit = cond (is_kind (edge_tag_lem stated) (tag_of f.tag)) taken c;
+      circuit = cond (is_kind (edge_tag stated) (tag_of f.tag)) taken c;
     }
 
 abbrev pub pass_as : (ℕ → ℕ → ℕ → ℕ → Channel) → ℕ → List ℕ → List Edge
@@ -191,7 +192,7 @@ channels_exchanged = taking (passes_taken (pass_as λ o a b byte. channel_by (1 
 -- graders that differ in one test of a field with tag 7
 unfoldable pub retested_pass : ℕ → (Known → List ℕ → Bool) → Known → Field → Test → Test
 retested_pass number refuses known f t =
-    cond (is_kind (edge_tag_lem stated) (tag_of f.tag) && eqb t.number number) (test number (refuses known f.body) t.place) t
+    cond (is_kind (edge_tag stated) (tag_of f.tag) && eqb t.number number) (test number (refuses known f.body) t.place) t
 
 abbrev pub passes_by : ℕ → (Known → List ℕ → Bool) → Grader
 passes_by number refuses = testing (λ known f. map (retested_pass number refuses known f) (field_tests known f)) (end_tests true)
@@ -227,7 +228,7 @@ keeps_the_rule =
     let a = get_or f.body 0 0 in
     let b = get_or f.body 1 0 in
     let breaks = bad_ends t.highest t.output a b || not (eqb (channel_bit (channel_of t.output a b)) (get_or f.body 2 0)) in
-    field_tests known f ++ (test 8 (is_kind (edge_tag_lem stated) (tag_of f.tag) && breaks) f.at ∷ []))
+    field_tests known f ++ (test 8 (is_kind (edge_tag stated) (tag_of f.tag) && breaks) f.at ∷ []))
     (end_tests true)
 
 pub record WrongPassesAreWrong : Type 0 where

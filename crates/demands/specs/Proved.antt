@@ -30,7 +30,7 @@ use Rattle.demands.specs.PassTransistors.{NumbersOfEdges, PassFieldsRead, WrongP
 use Rattle.demands.specs.Rounds.{RoundsAreTheGreatestDistance, StepsCountTheRounds, JoiningCountsDistances, RoundsAreFew}
 use Rattle.demands.specs.Rounds.{RoundsAskForNoFaults, MoreVectorsNoFewerRounds, FillingMayLowerRounds}
 use Rattle.demands.specs.WrongRounds.{WrongRoundsAreWrong}
-use Rattle.demands.specs.Contracts.{GradeIsKept, EntryIsKept, NumbersAreKept}
+use Rattle.demands.specs.CodeCalls.{GradeIsKept, EntryIsKept, NumbersAreKept}
 use Rattle.demands.specs.CircuitCalls.{CircuitIsGradedAsFile, CircuitAnswersAsFile, GradeCircuitIsKept}
 use Rattle.demands.specs.CircuitCalls.{CircuitsMeetTwo, CircuitColumnIsOfItsVector, CircuitsMeetThree}
 use Rattle.demands.specs.Unique.{Unique}

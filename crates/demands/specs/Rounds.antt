@@ -14,7 +14,8 @@ use Rattle.switch.specs.Promises.{four_rounds}
 use Rattle.switch.specs.Records.{type_of}
 use Rattle.switch.specs.Statements.{DistanceUnder}
 use Rattle.switch.specs.declared.Rails.{Rails}
-use Rattle.join_nodes.proofs.rails.join_type as join_type
+use Rattle.join_nodes.specs.contracts.rails.join_type as join_type
+use Rattle.join_nodes.proofs.rails.join_type.Reads as join_type_reads
 use Rattle.circuit.specs.Circuit.{Circuit, Instance, Reference}
 use Rattle.grading.specs.Rounds.{type_at, DistanceIn, PlanesAt}
 use Rattle.grading.specs.Promise.{counts_of}
@@ -48,7 +49,7 @@ StepsCountTheRounds =
 abbrev pub JoiningCountsDistances : Type 0
 JoiningCountsDistances =
     (κs : Lfts 2) (a : Args join_type.signature κs) (r : Rails) (e : AtExit join_type.ended κs)
-    → join_type.Reads.Asked κs a → join_type.Reads.Learnt κs a r e
+    → join_type_reads.Asked κs a → join_type_reads.Learnt κs a r e
     → GreatestIs (DistanceUnder (type_of a.0) a.1.0.now a.1.1.0.now) r.rounds
 
 -- ---- how many they can be

@@ -2,7 +2,8 @@
 -- the rounds of "How many rounds joining takes", had they been asked for then. It took an edge field for one group of parallel
 -- transistors, with 01's limits of 32,768 bytes and 64 edge fields a type. Every file is answered as it was, answer and buffers, but for
 -- those that `Changed` names, and these are not. The proofs are in proofs/GroupsGrade, GroupsRead, SingleTransistorsProof and WrongEdges.
-use Rattle.std.specs.Prelude.{ℕ, ◌+◌, ◌-◌, ◌^◌, ◌<◌, ◌≤◌, ◌≡◌, Bool, true, false, cond, not, ◌&&◌, ◌||◌, ◌⊎◌, List, [], ◌∷◌, ◌++◌, map, eqb, leb, ltb, length, get_or, drop, set}
+use Rattle.std.specs.Prelude.{ℕ, ◌+◌, ◌-◌, ◌^◌, ◌<◌, ◌≤◌, ◌≡◌, Bool, true, false, cond, not, ◌&&◌, ◌||◌, ◌⊎◌}
+use Rattle.std.specs.Prelude.{List, [], ◌∷◌, ◌++◌, map, eqb, leb, ltb, length, get_or, drop, set}
 use Rattle.std.specs.Bool.{beq}
 use Rattle.words.specs.Bits.{of_bool, greatest_to}
 use Rattle.words.specs.Rows.{row_of}
@@ -16,9 +17,10 @@ use Rattle.switch.specs.Grouped.{Group, group_links, of_groups}
 use Rattle.switch.specs.Examples.{edge, nand}
 use Rattle.circuit.specs.Fields.{Field, Cut, clean, broken, field, cut_from}
 use Rattle.circuit.specs.Circuit.{Circuit, Instance, primary, exhaustive, numbered, type_of_instance}
-use Rattle.circuit.specs.Order.{Tag, type_tag, edge_tag_lem, tag_of, is_kind, is_edge, is_unknown, at_start}
+use Rattle.circuit.specs.Order.{Tag, type_tag, edge_tag, tag_of, is_kind, is_edge, is_unknown, at_start}
 use Rattle.circuit.specs.Known.{Known, start, edges_in, known_after, latest}
-use Rattle.circuit.specs.Table.{Test, test, Verdict, passes, refused_at, first_of, misplaced, unjudged, is_empty, edges_in_range, body_tests}
+use Rattle.circuit.specs.Table.{Test, test, Verdict, passes, refused_at, first_of, misplaced, unjudged}
+use Rattle.circuit.specs.Table.{is_empty, edges_in_range, body_tests}
 use Rattle.circuit.specs.Table.{field_tests, end_tests}
 use Rattle.circuit.specs.Reading.{accepted, refusal, reading_of}
 use Rattle.grading.specs.Buffers.{Buffers, room_of}
@@ -98,7 +100,7 @@ groups_field_tests k f =
     let tag = tag_of f.tag in
     let c = k.known.circuit in
     let count = length (latest_groups k.groups) in
-    test 3 (is_unknown tag || is_kind (edge_tag_lem stated) tag) f.at
+    test 3 (is_unknown tag || is_kind (edge_tag stated) tag) f.at
     ∷ test 4 (misplaced k.known.previous tag) f.at
     ∷ test 9 (cond (unjudged k.known.previous && not (is_edge tag)) (groups_failing k) false) k.known.type_at
     ∷ cond (is_edge tag) (group_tests (latest c.types) count f.at f.body) (body_tests tag c f.at f.body)
@@ -128,7 +130,8 @@ groups_read_from size k (field f rest) =
 
 unfoldable pub groups_reading : List ℕ → GroupsReading
 groups_reading file =
-    let whole = groups_read_from (length file) groups_start (cut_from file 0) in cond (ltb bytes_before (length file)) (refused_with 1 0) whole
+    let whole = groups_read_from (length file) groups_start (cut_from file 0) in
+    cond (ltb bytes_before (length file)) (refused_with 1 0) whole
 
 -- ---- grading
 
@@ -160,7 +163,7 @@ groups_rounds groups c = greatest_to (length c.instances) λ (i : ℕ). greatest
 unfoldable pub groups_work : List (List Group) → Circuit → Work
 groups_work groups c =
     let w = work_by row_of (groups_mark groups) same_class c in
-    record { words = w.words; classes = w.classes; class_count_lem = w.class_count_lem; found = w.found; rounds = groups_rounds groups c }
+    record { words = w.words; classes = w.classes; count_of_classes = w.count_of_classes; found = w.found; rounds = groups_rounds groups c }
 
 unfoldable pub groups_outcome : GroupsReading → Buffers → Outcome
 groups_outcome (accepted_with c groups) before = outcome_of (groups_work groups) (grading_of_circuit c (room_of before)) before
@@ -181,7 +184,7 @@ FieldOf (field g rest) f = (f ≡ g) ⊎ FieldOf rest f
 -- an edge field of the file, of this tag
 pub record EdgeFieldOf (file : List ℕ) (tag : EdgeTag) (f : Field) : Type 0 where
   pub among : FieldOf (cut_from file 0) f
-  pub edge : tag_of f.tag ≡ edge_tag_lem tag
+  pub edge : tag_of f.tag ≡ edge_tag tag
 
 -- the files whose answer changes: those of 32,769 to 57,344 bytes, which were refused by 1; those that were refused by 6 at an edge field,
 -- and are not refused so today; and those that were refused by 3 at a field with tag 7 (02, "Pass transistors")
@@ -218,7 +221,7 @@ pub record GroupedFieldsRead : Type 0 where
 
 unfoldable pub retested : ℕ → (Known → List ℕ → Bool) → Known → Field → Test → Test
 retested number refuses known f t =
-    cond (is_kind (edge_tag_lem by_position) (tag_of f.tag) && eqb t.number number) (test number (refuses known f.body) t.place) t
+    cond (is_kind (edge_tag by_position) (tag_of f.tag) && eqb t.number number) (test number (refuses known f.body) t.place) t
 
 abbrev pub edges_by : ℕ → (Known → List ℕ → Bool) → Grader
 edges_by number refuses = testing (λ known f. map (retested number refuses known f) (field_tests known f)) (end_tests true)

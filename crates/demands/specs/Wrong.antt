@@ -2,7 +2,8 @@
 -- right in all else (specs/Graders, `rightly`). 01's last paragraph names those of the first part, its "Slips my class makes" those of the
 -- second, README those of the third, 02 those of the fourth; those of the fifth break 01's rules on lent memory.
 -- The proofs, on small files, are in proofs/WrongProof.
-use Rattle.std.specs.Prelude.{ℕ, zero, suc, ◌+◌, ◌*◌, min, Bool, true, false, cond, not, ◌&&◌, ◌||◌, List, [], ◌∷◌, ◌++◌, map, eqb, leb, ltb, length, get_or, take, replicate}
+use Rattle.std.specs.Prelude.{ℕ, zero, suc, ◌+◌, ◌*◌, min, Bool, true, false, cond, not, ◌&&◌, ◌||◌}
+use Rattle.std.specs.Prelude.{List, [], ◌∷◌, ◌++◌, map, eqb, leb, ltb, length, get_or, take, replicate}
 use Rattle.std.specs.Bool.{beq}
 use Rattle.words.specs.Bits.{of_bool, pack, sum_to}
 use Rattle.words.specs.Tables.{table, up_to}
@@ -19,7 +20,8 @@ use Rattle.circuit.specs.Known.{Known}
 use Rattle.circuit.specs.Table.{Test, field_tests, end_tests}
 use Rattle.grading.specs.Buffers.{room_of}
 use Rattle.grading.specs.Rows.{Row, rows_of, row_values, mark_of}
-use Rattle.grading.specs.Wires.{Wire, ground_wire, supply_wire, input_wire, output_wire, inner_wire, End, one_end, other_end, wire_of, leaks}
+use Rattle.grading.specs.Wires.{Wire, ground_wire, supply_wire, input_wire, output_wire, inner_wire}
+use Rattle.grading.specs.Wires.{End, one_end, other_end, wire_of, leaks}
 use Rattle.grading.specs.Classes.{same_pair, same_class, has_mark_by}
 use Rattle.grading.specs.Grading.{Grading, graded, refused, grading_of}
 use Rattle.grading.specs.declared.Answer.{Answer}
@@ -82,7 +84,7 @@ unfoldable pub leaves_matrix : Grader
 leaves_matrix =
     grades_by λ (c : Circuit).
     let w = right_work c in
-    record { words = []; classes = w.classes; class_count_lem = w.class_count_lem; found = w.found; rounds = w.rounds }
+    record { words = []; classes = w.classes; count_of_classes = w.count_of_classes; found = w.found; rounds = w.rounds }
 
 abbrev pub LeavesMatrixIsWrong : Type 0
 LeavesMatrixIsWrong = MeetsPromise leaves_matrix → ⊥
@@ -99,7 +101,7 @@ unfoldable pub invents_found : Grader
 invents_found =
     grades_by λ (c : Circuit).
     let w = right_work c in
-    record { words = w.words; classes = w.classes; class_count_lem = w.class_count_lem; found = w.class_count_lem; rounds = w.rounds }
+    record { words = w.words; classes = w.classes; count_of_classes = w.count_of_classes; found = w.count_of_classes; rounds = w.rounds }
 
 abbrev pub InventsFoundIsWrong : Type 0
 InventsFoundIsWrong = MeetsPromise invents_found → ⊥
@@ -194,7 +196,7 @@ counts_rows =
     record {
       words = w.words;
       classes = w.classes;
-      class_count_lem = w.class_count_lem;
+      count_of_classes = w.count_of_classes;
       found = rows_found (length c.vectors) (mark_of c) (rows_of c);
       rounds = w.rounds;
     }
@@ -365,7 +367,7 @@ SplitsInputsIsWrong = MeetsPromise splits_inputs → ⊥
 unfoldable pub clearing_next : Circuit → Work
 clearing_next c =
     let w = right_work c in
-    record { words = w.words ++ (0 ∷ []); classes = w.classes; class_count_lem = w.class_count_lem; found = w.found; rounds = w.rounds }
+    record { words = w.words ++ (0 ∷ []); classes = w.classes; count_of_classes = w.count_of_classes; found = w.found; rounds = w.rounds }
 
 unfoldable pub writes_past : Grader
 writes_past file before =

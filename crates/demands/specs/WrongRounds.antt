@@ -15,7 +15,7 @@ use Rattle.demands.specs.Breaks.{MeetsOne, MeetsRest, MeetsCells, MeetsClasses, 
 unfoldable pub with_rounds : (Circuit → ℕ) → Circuit → Work
 with_rounds rounds c =
     let w = right_work c in
-    record { words = w.words; classes = w.classes; class_count_lem = w.class_count_lem; found = w.found; rounds = rounds c }
+    record { words = w.words; classes = w.classes; count_of_classes = w.count_of_classes; found = w.found; rounds = rounds c }
 
 abbrev pub counts_rounds : (Circuit → ℕ) → Grader
 counts_rounds rounds = grades_by (with_rounds rounds)

@@ -5,11 +5,13 @@ use mathlib.Core.List.{List, [], ◌∷◌}
 use lib.Dec.{T}
 use lib.ListN.{length, take}
 use base.Logic.{emp}
-use prog.Routine.{Routine}
+use prog.Routine.{Callee}
+use prog.Wired.{Code}
 use contract.Lifetimes.{Lfts}
 use contract.Monad.{fact, fact_mono}
+use contract.Running.{within}
 use denote.Ask.Run.{routine_mono}
-use denote.Triple.Clauses.{Ended, AtExit, atExit}
+use denote.Triple.Clauses.{Ended, AtExit, at_exit}
 use denote.Triple.Entry.{Args, Res}
 use denote.Triple.Weaken.{weaken}
 use Rattle.grading.specs.Buffers.{Buffers, room_of}
@@ -17,39 +19,50 @@ use Rattle.grading.specs.Grading.{Grading, grading_of, over, buffers_after}
 use Rattle.grading.specs.Promise.{is_graded, number_of, place_of, counts_of}
 use Rattle.grading.specs.declared.Answer.{Answer}
 use Rattle.grading.specs.declared.Answer.TheVariants.{Graded, Refused, ShortMatrix, ShortClasses}
-use Rattle.grade_file.proofs.grade.grade as grade
+use Rattle.grade_file.specs.contracts.grade.grade as grade
+use Rattle.grade_file.proofs.grade.grade.Met as grade_met
+use Rattle.grade_file.proofs.grade.grade.Symbol as grade_symbol
 use Rattle.togyamiru.specs.Entry.{six_numbers, EntryPromise}
 use Rattle.togyamiru.specs.NumbersEntry.{all_numbers, NumbersPromise}
 use Rattle.togyamiru.specs.NumbersEntry as entry
 use Rattle.togyamiru.proofs.Numbers.{numbers, numbers_are}
-use Rattle.togyamiru.proofs.togyamiru_grade as togyamiru_grade
-use Rattle.togyamiru.proofs.togyamiru_grade_numbers as togyamiru_grade_numbers
+use Rattle.togyamiru.specs.contracts.togyamiru_grade as togyamiru_grade
+use Rattle.togyamiru.proofs.togyamiru_grade.Met as togyamiru_grade_met
+use Rattle.togyamiru.proofs.togyamiru_grade.Symbol as togyamiru_grade_symbol
+use Rattle.togyamiru.specs.contracts.togyamiru_grade_numbers as togyamiru_grade_numbers
+use Rattle.togyamiru.proofs.togyamiru_grade_numbers.Met as togyamiru_grade_numbers_met
+use Rattle.togyamiru.proofs.togyamiru_grade_numbers.Symbol as togyamiru_grade_numbers_symbol
 use Rattle.demands.specs.Calls.{Call, Kept, Refuses}
 use Rattle.demands.specs.Determined.{MeetsDemands}
-use Rattle.demands.specs.Contracts.{ToldBy, RoutineTells, call_of, GradeIsKept}
-use Rattle.demands.specs.Contracts.{six_of, numbers_of, CallOn, EntryIsCall, of_entry, EntryIsKept, NumbersAreCall, of_numbers, NumbersAreKept}
+use Rattle.demands.specs.CodeCalls.{ToldBy, CodeTells, call_of, GradeIsKept}
+use Rattle.demands.specs.CodeCalls.{six_of, numbers_of, CallOn, EntryIsCall, of_entry, EntryIsKept, NumbersAreCall, of_numbers, NumbersAreKept}
 use Rattle.demands.proofs.Determines.{kept_meets}
 use Rattle.demands.proofs.RightProof.{promise_can_be_met}
 
--- what follows from what is told of the code's runs is so of them
-so_of_routine : (M : Type 1) (routine : Routine) (F : Ended) (Told Follows : ToldBy F)
+-- what follows from what is told of the code is so of it
+so_of_code : (M : Type 1) (code : Code) (name : Callee) (F : Ended) (Told Follows : ToldBy F)
     → ((κs : Lfts F.signature.lifetimes) (a : Args F.signature κs) (r : Res F.signature κs) (e : AtExit F κs) → Told κs a r e → Follows κs a r e)
-    → RoutineTells M routine F Told → RoutineTells M routine F Follows
-so_of_routine M routine F Told Follows follows tells 𝓤 𝓛 𝓜 𝓡 =
+    → CodeTells M code name F Told → CodeTells M code name F Follows
+so_of_code M code name F Told Follows follows tells γ wired 𝓤 𝓛 𝓜 𝓡 =
     weaken 𝓛 F
     (λ κs a. record { ghost = Unit {0}; requires = λ g. emp 𝓤; ensures = λ g r e. fact 𝓤 (Told κs a r e) })
     (λ κs a g r e. fact 𝓤 (Follows κs a r e))
-    (λ κs a g r ws. fact_mono 𝓤 (Told κs a r (atExit F κs a ws)) (Follows κs a r (atExit F κs a ws)) (follows κs a r (atExit F κs a ws)))
-    (𝓡.run routine) (routine_mono 𝓤 𝓛.H 𝓜 𝓡 routine) (tells 𝓤 𝓛 𝓜 𝓡)
+    (λ κs a g r ws. fact_mono 𝓤 (Told κs a r (at_exit F κs a ws)) (Follows κs a r (at_exit F κs a ws)) (follows κs a r (at_exit F κs a ws)))
+    (𝓡.run (γ name)) (routine_mono 𝓤 𝓛.H 𝓜 𝓡 (γ name)) (tells γ wired 𝓤 𝓛 𝓜 𝓡)
+
+-- the kit's theorem speaks of the environment of a run, which may be any
+grade_tells : (M : Type 1) → CodeTells M grade_symbol.code grade_symbol.name grade.ended (λ κs a r e. Kept (call_of κs a r e))
+grade_tells M γ wired 𝓤 𝓛 𝓜 𝓡 = grade_met.met 𝓤 𝓛 𝓜 (within 𝓤 𝓛.H 𝓜 𝓡 γ) wired
 
 pub grade_is_kept : GradeIsKept
 grade_is_kept = record {
   asks_nothing = λ κs a. tt;
   keeps = λ κs a r e kept. kept;
-  routine_keeps = λ M. grade.Met.met;
+  routine_keeps = grade_tells;
   routine_meets_demands = λ M.
-      so_of_routine M grade.Symbol.routine grade.ended (λ κs a r e. Kept (call_of κs a r e)) (λ κs a r e. MeetsDemands (call_of κs a r e))
-      (λ κs a r e. kept_meets (call_of κs a r e)) grade.Met.met;
+      so_of_code M grade_symbol.code grade_symbol.name grade.ended
+      (λ κs a r e. Kept (call_of κs a r e)) (λ κs a r e. MeetsDemands (call_of κs a r e))
+      (λ κs a r e. kept_meets (call_of κs a r e)) (grade_tells M);
 }
 
 -- ---- the numbers of an answer, of which the first six are those of the older entry
@@ -118,13 +131,16 @@ entry-is-call file before six after promise =
       grading_refuses_nothing = λ graded. are ∙ six_of_lem by.call.answer (nothing-refused by.call.answer graded);
     }
 
+entry_tells : (M : Type 1) → CodeTells M togyamiru_grade_symbol.code togyamiru_grade_symbol.name togyamiru_grade.ended (λ κs a r e. of_entry κs a e EntryPromise)
+entry_tells M γ wired 𝓤 𝓛 𝓜 𝓡 = togyamiru_grade_met.met 𝓤 𝓛 𝓜 (within 𝓤 𝓛.H 𝓜 𝓡 γ) wired
+
 pub entry_is_kept : EntryIsKept
 entry_is_kept = record {
   asks_nothing = λ κs a. tt;
   is_call = λ κs a r e promise. entry-is-call _ _ _ _ promise;
   routine_is_call = λ M.
-      so_of_routine M togyamiru_grade.Symbol.routine togyamiru_grade.ended (λ κs a r e. of_entry κs a e EntryPromise) (λ κs a r e. of_entry κs a e EntryIsCall)
-      (λ κs a r e promise. entry-is-call _ _ _ _ promise) togyamiru_grade.Met.met;
+      so_of_code M togyamiru_grade_symbol.code togyamiru_grade_symbol.name togyamiru_grade.ended (λ κs a r e. of_entry κs a e EntryPromise) (λ κs a r e. of_entry κs a e EntryIsCall)
+      (λ κs a r e promise. entry-is-call _ _ _ _ promise) (entry_tells M);
 }
 
 numbers-are-call : (file : List ℕ) (before : Buffers) (room room' : List ℕ) (after : Buffers) → NumbersPromise file before room room' after
@@ -140,12 +156,15 @@ numbers-are-call file before room room' after promise =
       grading_refuses_nothing = λ graded. are ∙ ap as_many (nothing-refused by.call.answer graded);
     }
 
+numbers_tell : (M : Type 1) → CodeTells M togyamiru_grade_numbers_symbol.code togyamiru_grade_numbers_symbol.name togyamiru_grade_numbers.ended (λ κs a r e. of_numbers κs a e NumbersPromise)
+numbers_tell M γ wired 𝓤 𝓛 𝓜 𝓡 = togyamiru_grade_numbers_met.met 𝓤 𝓛 𝓜 (within 𝓤 𝓛.H 𝓜 𝓡 γ) wired
+
 pub numbers_are_kept : NumbersAreKept
 numbers_are_kept = record {
   asks_nothing = λ κs a. tt;
   is_call = λ κs a r e promise. numbers-are-call _ _ _ _ _ promise;
   routine_is_call = λ M.
-      so_of_routine M togyamiru_grade_numbers.Symbol.routine togyamiru_grade_numbers.ended
+      so_of_code M togyamiru_grade_numbers_symbol.code togyamiru_grade_numbers_symbol.name togyamiru_grade_numbers.ended
       (λ κs a r e. of_numbers κs a e NumbersPromise) (λ κs a r e. of_numbers κs a e NumbersAreCall)
-      (λ κs a r e promise. numbers-are-call _ _ _ _ _ promise) togyamiru_grade_numbers.Met.met;
+      (λ κs a r e promise. numbers-are-call _ _ _ _ _ promise) (numbers_tell M);
 }

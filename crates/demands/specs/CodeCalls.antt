@@ -2,15 +2,17 @@
 -- meets them. Then those of `grade`, and of the entries for C that grade, in the words of the demands, so that these are on the code: the
 -- kernel compares.
 --   NAME.signature, NAME.ended   the types of the arguments, of the result, and of what is lent to be written
---   NAME.Reads.Asked             what the `requires` clauses ask of the arguments
---   NAME.Reads.Learnt            what the `ensures` clauses tell of the arguments, the result, and what was lent, as it is at exit
---   NAME.Symbol.routine          the function's code, in the kit's logic
+--   NAME_reads.Asked             what the `requires` clauses ask of the arguments
+--   NAME_reads.Learnt            what the `ensures` clauses tell of the arguments, the result, and what was lent, as it is at exit
+--   NAME_symbol.code             the function's code with that of all it calls, in the kit's logic
+--   NAME_symbol.name             what a call of it names; an environment says which routine that is
 -- Arguments a stand in their order: a.0, a.1.0, a.1.1.0 and so on; what was lent, at exit, likewise.
 use Rattle.std.specs.Prelude.{ℕ, ◌≡◌, List, [], ◌∷◌, ◌++◌, T, length, take}
 use seplogic.Ra.Ura.{Ura}
 use base.Logic.{emp}
 use prog.Model.{Model}
-use prog.Routine.{Routine}
+use prog.Routine.{Callee, Env, Routine}
+use prog.Wired.{Code, Wired}
 use types.Logic.{Logic}
 use contract.Lifetimes.{Lfts}
 use contract.Monad.{fact}
@@ -22,9 +24,15 @@ use Rattle.grading.specs.Buffers.{Buffers, buffers_of}
 use Rattle.grading.specs.Grading.{over}
 use Rattle.grading.specs.Promise.{is_graded, number_of, place_of, counts_of}
 use Rattle.grading.specs.declared.Answer.{Answer}
-use Rattle.grade_file.proofs.grade.grade as grade
-use Rattle.togyamiru.proofs.togyamiru_grade as togyamiru_grade
-use Rattle.togyamiru.proofs.togyamiru_grade_numbers as togyamiru_grade_numbers
+use Rattle.grade_file.specs.contracts.grade.grade as grade
+use Rattle.grade_file.proofs.grade.grade.Reads as grade_reads
+use Rattle.grade_file.proofs.grade.grade.Symbol as grade_symbol
+use Rattle.togyamiru.specs.contracts.togyamiru_grade as togyamiru_grade
+use Rattle.togyamiru.proofs.togyamiru_grade.Reads as togyamiru_grade_reads
+use Rattle.togyamiru.proofs.togyamiru_grade.Symbol as togyamiru_grade_symbol
+use Rattle.togyamiru.specs.contracts.togyamiru_grade_numbers as togyamiru_grade_numbers
+use Rattle.togyamiru.proofs.togyamiru_grade_numbers.Reads as togyamiru_grade_numbers_reads
+use Rattle.togyamiru.proofs.togyamiru_grade_numbers.Symbol as togyamiru_grade_numbers_symbol
 use Rattle.demands.specs.Calls.{Call, Kept, Refuses}
 use Rattle.demands.specs.Determined.{MeetsDemands}
 
@@ -44,12 +52,16 @@ AsksNothing F Asked = (κs : Lfts F.signature.lifetimes) (a : Args F.signature �
 abbrev pub AtReturn : (F : Ended) (κs : Lfts F.signature.lifetimes) → Args F.signature κs → Type 0
 AtReturn F κs a = Res F.signature κs × Lasts F κs a
 
--- the code, run on any arguments with nothing asked of them, ends, and then this is so
+-- a routine, run on any arguments with nothing asked of them, ends, and then this is so
 abbrev pub RoutineTells : (M : Type 1) → Routine → (F : Ended) → ToldBy F → Type 2
 RoutineTells M routine F Told =
     (𝓤 : Ura M) (𝓛 : Logic 𝓤) (𝓜 : Model 𝓤 𝓛.H) (𝓡 : Running 𝓤 𝓛.H 𝓜)
     → Meets 𝓛 F.signature (𝓡.run routine)
     (closing 𝓛 F (λ κs a. record { ghost = Unit {0}; requires = λ g. emp 𝓤; ensures = λ g r e. fact 𝓤 (Told κs a r e) }))
+
+-- and so does the code: the routine of this name in every environment that has it
+abbrev pub CodeTells : (M : Type 1) → Code → Callee → (F : Ended) → ToldBy F → Type 2
+CodeTells M code name F Told = (γ : Env) → Wired γ code → RoutineTells M (γ name) F Told
 
 -- ---- `grade`
 
@@ -63,13 +75,14 @@ call_of κs a r e = record {
 }
 
 pub record GradeIsKept : Type 2 where
-  pub asks_nothing : AsksNothing grade.ended grade.Reads.Asked
+  pub asks_nothing : AsksNothing grade.ended grade_reads.Asked
   pub keeps : (κs : Lfts 3) (a : Args grade.signature κs) (r : Answer) (e : AtExit grade.ended κs)
-      → grade.Reads.Learnt κs a r e → Kept (call_of κs a r e)
-  pub routine_keeps : (M : Type 1) → RoutineTells M grade.Symbol.routine grade.ended (λ κs a r e. Kept (call_of κs a r e))
-  pub routine_meets_demands : (M : Type 1) → RoutineTells M grade.Symbol.routine grade.ended (λ κs a r e. MeetsDemands (call_of κs a r e))
+      → grade_reads.Learnt κs a r e → Kept (call_of κs a r e)
+  pub routine_keeps : (M : Type 1) → CodeTells M grade_symbol.code grade_symbol.name grade.ended (λ κs a r e. Kept (call_of κs a r e))
+  pub routine_meets_demands : (M : Type 1)
+      → CodeTells M grade_symbol.code grade_symbol.name grade.ended (λ κs a r e. MeetsDemands (call_of κs a r e))
 
--- ---- the entries for C that grade
+-- ---- the entries for C that grade: `togyamiru_c` exports each under the same clauses, by a call of the function that this speaks of
 
 -- number, place, vectors, faults, classes, found
 unfoldable pub six_of : Answer → List ℕ
@@ -110,11 +123,11 @@ of_entry κs a e Told =
     Told a.0.now (buffers_of a.1.0.now a.1.1.0.now) e.1.1.1.0.now (buffers_of e.1.0.now e.1.1.0.now)
 
 pub record EntryIsKept : Type 2 where
-  pub asks_nothing : AsksNothing togyamiru_grade.ended togyamiru_grade.Reads.Asked
+  pub asks_nothing : AsksNothing togyamiru_grade.ended togyamiru_grade_reads.Asked
   pub is_call : (κs : Lfts 4) (a : Args togyamiru_grade.signature κs) (r : Unit {0}) (e : AtExit togyamiru_grade.ended κs)
-      → togyamiru_grade.Reads.Learnt κs a r e → of_entry κs a e EntryIsCall
+      → togyamiru_grade_reads.Learnt κs a r e → of_entry κs a e EntryIsCall
   pub routine_is_call : (M : Type 1)
-      → RoutineTells M togyamiru_grade.Symbol.routine togyamiru_grade.ended (λ κs a r e. of_entry κs a e EntryIsCall)
+      → CodeTells M togyamiru_grade_symbol.code togyamiru_grade_symbol.name togyamiru_grade.ended (λ κs a r e. of_entry κs a e EntryIsCall)
 
 -- the numbers of the entry for any count of them are those of such a call, as many as there is room for, and what stood behind them
 pub record NumbersAreCall (file : List ℕ) (before : Buffers) (numbers numbers' : List ℕ) (after : Buffers) : Type 0 where
@@ -133,8 +146,9 @@ of_numbers κs a e Told =
     (buffers_of e.1.0.now e.1.1.0.now)
 
 pub record NumbersAreKept : Type 2 where
-  pub asks_nothing : AsksNothing togyamiru_grade_numbers.ended togyamiru_grade_numbers.Reads.Asked
+  pub asks_nothing : AsksNothing togyamiru_grade_numbers.ended togyamiru_grade_numbers_reads.Asked
   pub is_call : (κs : Lfts 4) (a : Args togyamiru_grade_numbers.signature κs) (r : Unit {0}) (e : AtExit togyamiru_grade_numbers.ended κs)
-      → togyamiru_grade_numbers.Reads.Learnt κs a r e → of_numbers κs a e NumbersAreCall
+      → togyamiru_grade_numbers_reads.Learnt κs a r e → of_numbers κs a e NumbersAreCall
   pub routine_is_call : (M : Type 1)
-      → RoutineTells M togyamiru_grade_numbers.Symbol.routine togyamiru_grade_numbers.ended (λ κs a r e. of_numbers κs a e NumbersAreCall)
+      → CodeTells M togyamiru_grade_numbers_symbol.code togyamiru_grade_numbers_symbol.name togyamiru_grade_numbers.ended
+      (λ κs a r e. of_numbers κs a e NumbersAreCall)

@@ -1,6 +1,6 @@
 -- The key of a row tells its class: two rows of a circuit have equal keys exactly when they are one class, since each wire of a circuit has its
 -- own number, and a pair of numbers is known by its lower and its higher one. Assumes nothing.
-use Prim.Native.Nat.{ℕ, ◌+◌, ◌-◌, ◌*◌, ◌<◌, ◌≤◌, min, max}
+use Prim.Native.Nat.{ℕ, ◌-◌, ◌<◌, ◌≤◌}
 use mathlib.Core.Path.{◌≡◌, refl, ap, ◌∙◌}
 use mathlib.Core.Logic.{⊎_elim}
 use mathlib.Core.Bool.{Bool, true, false, ◌&&◌, ◌||◌}
@@ -36,10 +36,10 @@ unfolding pair_key
 pair_key_lem a b c d p q r s = go (eqb a c) refl (eqb b d) refl (eqb a d) refl (eqb b c) refl
   where
     x : ℕ
-    x = 8192 * min a b + max a b
+    x = pair_key a b
 
     y : ℕ
-    y = 8192 * min c d + max c d
+    y = pair_key c d
 
     go : (i : Bool) → eqb a c ≡ i → (j : Bool) → eqb b d ≡ j → (k : Bool) → eqb a d ≡ k → (l : Bool) → eqb b c ≡ l → eqb x y ≡ (i && j || k && l)
     go true i true j k e l f = eq-eqb x y (omega (arith, eqb-true a c i, eqb-true b d j))

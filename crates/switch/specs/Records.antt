@@ -75,7 +75,7 @@ pub record EdgesGiven (h o k : ℕ) (rs : List EdgeRecord) : Type 0 where
 
 -- a value from its bit in the known-1 plane and in the known-0 plane. No file gives both; taken as 1, every pair of bits has a meaning
 unfoldable pub value_of : ℕ → ℕ → Value
-value_of (suc b) zeros = at1
+value_of (suc b) other = at1
 value_of zero (suc b) = at0
 value_of zero zero = at_x
 

@@ -40,7 +40,13 @@ unfoldable pub edges_in : EdgeTag → ℕ → List ℕ → List Edge
 edges_in by_position o body =
     let a = get_or body 0 0 in let b = get_or body 1 0 in edges_for a b (channel_of o a b) (drop 2 body)
 edges_in stated o body =
-    record { first = get_or body 0 0; second = get_or body 1 0; channel = channel_by (get_or body 2 0); label = get_or body 3 0; tag = stated } ∷ []
+    record {
+      first = get_or body 0 0;
+      second = get_or body 1 0;
+      channel = channel_by (get_or body 2 0);
+      label = get_or body 3 0;
+      tag = stated;
+    } ∷ []
 
 -- kind 0 joins two nodes, kind 1 a node and a label
 unfoldable pub bridge_of : ℕ → ℕ → ℕ → Bridge

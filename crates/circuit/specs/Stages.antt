@@ -57,7 +57,8 @@ edge_stage =
 
 abbrev pub bridge_stage : List Listed → Cut → Stage (List Listed)
 bridge_stage =
-    section_of bridge_tag (λ (bs : List Listed). bridge_tests (length bs)) (λ (bs : List Listed) (body : List ℕ). bs ++ (listed_in body ∷ []))
+    section_of bridge_tag (λ (bs : List Listed). bridge_tests (length bs))
+    (λ (bs : List Listed) (body : List ℕ). bs ++ (listed_in body ∷ []))
 
 -- the circuit when these instances are read, before any vector
 abbrev pub read_to : ℕ → List ModuleType → List Listed → List Instance → Circuit

@@ -81,10 +81,12 @@ instance_words t references signalOnes signalZeros =
 
 -- the output's planes, four words each
 unfoldable pub output_ones : List ℕ → List ℕ → ℕ → List ℕ
-output_ones toSupply toGround node = table 4 (λ (w : ℕ). (planes_of (get_or toSupply (4 * node + w) 0) (get_or toGround (4 * node + w) 0)).ones)
+output_ones toSupply toGround node =
+    table 4 (λ (w : ℕ). (planes_of (get_or toSupply (4 * node + w) 0) (get_or toGround (4 * node + w) 0)).ones)
 
 unfoldable pub output_zeros : List ℕ → List ℕ → ℕ → List ℕ
-output_zeros toSupply toGround node = table 4 (λ (w : ℕ). (planes_of (get_or toSupply (4 * node + w) 0) (get_or toGround (4 * node + w) 0)).zeros)
+output_zeros toSupply toGround node =
+    table 4 (λ (w : ℕ). (planes_of (get_or toSupply (4 * node + w) 0) (get_or toGround (4 * node + w) 0)).zeros)
 
 -- ---- mark words
 

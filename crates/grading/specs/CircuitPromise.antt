@@ -12,4 +12,5 @@ use Rattle.grading.specs.declared.Answer.{Answer}
 -- for every good circuit that the record tells
 abbrev pub PromiseOfCircuit : CircuitRecord → Buffers → Answer → Buffers → Type 0
 PromiseOfCircuit c before answer after =
-    (meant : Circuit) → c ≡ circuit_record meant → CircuitGood meant → AnswersAs (grading_of_circuit meant (room_of before)) answer before after
+    (meant : Circuit) → c ≡ circuit_record meant → CircuitGood meant
+    → AnswersAs (grading_of_circuit meant (room_of before)) answer before after

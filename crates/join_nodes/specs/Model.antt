@@ -1,6 +1,7 @@
 -- What the code computes on the way, as lists: edges in columns, planes of gates, rounds of joining, planes of 64 settings. Only the code's
 -- own proofs use it. A word has a bit for each of 64 vectors, or of 64 settings.
-use Rattle.std.specs.Prelude.{ℕ, zero, suc, ◌+◌, ◌-◌, ◌*◌, ◌/◌, ◌%◌, ◌^◌, ◌<◌, ◌≤◌, List, map, ◌++◌, ◌↔◌, ◌≡◌, length, get_or, set, take, drop, replicate}
+use Rattle.std.specs.Prelude.{ℕ, zero, suc, ◌+◌, ◌-◌, ◌*◌, ◌/◌, ◌%◌, ◌^◌, ◌<◌, ◌≤◌, ◌↔◌, ◌≡◌}
+use Rattle.std.specs.Prelude.{List, map, ◌++◌, length, get_or, set, take, drop, replicate}
 use Rattle.std.specs.Int.Bits.{bit_and, bit_or}
 use Rattle.words.specs.Bits.{bit, of_bool, word, greatest_to}
 use Rattle.words.specs.Each.{word_of_each}
@@ -47,7 +48,8 @@ edges_in_columns firsts seconds gates n = table n (edge_in_columns firsts second
 
 -- the type with these edges
 unfoldable pub type_in_columns : ℕ → ℕ → ℕ → List ℕ → List ℕ → List ℕ → ℕ → ModuleType
-type_in_columns h o k firsts seconds gates n = record { highest = h; output = o; labels = k; edges = edges_in_columns firsts seconds gates n }
+type_in_columns h o k firsts seconds gates n =
+    record { highest = h; output = o; labels = k; edges = edges_in_columns firsts seconds gates n }
 
 -- the rails' words of any type whose edges, without their tags, are these
 abbrev pub RailsTold : List Edge → List ℕ → List ℕ → Rails → Type 0

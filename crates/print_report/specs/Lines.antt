@@ -26,8 +26,8 @@ rounds_word = 114 ∷ 111 ∷ 117 ∷ 110 ∷ 100 ∷ 115 ∷ 32 ∷ []
 
 unfoldable pub first_line : ℕ → ℕ → ℕ → ℕ → List ℕ
 first_line vectors faults classes found =
-    vectors_word ++ decimal vectors ++ space ++ faults_word ++ decimal faults ++ space ++ classes_word ++ decimal classes ++ space ++ found_word
-    ++ decimal found ++ newline
+    vectors_word ++ decimal vectors ++ space ++ faults_word ++ decimal faults ++ space ++ classes_word ++ decimal classes ++ space
+    ++ found_word ++ decimal found ++ newline
 
 -- n for kind 0, i for kind 1
 unfoldable pub kind_letter : ℕ → ℕ

@@ -25,7 +25,8 @@ counts_line counts = first_line counts.vectors counts.faults counts.classes coun
 
 unfoldable pub report_lines : Grading → List (List ℕ)
 report_lines (graded c) =
-    let counts = counts_of_circuit c in counts_line counts ∷ row_lines c (rows_of c) (classes_of (rows_of c)) ++ (rounds_line counts.rounds ∷ [])
+    let counts = counts_of_circuit c in
+    counts_line counts ∷ row_lines c (rows_of c) (classes_of (rows_of c)) ++ (rounds_line counts.rounds ∷ [])
 report_lines (refused number place) = refusal_line number place ∷ []
 
 unfoldable pub report_line : Grading → ℕ → List ℕ

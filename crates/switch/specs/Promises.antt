@@ -31,7 +31,8 @@ unfoldable pub rounds_under : ModuleType → List ℕ → List ℕ → ℕ
 rounds_under t ones zeros = greatest_to 64 (λ (v : ℕ). deepest (links (by_planes ones zeros v) t.edges))
 
 unfoldable pub four_rounds : ModuleType → List ℕ → List ℕ → ℕ
-four_rounds t ones zeros = greatest_to 4 (λ (w : ℕ). rounds_under t (word_of_each 4 w most_labels ones) (word_of_each 4 w most_labels zeros))
+four_rounds t ones zeros = greatest_to 4
+    (λ (w : ℕ). rounds_under t (word_of_each 4 w most_labels ones) (word_of_each 4 w most_labels zeros))
 
 abbrev pub rails_of : ModuleType → List ℕ → List ℕ → Rails
 rails_of t ones zeros = record {

@@ -123,7 +123,8 @@ PlanesAreValues = (f : ℕ → Value) (v : ℕ) → v < 64 → value_of (bit (pl
 
 -- where two planes hold values, what the planes switch on is what the values switch on
 abbrev pub PlanesSwitch : Type 0
-PlanesSwitch = (ones zeros : List ℕ) (v : ℕ) (values : ℕ → Value) → PlanesHold ones zeros v values → by_planes ones zeros v ≡ by_values values
+PlanesSwitch =
+    (ones zeros : List ℕ) (v : ℕ) (values : ℕ → Value) → PlanesHold ones zeros v values → by_planes ones zeros v ≡ by_values values
 
 -- the planes that the output's two words give are those of its value
 abbrev pub OutputPlanes : Type 0
@@ -146,8 +147,8 @@ pub record DepthIsDistance : Type 0 where
   -- it hangs only on which links there are
   pub same_links : (ws others : List Link) → ((w : Link) → Among w ws ↔ Among w others) → (a : ℕ) → depth ws a ≡ depth others a
 
--- rounds from a node: one hands on, along each link, what the link's ends had before it (`nodes_within`, `next_nodes`). As many of them add a
--- node as the greatest distance has links, and no later one does
+-- rounds from a node: one hands on, along each link, what the link's ends had before it (`nodes_within`, `next_nodes`). As many of them add
+-- a node as the greatest distance has links, and no later one does
 pub record RoundsAddNodes : Type 0 where
   pub adds : (ws : List Link) (a n : ℕ) → n < depth ws a → next_nodes (nodes_within ws n a) ws ≡ [] → ⊥
   pub adds_no_more : (ws : List Link) → LinksBelow most_nodes ws → (a : ℕ) → a < most_nodes

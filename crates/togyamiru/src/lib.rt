@@ -12,12 +12,7 @@ use crate::answering::{answer_to, numbers_of, put_numbers};
 use grading::answers::{counts_of, number_of, place_of};
 
 // Grades a file into lent buffers. The answer is six numbers: the refusal's number and its place, 0 and 0 where there is none, and the counts of vectors, faults, classes and found.
-pub fn togyamiru_grade(
-    file: &[u8],
-    matrix: &mut [u64],
-    classes: &mut [u16],
-    answer: &mut [u64; 6],
-)
+pub fn togyamiru_grade(file: &[u8], matrix: &mut [u64], classes: &mut [u16], answer: &mut [u64; 6])
     ensures { EntryPromise file.now (buffers_of matrix.old classes.old) answer.new (buffers_of matrix.new classes.new) }
 {
     togyamiru_grade_numbers(file, matrix, classes, answer);

@@ -1,5 +1,4 @@
 -- Laws on bits, packing, counting, rows of marks, lists made from functions and things with some words each, which other crates cite.
--- LocalArrays has what their walks by hand share of an array in a local.
 pub mod Laws
 pub mod FirstOnes
 pub mod Counting

@@ -137,6 +137,9 @@ def turn_file(path, text, rows):
 
 
 def main(argv):
+    if argv not in ([], ["--show"]):
+        print(__doc__)
+        return 2
     rows, own = table()
     if "--show" in argv:
         for old, new in sorted(rows.items()):

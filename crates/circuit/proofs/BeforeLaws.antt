@@ -25,7 +25,7 @@ use Rattle.circuit.specs.Stages.{Stage, stage_of, stopped, if_passes, section, s
 use Rattle.circuit.specs.Laws.{Each, TypeSound, TypeGood, InstanceGood, CircuitGood, BeforeIsGood}
 use Rattle.circuit.proofs.StageLaws.{edge_as, with_edge, with_type, more_edges, more_types, by_edge, by_type, by_other}
 use Rattle.circuit.proofs.GatheredLaws.{failing-refuses, gathered_is_before}
-use Rattle.circuit.proofs.Tested.{inputs-pass, type-pass, edges-sound, bridge-pass, faults_snoc, instance_pass, vector-pass, holds, length_snoc, get_d_any, some-length, no_length, each_none, each_snoc}
+use Rattle.circuit.proofs.Tested.{inputs-pass, type-pass, edges-sound, bridge-pass, faults_snoc, instance_pass, vector-pass, holds, length_snoc, get_or-any, some-length, no_length, each_none, each_snoc}
 use Rattle.circuit.proofs.Verdicts.{refused-passes}
 
 -- ---- a stage of one kind
@@ -116,7 +116,7 @@ judged-types types type_at cut s e =
         at (yes k) = s.judged i none k
         at (no k) =
             let last : i ≡ length types - 1 = omega arith in
-            rw (get_d_any types i none no_type h, last) (holds (is_complementary (latest types)) co)
+            rw (get_or-any types i none no_type h, last) (holds (is_complementary (latest types)) co)
 
 -- the types before the latest were judged
 before-good : (types : List ModuleType) → TypesSound types → TypesGood (types_before types)

@@ -46,10 +46,10 @@ each_snoc {A} Holds as' a each last i none h = go (dec_lt i (length as'))
         let e : i ≡ length as' = omega (arith, length_snoc as' a) in
         rw (e, get_or-append_seam as' a [] none) last
 
-pub get_d_any : {A : Type 0} (as' : List A) (i : ℕ) (d e : A) → i < length as' → get_or as' i d ≡ get_or as' i e
-get_d_any [] i d e h = absurd (not-suc-le-zero h)
-get_d_any (a ∷ as') zero d e h = refl
-get_d_any (a ∷ as') (suc i) d e h = get_d_any as' i d e (le_of_suc-le-suc h)
+pub get_or-any : {A : Type 0} (as' : List A) (i : ℕ) (d e : A) → i < length as' → get_or as' i d ≡ get_or as' i e
+get_or-any [] i d e h = absurd (not-suc-le-zero h)
+get_or-any (a ∷ as') zero d e h = refl
+get_or-any (a ∷ as') (suc i) d e h = get_or-any as' i d e (le_of_suc-le-suc h)
 
 pub some-length : {A : Type 0} (as' : List A) → is_empty as' ≡ false → 1 ≤ length as'
 unfolding is_empty

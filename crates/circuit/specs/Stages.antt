@@ -104,10 +104,10 @@ type_stage types from (broken at) =
     if_passes (judged types (field_place from) (broken at)) (types_before types) from (stopped types (broken at))
 type_stage types from (field f rest) =
     let e = edge_tag_of (tag_of f.tag) in
-    let moreEdges = type_stage (edges_added types (edges_in e (latest types).output f.body)) from rest in
-    let moreTypes = type_stage (types ++ (type_in f.body ∷ [])) (field f rest) rest in
-    let edge = if_passes (first_of (edge_tests e (latest types) f.at f.body)) (types_before types) from moreEdges in
-    let type = if_passes (first_of (type_tests (length types) f.at f.body)) types (field f rest) moreTypes in
+    let more_edges = type_stage (edges_added types (edges_in e (latest types).output f.body)) from rest in
+    let more_types = type_stage (types ++ (type_in f.body ∷ [])) (field f rest) rest in
+    let edge = if_passes (first_of (edge_tests e (latest types) f.at f.body)) (types_before types) from more_edges in
+    let type = if_passes (first_of (type_tests (length types) f.at f.body)) types (field f rest) more_types in
     let next = cond (is_kind type_tag (tag_of f.tag)) type (stopped types (field f rest)) in
     let other = if_passes (judged types (field_place from) (field f rest)) (types_before types) from next in
     cond (is_edge (tag_of f.tag) && not (is_empty types)) edge other

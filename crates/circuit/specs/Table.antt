@@ -134,14 +134,14 @@ bridge_tests count at body =
     ∷ test 7 (not (bridge_in_range (get_or body 0 0) (get_or body 1 0) (get_or body 2 0) (get_or body 3 0))) at
     ∷ []
 
--- with P inputs and `typeCount` types, of a type with k labels, after `count` instances that have `faults` faults; of the chosen list,
+-- with P inputs and `type_count` types, of a type with k labels, after `count` instances that have `faults` faults; of the chosen list,
 -- whether it is unsuited, whether it is empty, and how many faults it gives
 unfoldable pub instance_tests_of : ℕ → ℕ → ℕ → ℕ → ℕ → Bool → Bool → ℕ → ℕ → List ℕ → List Test
-instance_tests_of P typeCount k count faults unsuited empty given at body =
+instance_tests_of P type_count k count faults unsuited empty given at body =
     let i = instance_in body in
     test 5 (not (eqb (length body % 2) 0 && between 4 26 (length body))) at
     ∷ test 6 (leb most_instances count) at
-    ∷ test 7 (not (between 1 typeCount i.type && choice_in_range (signed 128 (get_or body 1 0)))) at
+    ∷ test 7 (not (between 1 type_count i.type && choice_in_range (signed 128 (get_or body 1 0)))) at
     ∷ test 10 (not (eqb (length i.references) k && all_of (reference_good P count) i.references)) at
     ∷ test 11 unsuited at
     ∷ test 12 empty at

@@ -93,9 +93,9 @@ split-tells file head bodies split c accepts =
     ∙ accepted-adds-up (head ++ map vector_field bodies) c (ap reading_of (sym (whole-file head bodies) ∙ sym split.is) ∙ accepts)
 
 pub alike_files_read_alike : AlikeFilesReadAlike
-alike_files_read_alike one other bodies otherBodies files c d accepts accepts' =
+alike_files_read_alike one other bodies other_bodies files c d accepts accepts' =
     let e = split-tells one files.head bodies files.one_split c accepts in
-    let e' = split-tells other files.head otherBodies files.other_split d accepts' in
+    let e' = split-tells other files.head other_bodies files.other_split d accepts' in
     record {
       alike = record {
         inputs = sym (ap (λ (x : Circuit). x.inputs) e) ∙ ap (λ (x : Circuit). x.inputs) e';
@@ -129,11 +129,11 @@ letter_kept a b keeps = go (eqb a 48) (eqb a 49) refl refl
     go false false p q = inl (no_letter a p q)
 
 -- a vector whose field keeps the letters of another's
-letters_refine : (bodies otherBodies : List (List ℕ)) (v w : ℕ) → KeepsLetters (get_or bodies v []) (get_or otherBodies w []) → (i : ℕ)
-    → (given (map vector_in bodies) v i ≡ at_x) ⊎ (given (map vector_in otherBodies) w i ≡ given (map vector_in bodies) v i)
-letters_refine bodies otherBodies v w keeps i =
-    rw (letter_at_lem bodies v i, letter_at_lem otherBodies w i)
-    (letter_kept (get_or (get_or bodies v []) i 0) (get_or (get_or otherBodies w []) i 0) (keeps i))
+letters_refine : (bodies other_bodies : List (List ℕ)) (v w : ℕ) → KeepsLetters (get_or bodies v []) (get_or other_bodies w []) → (i : ℕ)
+    → (given (map vector_in bodies) v i ≡ at_x) ⊎ (given (map vector_in other_bodies) w i ≡ given (map vector_in bodies) v i)
+letters_refine bodies other_bodies v w keeps i =
+    rw (letter_at_lem bodies v i, letter_at_lem other_bodies w i)
+    (letter_kept (get_or (get_or bodies v []) i 0) (get_or (get_or other_bodies w []) i 0) (keeps i))
 
 bodies_refine : (bodies finer : List (List ℕ)) → FinerBodies bodies finer → Refined (map vector_in bodies) (map vector_in finer)
 bodies_refine bodies finer more =
@@ -144,9 +144,9 @@ bodies_refine bodies finer more =
     }
 
 pub finer_files_read_refined : FinerFilesReadRefined
-finer_files_read_refined one finer bodies finerBodies files more c d accepts accepts' =
-    let read = alike_files_read_alike one finer bodies finerBodies files c d accepts accepts' in
-    rw (read.vectors, read.other_vectors) (bodies_refine bodies finerBodies more)
+finer_files_read_refined one finer bodies finer_bodies files more c d accepts accepts' =
+    let read = alike_files_read_alike one finer bodies finer_bodies files c d accepts accepts' in
+    rw (read.vectors, read.other_vectors) (bodies_refine bodies finer_bodies more)
 
 -- ---- two calls that graded such files
 
@@ -160,7 +160,7 @@ rows-counted : (call : Call) (c : Circuit) → GradedAs call c → (counts_of ca
 unfolding grading.counts_of_circuit
 rows-counted call c g = ap (λ (counts : grading.Counts). counts.faults) (gave call c g).counts_are
 
-module _ (one other : Call) (bodies otherBodies : List (List ℕ)) (graded : GradedAlike one other bodies otherBodies) where
+module _ (one other : Call) (bodies other_bodies : List (List ℕ)) (graded : GradedAlike one other bodies other_bodies) where
   abbrev c : Circuit
   c = (graded_as one graded.first).0
 
@@ -173,8 +173,8 @@ module _ (one other : Call) (bodies otherBodies : List (List ℕ)) (graded : Gra
   as_d : GradedAs other d
   as_d = (graded_as other graded.second).1
 
-  read : ReadAlike c d bodies otherBodies
-  read = alike_files_read_alike one.file other.file bodies otherBodies graded.files c d as_c.accepts as_d.accepts
+  read : ReadAlike c d bodies other_bodies
+  read = alike_files_read_alike one.file other.file bodies other_bodies graded.files c d as_c.accepts as_d.accepts
 
   is_row : (r : ℕ) → r < (counts_of one.answer).faults → r < length (rows_of c)
   is_row r h = rw (rows-counted one c as_c) at h
@@ -182,13 +182,13 @@ module _ (one other : Call) (bodies otherBodies : List (List ℕ)) (graded : Gra
   is_vector : (v : ℕ) → v < length bodies → v < length c.vectors
   is_vector v h = rw read.vectors (omega (arith, length-map bodies vector_in))
 
-  is_other_vector : (w : ℕ) → w < length otherBodies → w < length d.vectors
-  is_other_vector w h = rw read.other_vectors (omega (arith, length-map otherBodies vector_in))
+  is_other_vector : (w : ℕ) → w < length other_bodies → w < length d.vectors
+  is_other_vector w h = rw read.other_vectors (omega (arith, length-map other_bodies vector_in))
 
   abbrev cell_of : (r v : ℕ) → r < (counts_of one.answer).faults → v < length bodies → MatrixCell c
   cell_of r v h k = record { row = r; vector = v; is_row = is_row r h; is_vector = is_vector v k }
 
-  abbrev other_cell : (r w : ℕ) → r < (counts_of one.answer).faults → w < length otherBodies → MatrixCell d
+  abbrev other_cell : (r w : ℕ) → r < (counts_of one.answer).faults → w < length other_bodies → MatrixCell d
   other_cell r w h k =
       record { row = r; vector = w; is_row = rw (same_rows c d read.alike) at (is_row r h); is_vector = is_other_vector w k }
 
@@ -199,27 +199,27 @@ module _ (one other : Call) (bodies otherBodies : List (List ℕ)) (graded : Gra
       let t = (rw (same_cell c d read.alike vector row) at ((cell_decides c vector row).0 m)) in
       rw (← same_rows c d read.alike) ((cell_decides d vector row).1 t)
 
-  column : (v w : ℕ) → v < length bodies → w < length otherBodies → get_or bodies v [] ≡ get_or otherBodies w []
+  column : (v w : ℕ) → v < length bodies → w < length other_bodies → get_or bodies v [] ≡ get_or other_bodies w []
       → (r : ℕ) → r < (counts_of one.answer).faults → cell_at one.after.matrix r v ≡ cell_at other.after.matrix r w
   unfolding vector_in
   column v w h k same r l =
       let vector = get_or-map vector_in bodies v [] in
-      let other-vector = get_or-map vector_in otherBodies w [] in
+      let other-vector = get_or-map vector_in other_bodies w [] in
       column_is_of_its_vector one other c d as_c as_d read.alike (cell_of r v l h) (other_cell r w l k) refl
       (rw (read.vectors, read.other_vectors) (vector ∙ ap vector_in same ∙ sym other-vector))
 
-  three : FinerBodies bodies otherBodies → ThreeOfFiles one other bodies
+  three : FinerBodies bodies other_bodies → ThreeOfFiles one other bodies
   three more =
-      let refined = finer_files_read_refined one.file other.file bodies otherBodies graded.files more c d as_c.accepts as_d.accepts in
+      let refined = finer_files_read_refined one.file other.file bodies other_bodies graded.files more c d as_c.accepts as_d.accepts in
       let stands = three_holds one other c d as_c as_d read.alike refined in
       record { marks = λ r v h k. stands.marks (cell_of r v h k); found = stands.found }
 
-  filled : (v w : ℕ) → v < length bodies → w < length otherBodies → KeepsLetters (get_or bodies v []) (get_or otherBodies w [])
+  filled : (v w : ℕ) → v < length bodies → w < length other_bodies → KeepsLetters (get_or bodies v []) (get_or other_bodies w [])
       → (r : ℕ) → r < (counts_of one.answer).faults → cell_at one.after.matrix r v ≡ 1 → cell_at other.after.matrix r w ≡ 1
   unfolding given
   filled v w h k keeps r l mark =
       let refines : (i : ℕ) → (get_or (vector_of c v) i at_x ≡ at_x) ⊎ (get_or (vector_of d w) i at_x ≡ get_or (vector_of c v) i at_x) =
-      rw (read.vectors, read.other_vectors) (letters_refine bodies otherBodies v w keeps) in
+      rw (read.vectors, read.other_vectors) (letters_refine bodies other_bodies v w keeps) in
       let long = (gave other d as_d).good.vectors w [] (is_other_vector w k) ∙ sym read.alike.inputs in
       let marked = marks_hold_under_every_filling one c as_c (cell_of r v l h) mark (vector_of d w) long refines in
       (cell_marked other d (gave other d as_d) (other_cell r w l k)).1 (marked_alike (vector_of d w) r marked)

@@ -28,7 +28,7 @@ use Rattle.demands.specs.Files.{inverter, inverter_under, inverter_listed, nand_
 use Rattle.demands.specs.Graders.{Grader, called}
 use Rattle.demands.specs.Wrong.{marks_all, marks_never, leaves_matrix, first_word_only, invents_found, sweeps_once, one_plane}
 use Rattle.demands.specs.Wrong.{marks_floating, counts_rows, spills, wraps, goes_on}
-use Rattle.demands.specs.Wrong.{is_one, watches_outputs, holds_levels, counts_twice, counts_labels, reads_xAs_zero, keeps_apart, mixes_inner, splits_inputs}
+use Rattle.demands.specs.Wrong.{is_one, watches_outputs, holds_levels, counts_twice, counts_labels, reads_x_as_zero, keeps_apart, mixes_inner, splits_inputs}
 use Rattle.demands.specs.Breaks.{MeetsCells, MeetsClasses, MeetsThree, MeetsThreeByPaths, MeetsFillings}
 use Rattle.demands.specs.Breaks.{BreakDemandOne, BreakDemandTwo, BreakDemandThree}
 use Rattle.demands.proofs.Cells.{cell_decides}
@@ -189,7 +189,7 @@ record Cells : Type 0 where
   goes_on_lem : MarkPast goes_on inverter 0 3
   watches_outputs_lem : CellWrong watches_outputs (nand_listed (nodes 1 3 ∷ []) ("01" ∷ [])) 0 0
   holds_levels_lem : CellWrong holds_levels (nand_listed (nodes 2 3 ∷ []) ("01" ∷ "00" ∷ [])) 0 1
-  reads_x_as_zero : CellWrong reads_xAs_zero inverter 1 2
+  reads_x_as_zero_lem : CellWrong reads_x_as_zero inverter 1 2
   counts_twice_lem : ClassWrong counts_twice listed_twice 0 1
   counts_labels_lem : ClassWrong counts_labels (nand_of_one ("0" ∷ [])) 6 7
   keeps_apart_lem : ClassWrong keeps_apart (driver_and_input ("0" ∷ [])) 0 1
@@ -211,7 +211,7 @@ cells = record {
   goes_on_lem = ((refl, tt), tt, tt, tt, refl);
   watches_outputs_lem = ((refl, tt), tt, tt, refl);
   holds_levels_lem = ((refl, tt), tt, tt, refl);
-  reads_x_as_zero = ((refl, tt), tt, tt, refl);
+  reads_x_as_zero_lem = ((refl, tt), tt, tt, refl);
   counts_twice_lem = ((refl, tt), tt, tt, inr (refl, refl), refl);
   counts_labels_lem = ((refl, tt), tt, tt, inl (refl, refl), refl);
   keeps_apart_lem = ((refl, tt), tt, tt, inl (refl, refl), refl);
@@ -263,7 +263,7 @@ break_demand_two = record {
   goes_on_lem = by-past _ _ _ _ cells.goes_on_lem;
   watches_outputs_lem = by-cell _ _ _ _ cells.watches_outputs_lem;
   holds_levels_lem = by-cell _ _ _ _ cells.holds_levels_lem;
-  reads_x_as_zero = by-cell _ _ _ _ cells.reads_x_as_zero;
+  reads_x_as_zero_lem = by-cell _ _ _ _ cells.reads_x_as_zero_lem;
   invents_found_lem = by_found _ _ _ found_invented;
   counts_rows_lem = by_found _ _ _ found_rows;
   counts_twice_lem = by-class _ _ _ _ cells.counts_twice_lem;
@@ -348,9 +348,9 @@ plane-taken-back : TakenBack one_plane (inverter_at "X") (inverter_at "1") 1 0
 unfolding wrong_computing told_by is_graded cell_at
 plane-taken-back = taken_back one_plane 1 tt tt tt refl refl
 
-zero-taken-back : TakenBack reads_xAs_zero (inverter_at "X") (inverter_at "1") 0 0
+zero-taken-back : TakenBack reads_x_as_zero (inverter_at "X") (inverter_at "1") 0 0
 unfolding wrong_computing told_by is_graded cell_at
-zero-taken-back = taken_back reads_xAs_zero 0 tt tt tt refl refl
+zero-taken-back = taken_back reads_x_as_zero 0 tt tt tt refl refl
 
 is_one_lem : at1 ≡ at_x → ⊥
 unfolding is_one
@@ -380,7 +380,7 @@ paths = record { inverter_0_1 = tt; many_65 = tt }
 pub break_demand_three : BreakDemandThree
 break_demand_three = record {
   one_plane_lem = by-mark _ _ _ _ _ plane-taken-back;
-  reads_x_as_zero = by-mark _ _ _ _ _ zero-taken-back;
+  reads_x_as_zero_lem = by-mark _ _ _ _ _ zero-taken-back;
   marks_never_lem = by-path _ _ _ _ cells.marks_never_lem paths.inverter_0_1;
   first_word_only_lem = by-path _ _ _ _ cells.first_word_only_lem paths.many_65;
   marks_all_lem = all_under_x;

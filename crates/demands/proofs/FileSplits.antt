@@ -22,7 +22,7 @@ use Rattle.circuit.proofs.Verdicts.{first_passes}
 use Rattle.switch.proofs.Deciding.{and_both}
 use Rattle.circuit.proofs.Tested.{holds}
 use Rattle.read_fields.proofs.Cuts.{behind, standing, cut_broken, cut_field}
-use Rattle.demands.specs.Files.{field_bytes as bytesOfField}
+use Rattle.demands.specs.Files.{field_bytes as bytes_of_field}
 use Rattle.demands.specs.AlikeFiles.{TagAndBody, fields_of, not_vector}
 use Rattle.demands.specs.SplitFiles.{AcceptedIsSplit, SplitOnce}
 use Rattle.circuit.proofs.OrderLaws.{tag_byte}
@@ -85,7 +85,7 @@ split_once file head head' bodies bodies' one other =
 module _ (file : List ℕ) (small : (i : ℕ) → get_or file i 0 < 256) where
   -- the bytes of a whole field that stands at an offset, and those behind it
   field_bytes_lem : (at : ℕ) → behind file at ≤ length file
-      → drop at file ≡ bytesOfField (get_or file at 0) (standing file at).body ++ drop (behind file at) file
+      → drop at file ≡ bytes_of_field (get_or file at 0) (standing file at).body ++ drop (behind file at) file
   unfolding two_bytes
   field_bytes_lem at whole =
       drop-cons file at 0 (omega arith)
@@ -148,7 +148,7 @@ module _ (file : List ℕ) (small : (i : ℕ) → get_or file i 0 < 256) where
           let read = ap (read_from true size known) (sym (cut_field file at inside)) ∙ e in
           let fs = later inside (after-verdict (first_of (field_tests known (standing file at))) _ c read) in (
             record { tag = get_or file at 0; body = (standing file at).body } ∷ fs.0,
-            field_bytes_lem at inside ∙ ap (λ (l : List ℕ). bytesOfField (get_or file at 0) (standing file at).body ++ l) fs.1,
+            field_bytes_lem at inside ∙ ap (λ (l : List ℕ). bytes_of_field (get_or file at 0) (standing file at).body ++ l) fs.1,
           )
 
 -- ---- its vectors come last

@@ -22,7 +22,7 @@ use Rattle.grading.specs.Grading.{grading_of}
 use Rattle.demands.specs.Graders.{grades_by, rightly, read_taking, taking_and_testing}
 use Rattle.demands.specs.Files.{inputs_field, type_field, edge_field, instance_field, vector_field, one_under}
 use Rattle.demands.specs.ModuleCheck.{rejudged, field_tests_by, end_tests_by, checks_by, NineAsBefore}
-use Rattle.demands.specs.ModuleCheck.{stops_at_aGood_block, leaves_the_last_out, keeps_the_last_block, WrongChecksAreWrong}
+use Rattle.demands.specs.ModuleCheck.{stops_at_a_good_block, leaves_the_last_out, keeps_the_last_block, WrongChecksAreWrong}
 use Rattle.demands.proofs.Computing.{grader_computing}
 use Rattle.demands.proofs.RightProof.{as_rightly}
 use Rattle.demands.proofs.WrongProof.{NumberDiffers, by_number}
@@ -94,17 +94,17 @@ fails_at_the_last = one_under 1 (type_field 2 2 1 ++ edge_field 1 2 (0 ∷ [])) 
 
 -- each of them is refused by 9, and graded by one of the wrong checks
 record Computed : Type 0 where
-  stops : NumberDiffers (checks_by stops_at_aGood_block) fails_in_the_second
+  stops : NumberDiffers (checks_by stops_at_a_good_block) fails_in_the_second
   leaves : NumberDiffers (checks_by leaves_the_last_out) fails_at_the_last
   keeps : NumberDiffers (checks_by keeps_the_last_block) fails_in_the_first
 
 computed : Computed
-unfolding grader_computing block_holds running_verdict by_blocks rejudged field_tests_by end_tests_by stops_at_aGood_block leaves_the_last_out keeps_the_last_block
+unfolding grader_computing block_holds running_verdict by_blocks rejudged field_tests_by end_tests_by stops_at_a_good_block leaves_the_last_out keeps_the_last_block
 computed = record { stops = refl; leaves = refl; keeps = refl }
 
 pub wrong_checks_are_wrong : WrongChecksAreWrong
 wrong_checks_are_wrong = record {
-  stops_at_a_good_block = by_number (checks_by stops_at_aGood_block) fails_in_the_second computed.stops;
+  stops_at_a_good_block_lem = by_number (checks_by stops_at_a_good_block) fails_in_the_second computed.stops;
   leaves_the_last_out_lem = by_number (checks_by leaves_the_last_out) fails_at_the_last computed.leaves;
   keeps_the_last_block_lem = by_number (checks_by keeps_the_last_block) fails_in_the_first computed.keeps;
 }

@@ -164,19 +164,19 @@ module _ (file : List ℕ) (head : List TagAndBody) (bodies : List (List ℕ)) (
       let whole = accepted-is-whole true file c accepts in
       ready-there (length file) known place bodies c vectors_accepted (omega (arith, as_many, whole.some_vector refl)) whole.some_instance
 
-  pub accepts_others : (other : List ℕ) (otherBodies : List (List ℕ)) → Split other head otherBodies
-      → GoodBodies c.inputs otherBodies → length other ≤ most_bytes → (d : Circuit) × Accepts other d
+  pub accepts_others : (other : List ℕ) (other_bodies : List (List ℕ)) → Split other head other_bodies
+      → GoodBodies c.inputs other_bodies → length other ≤ most_bytes → (d : Circuit) × Accepts other d
   unfolding reading_with
-  accepts_others other otherBodies split' good short =
+  accepts_others other other_bodies split' good short =
       let some = good.some in
       let few = good.few in
-      let later = vectors_read (length other) c.inputs otherBodies known place ready (λ v h. (good.long v h, good.letters v h))
+      let later = vectors_read (length other) c.inputs other_bodies known place ready (λ v h. (good.long v h, good.letters v h))
       (omega (arith, no_vector_yet)) (omega (arith, no_vector_yet)) in (
         later.0,
-        rw (le-ltb most_bytes (length other) short, split-cut other head otherBodies split')
-            (passes_on (length other) (map vector_field otherBodies) ∙ later.1),
+        rw (le-ltb most_bytes (length other) short, split-cut other head other_bodies split')
+            (passes_on (length other) (map vector_field other_bodies) ∙ later.1),
       )
 
 pub other_vectors_are_accepted : OtherVectorsAreAccepted
-other_vectors_are_accepted one other bodies otherBodies files c accepts =
-    accepts_others one files.head bodies files.one_split c accepts other otherBodies files.other_split
+other_vectors_are_accepted one other bodies other_bodies files c accepts =
+    accepts_others one files.head bodies files.one_split c accepts other other_bodies files.other_split

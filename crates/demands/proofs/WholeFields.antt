@@ -16,7 +16,7 @@ use Rattle.circuit.specs.Known.{Known, start, taken, known_after}
 use Rattle.circuit.specs.Table.{Verdict, passes, refused_at, first_of, field_tests, end_tests}
 use Rattle.circuit.specs.Reading.{Reading, accepted, refusal, unless, read_from, reading_of, reading_with}
 use Rattle.read_fields.proofs.Cuts.{behind, standing, cut_clean, cut_field}
-use Rattle.demands.specs.Files.{field_bytes as bytesOfField}
+use Rattle.demands.specs.Files.{field_bytes as bytes_of_field}
 use Rattle.demands.specs.AlikeFiles.{TagAndBody, fields_of}
 
 -- ---- the cut
@@ -32,26 +32,26 @@ cut_of at (f ∷ fs) = field (field_at at f) (cut_of (at + 3 + length f.body) fs
 -- a field that stands behind some bytes and before others
 module _ (before : List ℕ) (f : TagAndBody) (rest : List ℕ) where
   abbrev there : List ℕ
-  there = before ++ (bytesOfField f.tag f.body ++ rest)
+  there = before ++ (bytes_of_field f.tag f.body ++ rest)
 
   its_length : two_bytes there (length before + 1) ≡ length f.body
   unfolding two_bytes
   its_length =
-      let high = get_or-append-add before (bytesOfField f.tag f.body ++ rest) 1 0 in
-      let low = get_or-append-add before (bytesOfField f.tag f.body ++ rest) 2 0 in
+      let high = get_or-append-add before (bytes_of_field f.tag f.body ++ rest) 1 0 in
+      let low = get_or-append-add before (bytes_of_field f.tag f.body ++ rest) 2 0 in
       let two : length before + 1 + 1 ≡ length before + 2 = omega arith in
       rw (two, high, low) (omega arith)
 
-  its_end : behind there (length before) ≡ length (before ++ bytesOfField f.tag f.body)
-  its_end = omega (arith, its_length, length-append before (bytesOfField f.tag f.body))
+  its_end : behind there (length before) ≡ length (before ++ bytes_of_field f.tag f.body)
+  its_end = omega (arith, its_length, length-append before (bytes_of_field f.tag f.body))
 
   inside : behind there (length before) ≤ length there
   inside =
-      omega (arith, its_length, length-append before (bytesOfField f.tag f.body ++ rest), length-append f.body rest)
+      omega (arith, its_length, length-append before (bytes_of_field f.tag f.body ++ rest), length-append f.body rest)
 
   its_body : take (two_bytes there (length before + 1)) (drop (length before + 3) there) ≡ f.body
   its_body =
-      rw (its_length, drop-append-add before (bytesOfField f.tag f.body ++ rest) 3)
+      rw (its_length, drop-append-add before (bytes_of_field f.tag f.body ++ rest) 3)
       (take-append_seam f.body rest)
 
   it_stands : standing there (length before) ≡ field_at (length before) f
@@ -61,10 +61,10 @@ module _ (before : List ℕ) (f : TagAndBody) (rest : List ℕ) where
 
   cut_one : cut_from there (length before)
       ≡ field (field_at (length before) f)
-      (cut_from (before ++ bytesOfField f.tag f.body ++ rest) (length (before ++ bytesOfField f.tag f.body)))
+      (cut_from (before ++ bytes_of_field f.tag f.body ++ rest) (length (before ++ bytes_of_field f.tag f.body)))
   cut_one =
       cut_field there (length before) inside
-      ∙ ap₂ field it_stands (ap₂ cut_from (sym (append_assoc before (bytesOfField f.tag f.body) rest)) its_end)
+      ∙ ap₂ field it_stands (ap₂ cut_from (sym (append_assoc before (bytes_of_field f.tag f.body) rest)) its_end)
 
 pub cut-whole : (before : List ℕ) (fs : List TagAndBody) → cut_from (before ++ fields_of fs) (length before) ≡ cut_of (length before) fs
 unfolding join_lists cut_of
@@ -72,10 +72,10 @@ cut-whole before [] = cut_clean (before ++ []) (length before) (omega (arith, le
 cut-whole before (f ∷ fs) =
     cut_one before f (fields_of fs)
     ∙ ap (field (field_at (length before) f))
-    (cut-whole (before ++ bytesOfField f.tag f.body) fs
+    (cut-whole (before ++ bytes_of_field f.tag f.body) fs
     ∙ ap (λ (at : ℕ). cut_of at fs)
-    (let e : length (before ++ bytesOfField f.tag f.body) ≡ length before + 3 + length f.body =
-    omega (arith, length-append before (bytesOfField f.tag f.body)) in e))
+    (let e : length (before ++ bytes_of_field f.tag f.body) ≡ length before + 3 + length f.body =
+    omega (arith, length-append before (bytes_of_field f.tag f.body)) in e))
 
 -- ---- the circuit
 

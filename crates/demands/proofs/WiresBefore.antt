@@ -17,7 +17,7 @@ use Rattle.circuit.specs.Numbers.{reference_good}
 use Rattle.circuit.specs.Table.{bridge_good}
 use Rattle.circuit.specs.Laws.{CircuitGood}
 use Rattle.circuit.proofs.CircuitLaws.{accepted-is-good}
-use Rattle.circuit.proofs.Tested.{get_d_any}
+use Rattle.circuit.proofs.Tested.{get_or-any}
 use Rattle.grading.specs.Rows.{Row, rows_of}
 use Rattle.grading.specs.Wires.{Wire, ground_wire, supply_wire, input_wire, output_wire, inner_wire, node_wire, reference_wire, label_wire}
 use Rattle.grading.specs.Wires.{End, one_end, other_end, wire_at, wire_of}
@@ -189,9 +189,9 @@ module _ (c : Circuit) (good : CircuitGood c) (r s : Row) (p : RowOf c r) (q : R
   wires_equal (input m l) (input x k) named also (inl e) = (
     node_eq m x e.0,
     λ none.
-        get_d_any r.instance.references l none (primary 0) (named m l refl)
+        get_or-any r.instance.references l none (primary 0) (named m l refl)
         ∙ same-reference _ _ e.1
-        ∙ get_d_any r.instance.references k (primary 0) none (also x k refl),
+        ∙ get_or-any r.instance.references k (primary 0) none (also x k refl),
   )
   wires_equal (input m l) (input x k) named also (inr e) = absurd (node_not_label c good r p m k e.0)
 

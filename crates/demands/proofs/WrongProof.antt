@@ -16,7 +16,7 @@ use Rattle.demands.specs.Wrong.{refuses_every, without, skips, marks_all, marks_
 use Rattle.demands.specs.Wrong.{label_marked, marked_by, lower_node, put_in, in_node_order, handed_on, swept, sweeps_once, is_one, unlike, one_plane_marked, one_plane}
 use Rattle.demands.specs.Wrong.{is_zero, same_level, unequal_ends, marks_floating, rows_found, counts_rows, packed63, spills, packed_first, wraps, goes_on}
 use Rattle.demands.specs.Wrong.{changes_output, watches_outputs, held, row_values_at, level_at, held_level, held_marked, holds_levels}
-use Rattle.demands.specs.Wrong.{same_as_written, counts_twice, same_label_too, counts_labels, zero_for_x, zeroed, reads_xAs_zero, keeps_apart, without_instance, mixes_inner, input_of_instance, splits_inputs, clearing_next, writes_past, clears_first}
+use Rattle.demands.specs.Wrong.{same_as_written, counts_twice, same_label_too, counts_labels, zero_for_x, zeroed, reads_x_as_zero, keeps_apart, without_instance, mixes_inner, input_of_instance, splits_inputs, clearing_next, writes_past, clears_first}
 use Rattle.demands.specs.Wrong.{RefusesEveryIsWrong, SkipsNineIsWrong, SkipsFourteenIsWrong, MarksAllIsWrong, MarksNeverIsWrong, LeavesMatrixIsWrong, FirstWordOnlyIsWrong, InventsFoundIsWrong}
 use Rattle.demands.specs.Wrong.{SweepsOnceIsWrong, OnePlaneIsWrong, MarksFloatingIsWrong, CountsRowsIsWrong, SpillsIsWrong, WrapsIsWrong, GoesOnIsWrong}
 use Rattle.demands.specs.Wrong.{WatchesOutputsIsWrong, HoldsLevelsIsWrong, CountsTwiceIsWrong, CountsLabelsIsWrong, ReadsXAsZeroIsWrong, KeepsApartIsWrong, MixesInnerIsWrong, SplitsInputsIsWrong, WritesPastIsWrong, ClearsFirstIsWrong}
@@ -29,7 +29,7 @@ unfolding grader_computing
     label_marked marked_by lower_node put_in in_node_order handed_on swept sweeps_once is_one unlike one_plane_marked one_plane
     is_zero same_level unequal_ends marks_floating rows_found counts_rows packed63 spills packed_first wraps goes_on
     changes_output watches_outputs held row_values_at level_at held_level held_marked holds_levels
-    same_as_written counts_twice same_label_too counts_labels zero_for_x zeroed reads_xAs_zero keeps_apart without_instance mixes_inner input_of_instance splits_inputs is_graded clearing_next writes_past clears_first
+    same_as_written counts_twice same_label_too counts_labels zero_for_x zeroed reads_x_as_zero keeps_apart without_instance mixes_inner input_of_instance splits_inputs is_graded clearing_next writes_past clears_first
 wrong_computing = tt
 
 -- ---- where an outcome differs from the promise, the promise is not met
@@ -118,7 +118,7 @@ record Computed : Type 0 where
   counts_twice_lem : ClassDiffers counts_twice listed_twice 1
   -- node 0 with label 0, then with label 1: rows 6 and 7
   counts_labels_lem : ClassDiffers counts_labels (nand_of_one ("0" ∷ [])) 7
-  reads_x_as_zero : WordDiffers reads_xAs_zero inverter 4
+  reads_x_as_zero_lem : WordDiffers reads_x_as_zero inverter 4
   -- the second row names the first's wires; the second NAND's node 3 is not the first's
   keeps_apart_lem : ClassDiffers keeps_apart (driver_and_input ("0" ∷ [])) 1
   mixes_inner_lem : ClassDiffers mixes_inner (two_nands ("00" ∷ [])) 1
@@ -150,7 +150,7 @@ computed = record {
   holds_levels_lem = refl;
   counts_twice_lem = refl;
   counts_labels_lem = refl;
-  reads_x_as_zero = refl;
+  reads_x_as_zero_lem = refl;
   keeps_apart_lem = refl;
   mixes_inner_lem = refl;
   splits_inputs_lem = refl;
@@ -227,7 +227,7 @@ pub splits_inputs_is_wrong : SplitsInputsIsWrong
 splits_inputs_is_wrong = by-class _ _ _ computed.splits_inputs_lem
 
 pub reads_x_as_zero_is_wrong : ReadsXAsZeroIsWrong
-reads_x_as_zero_is_wrong = by_word blank _ _ _ computed.reads_x_as_zero
+reads_x_as_zero_is_wrong = by_word blank _ _ _ computed.reads_x_as_zero_lem
 
 pub writes_past_is_wrong : WritesPastIsWrong
 writes_past_is_wrong = by_word ones _ _ _ computed.writes_past_lem

@@ -39,10 +39,10 @@ pub record Split (file : List ℕ) (head : List TagAndBody) (bodies : List (List
   pub is : file ≡ fields_of head ++ vector_fields_of bodies
 
 -- the same fields before the first vector
-pub record AlikeFiles (one other : List ℕ) (bodies otherBodies : List (List ℕ)) : Type 0 where
+pub record AlikeFiles (one other : List ℕ) (bodies other_bodies : List (List ℕ)) : Type 0 where
   pub head : List TagAndBody
   pub one_split : Split one head bodies
-  pub other_split : Split other head otherBodies
+  pub other_split : Split other head other_bodies
 
 -- the second body has the same byte wherever the first has 0 or 1, in ASCII 48 or 49: so where each X, 88, is filled, or some, or none
 abbrev pub KeepsLetters : List ℕ → List ℕ → Type 0
@@ -76,19 +76,19 @@ pub record GoodBodies (P : ℕ) (bodies : List (List ℕ)) : Type 0 where
 -- ---- how they are read
 
 -- circuits alike but for their vectors, and each vector is what the letters of its field say
-pub record ReadAlike (c d : Circuit) (bodies otherBodies : List (List ℕ)) : Type 0 where
+pub record ReadAlike (c d : Circuit) (bodies other_bodies : List (List ℕ)) : Type 0 where
   pub alike : AlikeButVectors c d
   pub vectors : c.vectors ≡ map vector_in bodies
-  pub other_vectors : d.vectors ≡ map vector_in otherBodies
+  pub other_vectors : d.vectors ≡ map vector_in other_bodies
 
 abbrev pub AlikeFilesReadAlike : Type 0
 AlikeFilesReadAlike =
-    (one other : List ℕ) (bodies otherBodies : List (List ℕ)) → AlikeFiles one other bodies otherBodies
-    → (c d : Circuit) → Accepts one c → Accepts other d → ReadAlike c d bodies otherBodies
+    (one other : List ℕ) (bodies other_bodies : List (List ℕ)) → AlikeFiles one other bodies other_bodies
+    → (c d : Circuit) → Accepts one c → Accepts other d → ReadAlike c d bodies other_bodies
 
 abbrev pub FinerFilesReadRefined : Type 0
 FinerFilesReadRefined =
-    (one finer : List ℕ) (bodies finerBodies : List (List ℕ)) → AlikeFiles one finer bodies finerBodies → FinerBodies bodies finerBodies
+    (one finer : List ℕ) (bodies finer_bodies : List (List ℕ)) → AlikeFiles one finer bodies finer_bodies → FinerBodies bodies finer_bodies
     → (c d : Circuit) → Accepts one c → Accepts finer d → Refined c.vectors d.vectors
 
 -- ---- the demands of two calls that graded such files
@@ -98,10 +98,10 @@ pub record GradedItsFile (call : Call) : Type 0 where
   pub graded : T (is_graded call.answer)
 
 -- the files of two calls that graded them
-pub record GradedAlike (one other : Call) (bodies otherBodies : List (List ℕ)) : Type 0 where
+pub record GradedAlike (one other : Call) (bodies other_bodies : List (List ℕ)) : Type 0 where
   pub first : GradedItsFile one
   pub second : GradedItsFile other
-  pub files : AlikeFiles one.file other.file bodies otherBodies
+  pub files : AlikeFiles one.file other.file bodies other_bodies
 
 -- the rows are the same, and so are their classes, whatever the vectors
 pub record SameRows (one other : Call) : Type 0 where
@@ -111,13 +111,13 @@ pub record SameRows (one other : Call) : Type 0 where
 
 abbrev pub RowsAreOfTheHead : Type 0
 RowsAreOfTheHead =
-    (one other : Call) (bodies otherBodies : List (List ℕ)) → GradedAlike one other bodies otherBodies → SameRows one other
+    (one other : Call) (bodies other_bodies : List (List ℕ)) → GradedAlike one other bodies other_bodies → SameRows one other
 
 -- demand 2: columns of equal vector fields are equal, wherever in the two files they stand
 abbrev pub ColumnIsOfItsField : Type 0
 ColumnIsOfItsField =
-    (one other : Call) (bodies otherBodies : List (List ℕ)) → GradedAlike one other bodies otherBodies
-    → (v w : ℕ) → v < length bodies → w < length otherBodies → get_or bodies v [] ≡ get_or otherBodies w []
+    (one other : Call) (bodies other_bodies : List (List ℕ)) → GradedAlike one other bodies other_bodies
+    → (v w : ℕ) → v < length bodies → w < length other_bodies → get_or bodies v [] ≡ get_or other_bodies w []
     → (r : ℕ) → r < (counts_of one.answer).faults → cell_at one.after.matrix r v ≡ cell_at other.after.matrix r w
 
 -- demand 3: each mark stands in the same row and column, and the found count is no smaller
@@ -128,14 +128,14 @@ pub record ThreeOfFiles (one finer : Call) (bodies : List (List ℕ)) : Type 0 w
 
 abbrev pub ThreeHoldsOfFiles : Type 0
 ThreeHoldsOfFiles =
-    (one finer : Call) (bodies finerBodies : List (List ℕ)) → GradedAlike one finer bodies finerBodies → FinerBodies bodies finerBodies
+    (one finer : Call) (bodies finer_bodies : List (List ℕ)) → GradedAlike one finer bodies finer_bodies → FinerBodies bodies finer_bodies
     → ThreeOfFiles one finer bodies
 
 -- so a mark that was made with X stands in every graded file that has its vector's field filled, at whichever place and beside any others
 abbrev pub MarksHoldInEveryFilledFile : Type 0
 MarksHoldInEveryFilledFile =
-    (one other : Call) (bodies otherBodies : List (List ℕ)) → GradedAlike one other bodies otherBodies
-    → (v w : ℕ) → v < length bodies → w < length otherBodies → KeepsLetters (get_or bodies v []) (get_or otherBodies w [])
+    (one other : Call) (bodies other_bodies : List (List ℕ)) → GradedAlike one other bodies other_bodies
+    → (v w : ℕ) → v < length bodies → w < length other_bodies → KeepsLetters (get_or bodies v []) (get_or other_bodies w [])
     → (r : ℕ) → r < (counts_of one.answer).faults → cell_at one.after.matrix r v ≡ 1 → cell_at other.after.matrix r w ≡ 1
 
 -- ---- the same where nothing is known of the second call but its file: in buffers that are no smaller it has graded that too
@@ -150,10 +150,10 @@ pub record NoLessRoom (room more : Room) : Type 0 where
   pub entries : room.entries ≤ more.entries
 
 -- two calls with such files, the first of which graded its own
-pub record CalledAlike (one other : Call) (bodies otherBodies : List (List ℕ)) : Type 0 where
+pub record CalledAlike (one other : Call) (bodies other_bodies : List (List ℕ)) : Type 0 where
   pub first : GradedItsFile one
   pub second : Kept other
-  pub files : AlikeFiles one.file other.file bodies otherBodies
+  pub files : AlikeFiles one.file other.file bodies other_bodies
   pub room : NoLessRoom (room_of one.before) (room_of other.before)
 
 -- fill X's, in whichever way

@@ -19,7 +19,7 @@ use Rattle.demands.specs.NoConverse.{Filling}
 use Rattle.demands.specs.Graders.{Grader, called, Work, grades_by, rightly}
 use Rattle.demands.specs.Wrong.{marking, refuses_every, skips, marks_all, marks_never, leaves_matrix, first_word_only, invents_found}
 use Rattle.demands.specs.Wrong.{sweeps_once, one_plane, marks_floating, counts_rows, spills, wraps, goes_on}
-use Rattle.demands.specs.Wrong.{watches_outputs, holds_levels, counts_twice, counts_labels, reads_xAs_zero, keeps_apart, mixes_inner}
+use Rattle.demands.specs.Wrong.{watches_outputs, holds_levels, counts_twice, counts_labels, reads_x_as_zero, keeps_apart, mixes_inner}
 use Rattle.demands.specs.Wrong.{splits_inputs, writes_past, clears_first}
 
 -- demand 1 holds of every call
@@ -141,7 +141,7 @@ pub record BreakDemandTwo : Type 0 where
   pub goes_on_lem : MeetsCells goes_on → ⊥
   pub watches_outputs_lem : MeetsCells watches_outputs → ⊥
   pub holds_levels_lem : MeetsCells holds_levels → ⊥
-  pub reads_x_as_zero : MeetsCells reads_xAs_zero → ⊥
+  pub reads_x_as_zero_lem : MeetsCells reads_x_as_zero → ⊥
   pub invents_found_lem : MeetsClasses invents_found → ⊥
   pub counts_rows_lem : MeetsClasses counts_rows → ⊥
   pub counts_twice_lem : MeetsClasses counts_twice → ⊥
@@ -154,7 +154,7 @@ pub record BreakDemandTwo : Type 0 where
 -- leave marks out; under fillings, by one that marks all
 pub record BreakDemandThree : Type 0 where
   pub one_plane_lem : MeetsThree one_plane → ⊥
-  pub reads_x_as_zero : MeetsThree reads_xAs_zero → ⊥
+  pub reads_x_as_zero_lem : MeetsThree reads_x_as_zero → ⊥
   pub marks_never_lem : MeetsThreeByPaths marks_never → ⊥
   pub first_word_only_lem : MeetsThreeByPaths first_word_only → ⊥
   pub marks_all_lem : MeetsFillings marks_all → ⊥

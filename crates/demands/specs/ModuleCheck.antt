@@ -39,8 +39,8 @@ pub record NineAsBefore : Type 0 where
 -- ---- wrong checks
 
 -- says yes at the first block that holds
-unfoldable pub stops_at_aGood_block : ModuleType → Bool
-stops_at_aGood_block t = not (all_below (blocks_of t.labels) (λ (block : ℕ). not (block_holds t block)))
+unfoldable pub stops_at_a_good_block : ModuleType → Bool
+stops_at_a_good_block t = not (all_below (blocks_of t.labels) (λ (block : ℕ). not (block_holds t block)))
 
 -- leaves the last setting out where the settings do not fill a block
 unfoldable pub leaves_the_last_out : ModuleType → Bool
@@ -51,6 +51,6 @@ unfoldable pub keeps_the_last_block : ModuleType → Bool
 keeps_the_last_block t = block_holds t (blocks_of t.labels - 1)
 
 pub record WrongChecksAreWrong : Type 0 where
-  pub stops_at_a_good_block : MeetsPromise (checks_by stops_at_aGood_block) → ⊥
+  pub stops_at_a_good_block_lem : MeetsPromise (checks_by stops_at_a_good_block) → ⊥
   pub leaves_the_last_out_lem : MeetsPromise (checks_by leaves_the_last_out) → ⊥
   pub keeps_the_last_block_lem : MeetsPromise (checks_by keeps_the_last_block) → ⊥

@@ -23,8 +23,8 @@ SplitOnce =
 
 abbrev pub OtherVectorsAreAccepted : Type 0
 OtherVectorsAreAccepted =
-    (one other : List ℕ) (bodies otherBodies : List (List ℕ)) → AlikeFiles one other bodies otherBodies
-    → (c : Circuit) → Accepts one c → GoodBodies c.inputs otherBodies → length other ≤ most_bytes
+    (one other : List ℕ) (bodies other_bodies : List (List ℕ)) → AlikeFiles one other bodies other_bodies
+    → (c : Circuit) → Accepts one c → GoodBodies c.inputs other_bodies → length other ≤ most_bytes
     → (d : Circuit) × Accepts other d
 
 abbrev pub FillingsAreAccepted : Type 0
@@ -35,14 +35,14 @@ FillingsAreAccepted =
 -- ---- not any head
 
 -- any bytes for a head
-pub record AlikeAfterBytes (one other : List ℕ) (bodies otherBodies : List (List ℕ)) : Type 0 where
+pub record AlikeAfterBytes (one other : List ℕ) (bodies other_bodies : List (List ℕ)) : Type 0 where
   pub head : List ℕ
   pub one_is : one ≡ head ++ vector_fields_of bodies
-  pub other_is : other ≡ head ++ vector_fields_of otherBodies
+  pub other_is : other ≡ head ++ vector_fields_of other_bodies
 
 abbrev pub AnyHeadReadsAlike : Type 0
 AnyHeadReadsAlike =
-    (one other : List ℕ) (bodies otherBodies : List (List ℕ)) → AlikeAfterBytes one other bodies otherBodies
+    (one other : List ℕ) (bodies other_bodies : List (List ℕ)) → AlikeAfterBytes one other bodies other_bodies
     → (c d : Circuit) → Accepts one c → Accepts other d → AlikeButVectors c d
 
 abbrev pub NotAnyHead : Type 0

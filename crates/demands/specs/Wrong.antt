@@ -110,9 +110,9 @@ InventsFoundIsWrong = MeetsPromise invents_found → ⊥
 
 -- the mark rule by the ends, from a test for nodes that are joined
 unfoldable pub label_marked : Value → Bool → Bool → Bool
-label_marked at1 to-supply to-ground = to-ground
-label_marked at0 to-supply to-ground = to-supply
-label_marked at_x to-supply to-ground = false
+label_marked at1 to_supply to_ground = to_ground
+label_marked at0 to_supply to_ground = to_supply
+label_marked at_x to_supply to_ground = false
 
 unfoldable pub marked_by : (ℕ → ℕ → Bool) → (ℕ → Value) → Bridge → Bool
 marked_by joined values (nodes a b) = joined a supply && joined b ground || joined a ground && joined b supply
@@ -312,11 +312,11 @@ zeroed c = record {
   vectors = map (map zero_for_x) c.vectors;
 }
 
-unfoldable pub reads_xAs_zero : Grader
-reads_xAs_zero = marking λ (c : Circuit). mark_of (zeroed c)
+unfoldable pub reads_x_as_zero : Grader
+reads_x_as_zero = marking λ (c : Circuit). mark_of (zeroed c)
 
 abbrev pub ReadsXAsZeroIsWrong : Type 0
-ReadsXAsZeroIsWrong = MeetsPromise reads_xAs_zero → ⊥
+ReadsXAsZeroIsWrong = MeetsPromise reads_x_as_zero → ⊥
 
 -- ---- 02, "One wire, one short"
 

@@ -12,7 +12,7 @@ use Rattle.circuit.specs.Laws.{CircuitGood}
 use Rattle.grading.specs.Rows.{Row, row_with, rows_of_instance, rows_of}
 use Rattle.grading.specs.Classes.{same_class, classes_by, classes_of}
 use Rattle.grading.specs.Codes.{code_of}
-use Rattle.grading.proofs.Lists.{get_d_map}
+use Rattle.grading.proofs.Lists.{get_or-map_any}
 use Rattle.grading.proofs.FaultRanges.{BridgeFits}
 use Rattle.grading.proofs.RecordReads.{references_of}
 use Rattle.grading.proofs.Everywhere.{Every, every_at}
@@ -42,7 +42,7 @@ keys_are c n inst codes from to d fit long are =
     sym (is-table 0 (to - from) (λ (j : ℕ). key (get_or codes (from + j) 0)) (map row_key rows)
     (length-map rows row_key ∙ many ∙ sym long)
     (λ j h.
-    get_d_map row_key rows j (row d) 0 (omega (arith, many, long))
-    ∙ ap row_key (get_d_map row faults j d (row d) (omega (arith, long)))
+    get_or-map_any row_key rows j (row d) 0 (omega (arith, many, long))
+    ∙ ap row_key (get_or-map_any row faults j d (row d) (omega (arith, long)))
     ∙ sym (key-is (row (get_or faults j d)) (every_at BridgeFits faults fit j d (omega (arith, long))))
     ∙ ap key (sym (are j h))))

@@ -38,7 +38,7 @@ use Rattle.grading.specs.Codes.{code_of}
 use Rattle.grading.proofs.ValueLaws.{InstanceAt, good_at, type_at, type-ranges}
 use Rattle.grading.proofs.RecordReads.{references_of, instance_is, type_read_lem}
 use Rattle.grading.proofs.RowLaws.{rows_before, grown as rows_grown, rows_all, length_rows, rows_grow, rows_few, rows_within, few_rows, faults_at}
-use Rattle.grading.proofs.Lists.{get_d_map}
+use Rattle.grading.proofs.Lists.{get_or-map_any}
 use Rattle.grading.proofs.FaultRanges.{faults-fit}
 use Rattle.grading.proofs.MatrixLaws.{length_matrix, matrix_append}
 use Rattle.grade_rows.specs.Model.{instance_codes, RowsListed}
@@ -276,7 +276,7 @@ module _ (c : Circuit) (good : CircuitGood c) (m : CircuitRecord) (is : m ≡ ci
               let tied = (all_of_lem (reference_good c.inputs i) (primary 0) inst.references).0 g.references l here in
               let is_at : get_or (references_of inst) l unused_reference ≡ reference_record (get_or inst.references l (primary 0))
               = get_or-padded unused_reference 12 (map reference_record inst.references) unused_reference l (omega (arith, few))
-              ∙ get_d_map reference_record inst.references l (primary 0) unused_reference here in
+              ∙ get_or-map_any reference_record inst.references l (primary 0) unused_reference here in
               rw is_at (number-range c.inputs i (get_or inst.references l (primary 0)) good.few_inputs place_few tied)
 
 -- ---- one turn, with e and u what stands past the places for instances and types

@@ -146,24 +146,24 @@ module _ (t : ModuleType) (accepted : Accepted t) (values : ℕ → Value) where
         at_0 (inl (f, j)) = absurd (at1≢at0 (sym f ∙ e))
         at_0 (inr (f, j)) = tested m supply j
     input_mark at_x e =
-        let same = same_test false (is_marked t values b) (λ p. absurd p) (λ p. at_X (by_ends b p)) in
+        let same = same_test false (is_marked t values b) (λ p. absurd p) (λ p. at_x_lem (by_ends b p)) in
         omega (arith, ap of_bool same)
       where
-        at_X : MarkedByEnds t values b → T false
-        at_X (inl (f, j)) = absurd (at_x≢at1 (sym e ∙ f))
-        at_X (inr (f, j)) = absurd (at_x≢at0 (sym e ∙ f))
+        at_x_lem : MarkedByEnds t values b → T false
+        at_x_lem (inl (f, j)) = absurd (at_x≢at1 (sym e ∙ f))
+        at_x_lem (inr (f, j)) = absurd (at_x≢at0 (sym e ∙ f))
 
 -- ---- a code's word
 
-module _ (toSupply toGround ones zeros : List ℕ) (w : ℕ) where
+module _ (to_supply to_ground ones zeros : List ℕ) (w : ℕ) where
   nodes_word : (n a b : ℕ) → a < 32 → b < 32
-      → mark_word toSupply toGround ones zeros (code_of n (nodes a b)) w ≡ pair_word toSupply toGround (4 * a + w) (4 * b + w)
+      → mark_word to_supply to_ground ones zeros (code_of n (nodes a b)) w ≡ pair_word to_supply to_ground (4 * a + w) (4 * b + w)
   unfolding mark_word kind_of first_end second_end
   nodes_word n a b ha hb =
       let d : Bridge = nodes a b in rw (code_kind n d (ha, hb), code_first n d (ha, hb), code_second n d (ha, hb))
 
   input_word_lem : (n m l : ℕ) → m < 32 → l < 12
-      → mark_word toSupply toGround ones zeros (code_of n (input m l)) w ≡ input_mark_word toSupply toGround ones zeros (4 * m + w) (4 * l + w)
+      → mark_word to_supply to_ground ones zeros (code_of n (input m l)) w ≡ input_mark_word to_supply to_ground ones zeros (4 * m + w) (4 * l + w)
   unfolding mark_word kind_of first_end second_end
   input_word_lem n m l hm hl =
       let d : Bridge = input m l in rw (code_kind n d (hm, hl), code_first n d (hm, hl), code_second n d (hm, hl))

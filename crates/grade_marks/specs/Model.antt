@@ -68,9 +68,9 @@ pub record InstanceWords : Type 0 where
   pub rounds : ℕ
 
 abbrev pub instance_words : ModuleType → List ReferenceRecord → List ℕ → List ℕ → InstanceWords
-instance_words t references signalOnes signalZeros =
-    let ones = label_planes references t.labels signalOnes in
-    let zeros = label_planes references t.labels signalZeros in
+instance_words t references signal_ones signal_zeros =
+    let ones = label_planes references t.labels signal_ones in
+    let zeros = label_planes references t.labels signal_zeros in
     record {
       supply = four_rail_words t ones zeros supply;
       ground = four_rail_words t ones zeros ground;
@@ -81,29 +81,29 @@ instance_words t references signalOnes signalZeros =
 
 -- the output's planes, four words each
 unfoldable pub output_ones : List ℕ → List ℕ → ℕ → List ℕ
-output_ones toSupply toGround node =
-    table 4 (λ (w : ℕ). (planes_of (get_or toSupply (4 * node + w) 0) (get_or toGround (4 * node + w) 0)).ones)
+output_ones to_supply to_ground node =
+    table 4 (λ (w : ℕ). (planes_of (get_or to_supply (4 * node + w) 0) (get_or to_ground (4 * node + w) 0)).ones)
 
 unfoldable pub output_zeros : List ℕ → List ℕ → ℕ → List ℕ
-output_zeros toSupply toGround node =
-    table 4 (λ (w : ℕ). (planes_of (get_or toSupply (4 * node + w) 0) (get_or toGround (4 * node + w) 0)).zeros)
+output_zeros to_supply to_ground node =
+    table 4 (λ (w : ℕ). (planes_of (get_or to_supply (4 * node + w) 0) (get_or to_ground (4 * node + w) 0)).zeros)
 
 -- ---- mark words
 
 unfoldable pub pair_word : List ℕ → List ℕ → ℕ → ℕ → ℕ
-pair_word toSupply toGround a b =
-    bit_or (bit_and (get_or toSupply a 0) (get_or toGround b 0)) (bit_and (get_or toGround a 0) (get_or toSupply b 0))
+pair_word to_supply to_ground a b =
+    bit_or (bit_and (get_or to_supply a 0) (get_or to_ground b 0)) (bit_and (get_or to_ground a 0) (get_or to_supply b 0))
 
 unfoldable pub input_mark_word : List ℕ → List ℕ → List ℕ → List ℕ → ℕ → ℕ → ℕ
-input_mark_word toSupply toGround ones zeros m l =
-    bit_or (bit_and (get_or ones l 0) (get_or toGround m 0)) (bit_and (get_or zeros l 0) (get_or toSupply m 0))
+input_mark_word to_supply to_ground ones zeros m l =
+    bit_or (bit_and (get_or ones l 0) (get_or to_ground m 0)) (bit_and (get_or zeros l 0) (get_or to_supply m 0))
 
 -- word w of a row, from its code
 unfoldable pub mark_word : List ℕ → List ℕ → List ℕ → List ℕ → ℕ → ℕ → ℕ
-mark_word toSupply toGround ones zeros row w =
+mark_word to_supply to_ground ones zeros row w =
     cond (eqb (kind_in row) 0)
-    (pair_word toSupply toGround (4 * first_in row + w) (4 * second_in row + w))
-    (input_mark_word toSupply toGround ones zeros (4 * first_in row + w) (4 * second_in row + w))
+    (pair_word to_supply to_ground (4 * first_in row + w) (4 * second_in row + w))
+    (input_mark_word to_supply to_ground ones zeros (4 * first_in row + w) (4 * second_in row + w))
 
 -- the places of the vectors in word w
 unfoldable pub vectors_in : ℕ → ℕ → ℕ
@@ -111,14 +111,14 @@ vectors_in vectors w = first_ones (vectors - 64 * w)
 
 -- the four words of a row, under masks
 unfoldable pub row_under_masks : List ℕ → List ℕ → List ℕ → List ℕ → List ℕ → ℕ → List ℕ
-row_under_masks toSupply toGround ones zeros masks row =
-    table 4 (λ (w : ℕ). bit_and (mark_word toSupply toGround ones zeros row w) (get_or masks w 0))
+row_under_masks to_supply to_ground ones zeros masks row =
+    table 4 (λ (w : ℕ). bit_and (mark_word to_supply to_ground ones zeros row w) (get_or masks w 0))
 
 -- the words of an instance's rows, from one place to another
 unfoldable pub rows_words : List ℕ → List ℕ → List ℕ → List ℕ → List ℕ → ℕ → ℕ → ℕ → List ℕ
-rows_words rows toSupply toGround ones zeros vectors from to =
+rows_words rows to_supply to_ground ones zeros vectors from to =
     table (4 * (to - from)) (λ (i : ℕ).
-    bit_and (mark_word toSupply toGround ones zeros (get_or rows (from + i / 4) 0) (i % 4)) (vectors_in vectors (i % 4)))
+    bit_and (mark_word to_supply to_ground ones zeros (get_or rows (from + i / 4) 0) (i % 4)) (vectors_in vectors (i % 4)))
 
 -- what marking an instance asks, with t its type's record: its type and references are in range, and there is room for its rows and its
 -- output

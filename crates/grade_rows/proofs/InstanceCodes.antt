@@ -25,7 +25,7 @@ use Rattle.grading.specs.Codes.{kind_of, first_end, second_end, code_of, CodeFit
 use Rattle.grading.proofs.CodeLaws.{code_fits}
 use Rattle.grading.proofs.Everywhere.{Every, every_at, every_map}
 use Rattle.grading.proofs.FaultRanges.{faults-fit}
-use Rattle.grading.proofs.Lists.{get_d_map}
+use Rattle.grading.proofs.Lists.{get_or-map_any}
 use Rattle.grading.proofs.RecordReads.{bridges_are, choice_is, type_read, highest_is, labels_are}
 use Rattle.grading.proofs.RowLaws.{faults_at}
 use Rattle.grade_rows.specs.Model.{listed_codes, instance_codes, RowsListed}
@@ -159,7 +159,7 @@ module _ (c : Circuit) (good : CircuitGood c) (r : CircuitRecord) (is : r ≡ ci
         ∙ ap (λ (l : List ℕ). get_or l j 0) instance_codes_lem
 
     pub listed_at : (j : ℕ) → j < length (faults_at c d i) → (b : Bridge) → get_or buffer' (from + j) 0 ≡ code_of (suc i) (get_or (faults_at c d i) j b)
-    listed_at j q b = listed_here j q ∙ get_d_map (code_of (suc i)) (faults_at c d i) j b 0 q
+    listed_at j q b = listed_here j q ∙ get_or-map_any (code_of (suc i)) (faults_at c d i) j b 0 q
 
     pub listed_fit : CodesFit buffer' from to
     unfolding CodesFit

@@ -19,12 +19,12 @@ use Rattle.circuit.proofs.Padding.{get_or-padded}
 use Rattle.switch.proofs.Channels.{in_between}
 use Rattle.circuit.proofs.TypeLaws.{take_padded}
 use Rattle.grading.proofs.FaultRanges.{types-fit}
-use Rattle.grading.proofs.Lists.{get_d_map}
+use Rattle.grading.proofs.Lists.{get_or-map_any}
 
 -- an element of a list in the first of n places
 placed : {A B : Type 0} (f : A → B) (n : ℕ) (none d : B) (as' : List A) (i : ℕ) (a : A) → i < length as' → length as' ≤ n
     → get_or (padded n none (map f as')) i d ≡ f (get_or as' i a)
-placed f n none d as' i a h few = get_or-padded none n (map f as') d i (omega arith) ∙ get_d_map f as' i a none h
+placed f n none d as' i a h few = get_or-padded none n (map f as') d i (omega arith) ∙ get_or-map_any f as' i a none h
 
 type_placed : (types : List ModuleType) (d : TypeRecord) (n : ℕ) → 1 ≤ n → n ≤ length types → length types ≤ most_types
     → get_or (padded most_types unused_type (map type_record types)) (n - 1) d ≡ type_record (numbered types n no_type)

@@ -54,15 +54,15 @@ no_level o h = rw (ne_eqb o supply (λ e. omega arith), ne_eqb o ground (λ e. o
 
 -- the labels of an instance where the outputs before it are X
 module _ (outputs : List Value) (unknown : NoneKnown outputs) (inst : Instance) where
-  value_X : (r : Reference) → value_at [] outputs r ≡ at_x
+  value_x : (r : Reference) → value_at [] outputs r ≡ at_x
   unfolding value_at numbered
-  value_X (primary zero) = refl
-  value_X (primary (suc n)) = refl
-  value_X (output_of zero) = refl
-  value_X (output_of (suc j)) = unknown j
+  value_x (primary zero) = refl
+  value_x (primary (suc n)) = refl
+  value_x (output_of zero) = refl
+  value_x (output_of (suc j)) = unknown j
 
-  labels_X : AllX (label_values [] outputs inst)
-  labels_X l = label_value [] outputs inst l ∙ value_X (get_or inst.references l (primary 0))
+  labels_x : AllX (label_values [] outputs inst)
+  labels_x l = label_value [] outputs inst l ∙ value_x (get_or inst.references l (primary 0))
 
 one-more-X : (outputs : List Value) → NoneKnown outputs → NoneKnown (outputs ++ (at_x ∷ []))
 one-more-X [] unknown zero = refl
@@ -74,16 +74,16 @@ module _ (types : List ModuleType) where
   nothing : (outputs : List Value) → NoneKnown outputs → (inst : Instance)
       → links_of (type_of_instance types inst) (label_values [] outputs inst) ≡ []
   unfolding links_of
-  nothing outputs unknown inst = no_links (label_values [] outputs inst) (labels_X outputs unknown inst) (type_of_instance types inst).edges
+  nothing outputs unknown inst = no_links (label_values [] outputs inst) (labels_x outputs unknown inst) (type_of_instance types inst).edges
 
   -- outputs are nodes other than the rails
-  outputs_X : (outputs : List Value) (is : List Instance) → NoneKnown outputs
+  outputs_x : (outputs : List Value) (is : List Instance) → NoneKnown outputs
       → ((k : ℕ) → k < length is → 2 ≤ (type_of_instance types (get_or is k no_instance)).output)
       → NoneKnown (outputs_after types [] outputs is)
   unfolding outputs_after
-  outputs_X outputs [] unknown inner = unknown
-  outputs_X outputs (i ∷ is) unknown inner =
-      outputs_X (outputs ++ (output_value (type_of_instance types i) (label_values [] outputs i) ∷ [])) is
+  outputs_x outputs [] unknown inner = unknown
+  outputs_x outputs (i ∷ is) unknown inner =
+      outputs_x (outputs ++ (output_value (type_of_instance types i) (label_values [] outputs i) ∷ [])) is
       (rw (nothing outputs unknown i, no_level (type_of_instance types i).output (inner 0 (omega arith))) (one-more-X outputs unknown))
       (λ k h. inner (suc k) (omega arith))
 
@@ -105,7 +105,7 @@ module _ (c : Circuit) (good : CircuitGood c) where
     nothing_on : (v : ℕ) → length c.vectors ≤ v → links_at c i v ≡ []
     unfolding links_at type_at values_at outputs_of
     nothing_on v past =
-        let unknown = outputs_X c.types [] c.instances (λ j. refl) (λ k h. (ranges_at k h).output_low) in
+        let unknown = outputs_x c.types [] c.instances (λ j. refl) (λ k h. (ranges_at k h).output_low) in
         rw (get_or-eq_default c.vectors [] past)
         (nothing c.types (outputs_after c.types [] [] c.instances) unknown (get_or c.instances i no_instance))
 

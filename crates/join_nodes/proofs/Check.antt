@@ -120,10 +120,10 @@ module _ {h o k : ℕ} {firsts seconds gates : List ℕ} {n : ℕ} (given : Colu
     one_word : (s g : ℕ) → OutputTold firsts seconds gates planes n o supply s → OutputTold firsts seconds gates planes n o ground g
         → (v : ℕ) → v < 64 → bit (one_of s g) v ≡ of_bool (one_rail t (setting v))
     unfolding one_rail type_in_columns links_of
-    one_word s g toldS toldG v m =
+    one_word s g told_supply told_ground v m =
         let ws : ℕ → List Link = λ (u : ℕ). links_of t (setting u) in
         let are = links_are firsts seconds gates n (gate_word 1 0 gates planes) (λ (u : ℕ). by_values (setting u)) by_settings in
-        rw (toldS ws are, toldG ws are) (one_bit ws o given.output v m)
+        rw (told_supply ws are, told_ground ws are) (one_bit ws o given.output v m)
 
   -- the test of a block, from what the calls give
   pub block_verdict : (settings counts : ℕ) (ones zeros planes : List ℕ) (s g : ℕ)
@@ -131,5 +131,5 @@ module _ {h o k : ℕ} {firsts seconds gates : List ℕ} {n : ℕ} (given : Colu
       → OutputTold firsts seconds gates planes n o supply s → OutputTold firsts seconds gates planes n o ground g → counts ≡ first_ones (settings - 64 * block)
       → eqb (bit_and (one_of s g) counts) counts ≡ block_holds t block
   unfolding counted type_in_columns
-  block_verdict settings counts ones zeros planes s g e isOnes isZeros wide toldS toldG c =
-      rw (c, e) (holds t block (one_of s g) (one_word planes (rw (isOnes, isZeros) at wide) s g toldS toldG))
+  block_verdict settings counts ones zeros planes s g e is_ones is_zeros wide told_supply told_ground c =
+      rw (c, e) (holds t block (one_of s g) (one_word planes (rw (is_ones, is_zeros) at wide) s g told_supply told_ground))

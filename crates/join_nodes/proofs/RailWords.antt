@@ -105,11 +105,11 @@ module _ (firsts seconds gates : List ℕ) (n : ℕ) where
         sym (each_at 4 w 32 joined m h) ∙ ap (λ (words : List ℕ). get_or words m 0) (rail_words_lem fit wide w k rail joined rounds are t e))
 
     -- the greater of the two rails' rounds
-    four_rounds_lem : (toSupply toGround : List ℕ) (supplyRounds groundRounds : ℕ)
-        → WideJoined firsts seconds gates planes n 4 1 toSupply supplyRounds → WideJoined firsts seconds gates planes n 4 0 toGround groundRounds
-        → (t : ModuleType) → map untagged t.edges ≡ edges → max supplyRounds groundRounds ≡ four_rounds t ones zeros
+    four_rounds_lem : (to_supply to_ground : List ℕ) (supply_rounds ground_rounds : ℕ)
+        → WideJoined firsts seconds gates planes n 4 1 to_supply supply_rounds → WideJoined firsts seconds gates planes n 4 0 to_ground ground_rounds
+        → (t : ModuleType) → map untagged t.edges ≡ edges → max supply_rounds ground_rounds ≡ four_rounds t ones zeros
     unfolding four_rounds rounds_under deepest
-    four_rounds_lem toSupply toGround supplyRounds groundRounds s g t e =
+    four_rounds_lem to_supply to_ground supply_rounds ground_rounds s g t e =
         let from : ℕ → ℕ → ℕ → ℕ = λ (rail w v : ℕ). depth (links_under ones zeros 4 t w v) rail in
         let are : (w : ℕ) → w < 4 → LinksAre firsts seconds (gate_word 4 w gates planes) n (links_under ones zeros 4 t w)
         = λ w h. links_under_lem fit wide w h t e in
@@ -117,8 +117,8 @@ module _ (firsts seconds gates : List ℕ) (n : ℕ) where
         ∙ sym (greatest_of_both 4 (λ (w : ℕ). greatest_to 64 (from 1 w)) (λ (w : ℕ). greatest_to 64 (from 0 w)))
         ∙ greatest_cong 4 _ _ (λ w h. sym (greatest_of_both 64 (from 1 w) (from 0 w)))
 
-    pub rails_told : (toSupply toGround : List ℕ) (supplyRounds groundRounds : ℕ)
-        → WideJoined firsts seconds gates planes n 4 1 toSupply supplyRounds → WideJoined firsts seconds gates planes n 4 0 toGround groundRounds
-        → RailsTold edges ones zeros (record { supply = toSupply; ground = toGround; rounds = max supplyRounds groundRounds })
-    rails_told toSupply toGround supplyRounds groundRounds s g t e =
-        rw (four_words 1 toSupply supplyRounds s t e, four_words 0 toGround groundRounds g t e, four_rounds_lem toSupply toGround supplyRounds groundRounds s g t e)
+    pub rails_told : (to_supply to_ground : List ℕ) (supply_rounds ground_rounds : ℕ)
+        → WideJoined firsts seconds gates planes n 4 1 to_supply supply_rounds → WideJoined firsts seconds gates planes n 4 0 to_ground ground_rounds
+        → RailsTold edges ones zeros (record { supply = to_supply; ground = to_ground; rounds = max supply_rounds ground_rounds })
+    rails_told to_supply to_ground supply_rounds ground_rounds s g t e =
+        rw (four_words 1 to_supply supply_rounds s t e, four_words 0 to_ground ground_rounds g t e, four_rounds_lem to_supply to_ground supply_rounds ground_rounds s g t e)

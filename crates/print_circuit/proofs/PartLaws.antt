@@ -15,7 +15,7 @@ use Rattle.switch.specs.Conduction.{Value, EdgeTag, by_position, stated, Edge}
 use Rattle.switch.specs.Modules.{ModuleType}
 use Rattle.switch.specs.Records.{type_of}
 use Rattle.switch.specs.declared.ModuleType.{ModuleType as TypeRecord}
-use Rattle.circuit.proofs.Tested.{get_d_any}
+use Rattle.circuit.proofs.Tested.{get_or-any}
 use Rattle.circuit.specs.Circuit.{Circuit, Instance, Listed, numbered, no_type}
 use Rattle.circuit.specs.Reading.{Reading, accepted, refusal}
 use Rattle.circuit.specs.declared.Reading.{Reading as ReadingRecord}
@@ -195,7 +195,7 @@ module _ (a b : List (List ℕ)) (n : ℕ) (buffer : List ℕ) {put : ℕ} {afte
 
 module _ {A : Type 0} where
   pub line_of : (line : A → List ℕ) (l : List A) (n : ℕ) (none : A) → n < length l → get_or (map line l) n [] ≡ line (get_or l n none)
-  line_of line l n none h = get_d_any (map line l) n [] (line none) (omega (arith, length-map l line)) ∙ get_or-map line l n none
+  line_of line l n none h = get_or-any (map line l) n [] (line none) (omega (arith, length-map l line)) ∙ get_or-map line l n none
 
   pub numbered_of : (line : ℕ → A → List ℕ) (first : ℕ) (l : List A) (n : ℕ) (none : A) → n < length l
       → get_or (numbered_lines line first l) n [] ≡ line (first + n) (get_or l n none)
@@ -215,7 +215,7 @@ module _ {A : Type 0} where
   used_at : {B : Type 0} (told : A → B) (count : ℕ) (l : List A) (n : ℕ) (none : A) (other : B) → n < length (take count l) → n < count
       → get_or (map told (take count l)) n other ≡ told (get_or l n none)
   used_at told count l n none other h few =
-      get_d_any (map told (take count l)) n other (told none) (omega (arith, length-map (take count l) told))
+      get_or-any (map told (take count l)) n other (told none) (omega (arith, length-map (take count l) told))
       ∙ get_or-map told (take count l) n none
       ∙ ap told (get_or-take count l n none few)
 

@@ -128,9 +128,9 @@ pub letter_0 : (a b : ℕ) → a ≤ 1 → (a ≡ 1 → ⊥) → b ≡ 1 → 48 
 unfolding value_letter value_of
 letter_0 a b h other e = let z : a ≡ 0 = omega arith in rw (z, e)
 
-pub letter_X : (a b : ℕ) → a ≤ 1 → b ≤ 1 → (a ≡ 1 → ⊥) → (b ≡ 1 → ⊥) → 88 ≡ value_letter (value_of a b)
+pub letter_x : (a b : ℕ) → a ≤ 1 → b ≤ 1 → (a ≡ 1 → ⊥) → (b ≡ 1 → ⊥) → 88 ≡ value_letter (value_of a b)
 unfolding value_letter value_of
-letter_X a b h k other none = let z : a ≡ 0 = omega arith in let y : b ≡ 0 = omega arith in rw (z, y)
+letter_x a b h k other none = let z : a ≡ 0 = omega arith in let y : b ≡ 0 = omega arith in rw (z, y)
 
 -- the letter of one primary input
 abbrev pub letter_at : VectorRecord → ℕ → ℕ

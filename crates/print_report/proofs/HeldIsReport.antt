@@ -28,7 +28,7 @@ use Rattle.grading.specs.declared.Answer.{Answer}
 use Rattle.grading.proofs.PromiseLaws.{matrix_at_exit, classes_at_exit}
 use Rattle.grading.proofs.Everywhere.{every_at}
 use Rattle.grading.proofs.FaultRanges.{BridgeFits, RowFits, rows_fit}
-use Rattle.grading.proofs.Lists.{get_d_map}
+use Rattle.grading.proofs.Lists.{get_or-map_any}
 use Rattle.grading.proofs.MatrixLaws.{length_matrix, row_long, word_in}
 use Rattle.grading.proofs.RowLaws.{few_rows}
 use Rattle.grading.proofs.ClassNumbering.{class-numbers}
@@ -65,7 +65,7 @@ module _
   code_at =
       ap (λ (l : List ℕ). get_or l r 0) codes-are
       ∙ get_or-padded 0 2048 (codes_of (rows_of c)) 0 r (omega (arith, few_rows c good))
-      ∙ get_d_map (λ (s : Row). code_of s.number s.bridge) (rows_of c) r no_row 0 h
+      ∙ get_or-map_any (λ (s : Row). code_of s.number s.bridge) (rows_of c) r no_row 0 h
 
   class_at_lem : get_or classes r 0 ≡ get_or (classes_of (rows_of c)) r 0
   unfolding over

@@ -1,7 +1,10 @@
 -- What the program hands over of a file's report: lines one behind the other, each the report's, from the first to the last.
-use Rattle.std.specs.Prelude.{ℕ, ◌≡◌, List, length}
+use Rattle.std.specs.Prelude.{ℕ, ◌≡◌, ◌⊎◌, List, length, Option}
 use Rattle.print_lines.specs.Handing.{TextHandsOn, TextHanded}
 use Rattle.print_lines.specs.declared.Piece.{Piece}
+use Rattle.program_io.specs.Outputs.{TextPut}
+use Rattle.program_io.specs.Inputs.{HeadingPut}
+use Rattle.program_io.specs.declared.output.Output.{Output}
 use Rattle.circuit.specs.Circuit.{Circuit}
 use Rattle.circuit.specs.Records.{padded}
 use Rattle.circuit.specs.Reading.{accepted, reading_of}
@@ -11,7 +14,7 @@ use Rattle.grading.specs.Buffers.{room_for_all}
 use Rattle.grading.specs.Rows.{rows_of}
 use Rattle.grading.specs.Grading.{Grading, grading_of}
 use Rattle.grading.specs.Codes.{codes_of}
-use Rattle.print_report.specs.Report.{report_line, line_count}
+use Rattle.print_report.specs.Report.{report_line, line_count, report_of}
 
 -- a file's grading: the buffers are long enough for every file, so that 15 and 22 never come
 abbrev pub grading_of_file : List ℕ → Grading
@@ -24,6 +27,17 @@ HandsOn file lines piece out = TextHandsOn (report_line (grading_of_file file)) 
 -- so many lines are all of the report
 abbrev pub AllHanded : List ℕ → ℕ → Type 0
 AllHanded file lines = TextHanded (line_count (grading_of_file file)) lines
+
+-- in a writer that says its bytes the report stands behind what stood
+abbrev pub ReportPut : List ℕ → Output → Output → Option (List ℕ) → Option (List ℕ) → Type 0
+ReportPut file before after old new = TextPut before after old new (report_of (grading_of_file file))
+
+-- and of an input nothing, where it could not be read, or the heading and the report of the bytes that were read
+abbrev pub InputReported : Output → Output → Option (List ℕ) → Option (List ℕ) → Type 0
+InputReported before after old new =
+    ((after ≡ before) × (new ≡ old))
+    ⊎ ((headed : Output) × (mid : Option (List ℕ)) × (file : List ℕ)
+    × HeadingPut before headed old mid × ReportPut file headed after mid new)
 
 -- the rows, as numbers, of the circuit that was read
 pub record RowsRead (reading : ReadingRecord) (codes : List ℕ) : Type 0 where

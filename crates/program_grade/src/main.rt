@@ -6,7 +6,7 @@ mod handing;
 ghost use Rattle.std.specs.Prelude.{◌≡◌, ◌≤◌, length};
 ghost use Rattle.grading.specs.Given.{Read};
 ghost use Rattle.program_io.specs.Inputs.{heading_room};
-ghost use Rattle.program_grade.specs.Handing.{AllHanded, RowsRead};
+ghost use Rattle.program_grade.specs.Handing.{AllHanded, ReportPut, InputReported, RowsRead};
 
 use crate::handing::{Handed, hand_out, none_handed};
 use circuit::Reading;
@@ -16,8 +16,10 @@ use grade_file::grade::grade_read;
 use grade_rows::rows_of;
 use print_report::report_piece;
 use program_io::inputs::{head_input, input_count, read_input};
-use program_io::output::{Output, nothing};
+use program_io::output::{OUT_ROOM, Output, nothing};
 use read_file::read::read_stages;
+use std::io::Write;
+use std::rt::{Env, Files};
 
 // One byte more than the limit is enough to know that a file is too long.
 const MOST_READ: usize = MOST_BYTES + 1;
@@ -36,7 +38,9 @@ fn rows_read(reading: Reading) -> [u32; MOST_FAULTS]
 }
 
 // The report of one file, all of it, piece by piece.
-fn grade_file(
+fn grade_file<R: Eprint, W: Write>(
+    rt: &R,
+    writer: &mut W,
     out: &mut [u8],
     output: Output,
     file: &[u8],
@@ -45,7 +49,8 @@ fn grade_file(
 ) -> Handed
     requires in_bounds { 512 ≤ length out.old }
     requires matrix_len { (length matrix.old ≡ 8192) × (length classes.old ≡ 2048) }
-    ensures { AllHanded file.now result.lines }
+    ensures handed { AllHanded file.now result.lines }
+    ensures put { ReportPut file.now output result.output (W.contents writer.old) (W.contents writer.new) }
 {
     let reading = read_stages(file, true);
     let answer = grade_read(reading, matrix, classes);
@@ -57,14 +62,16 @@ fn grade_file(
         if piece.count == 0 {
             break;
         }
-        handed = hand_out(handed, file, piece, out);
+        handed = hand_out(rt, writer, handed, file, piece, out);
         next = piece.next;
     }
     handed
 }
 
 // Reads an input and prints its report, under a heading where there are several; one that cannot be read has none.
-fn grade_input(
+fn grade_input<R: Env + Files + Input + Eprint, W: Write>(
+    rt: &R,
+    writer: &mut W,
     number: usize,
     out: &mut [u8],
     output: Output,
@@ -74,27 +81,38 @@ fn grade_input(
 ) -> Output
     requires heading_room_in_bounds { heading_room ≤ length out.old }
     requires matrix_len { (length matrix.old ≡ 8192) × (length classes.old ≡ 2048) }
+    ensures { InputReported output result (W.contents writer.old) (W.contents writer.new) }
 {
-    let input = read_input(number, file);
+    let input = read_input(rt, number, file);
     if !input.is_read {
         return output;
     }
-    let headed = head_input(out, output, number);
+    let headed = head_input(rt, writer, out, output, number);
     let length = input.count;
-    let handed = grade_file(out, headed, &file[..length], matrix, classes);
+    let handed = grade_file(rt, writer, out, headed, &file[..length], matrix, classes);
     handed.output
 }
 
-fn main() {
-    let mut out = io::large_buffer();
+fn main(rt: HostRuntime) {
+    let mut out = [0u8; OUT_ROOM];
     let mut file = [0u8; MOST_READ];
     let mut matrix = [0u64; 4 * MOST_FAULTS];
     let mut classes = [0u16; MOST_FAULTS];
+    let mut writer = rt.stdout();
     let mut output = nothing();
-    let count = input_count();
+    let count = input_count(&rt);
     let mut i: usize = 0;
     while i < count {
         i += 1;
-        output = grade_input(i, &mut out, output, &mut file, &mut matrix, &mut classes);
+        output = grade_input(
+            &rt,
+            &mut writer,
+            i,
+            &mut out,
+            output,
+            &mut file,
+            &mut matrix,
+            &mut classes,
+        );
     }
 }

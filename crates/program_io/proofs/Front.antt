@@ -5,9 +5,9 @@ use mathlib.Core.Bool.{Bool, true, false}
 use mathlib.Core.List.{List, ◌++◌}
 use native.Mathlib.Nat.{zero-add}
 use native.Mathlib.Omega.{arith}
-use lib.ListN.{length, length-append}
+use lib.ListN.{length, take, length-append}
 use Rattle.words.specs.Written.{written}
-use Rattle.words.proofs.WrittenLaws.{length_written, written_written}
+use Rattle.words.proofs.WrittenLaws.{length_written, take_written, written_written}
 use Rattle.program_io.specs.Outputs.{blank_line}
 
 pub record Front (buffer text : List ℕ) (at : ℕ) (out : List ℕ) : Type 0 where
@@ -31,6 +31,12 @@ front-more {buffer} {text} {at} {out} f bytes {next} {after} fits e =
           ∙ written_written buffer 0 text bytes (omega (arith, fits, all));
       room = omega (arith, fits, all);
     }
+
+pub front-text : {buffer text : List ℕ} {at : ℕ} {out : List ℕ} → Front buffer text at out → take at out ≡ text
+front-text {buffer} {text} {at} {out} f =
+    ap (λ (n : ℕ). take n out) (f.place ∙ sym (zero-add (length text)))
+    ∙ ap (λ (l : List ℕ). take (0 + length text) l) f.put
+    ∙ take_written buffer 0 text (omega (arith, f.room))
 
 pub blank-short : (above : Bool) → length (blank_line above) ≤ 1
 blank-short true = omega arith

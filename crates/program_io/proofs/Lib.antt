@@ -1,2 +1,3 @@
--- The law of a text that grows at a buffer's front.
+-- Laws of a text at the front of a buffer, and of what a writer holds.
 pub mod Front
+pub mod PutLaws

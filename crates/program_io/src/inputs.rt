@@ -1,47 +1,78 @@
 // The inputs of a program, numbered from 1: the files that its arguments name, in their order, or standard input where there are none.
 ghost use Rattle.std.specs.Prelude.{◌≤◌, length};
-ghost use Rattle.program_io.specs.Inputs.{InputRead, heading_room, InputHeaded};
+ghost use Rattle.program_io.specs.Inputs.{InputRead, heading_room, InputHeaded, HeadingPut};
 
 use crate::input::{Input, read_named, read_standard, unread};
+use crate::message::tell;
 use crate::output::{Output, heading};
+use std::env::FillError;
+use std::io;
+use std::io::Write;
+use std::rt::{Env, Files};
+
+// Room for the longest name of a file.
+const NAME_ROOM: usize = 4096;
+
+// The system's number for a name that is too long.
+const NAME_TOO_LONG: i32 = 36;
+
+// Whether there is an argument of this number. With no room for its bytes it is too long, if it has any.
+fn has_argument<R: Env>(rt: &R, number: usize) -> bool {
+    !matches!(rt.arg(number, &mut []), Err(FillError::NotPresent))
+}
 
 // How many there are. Where no file is named, standard input is one.
-pub fn input_count() -> usize
+pub fn input_count<R: Env>(rt: &R) -> usize
     ensures { 1 ≤ result }
 {
-    let arguments = os::arg_count();
-    if arguments < 2 {
-        return 1;
+    let mut count: usize = 1;
+    for number in 2..usize::MAX {
+        if !has_argument(rt, number) {
+            break;
+        }
+        count = number;
     }
-    arguments - 1
+    count
 }
 
 // Reads an input. One that cannot be read is told of on standard error, by its name and the reason.
-pub fn read_input(number: usize, buf: &mut [u8]) -> Input
+pub fn read_input<R: Env + Files + io::Input + Eprint>(
+    rt: &R,
+    number: usize,
+    buf: &mut [u8],
+) -> Input
     ensures { InputRead buf.old result buf.new }
 {
-    if os::arg_count() < 2 {
-        return read_standard(buf);
+    if !has_argument(rt, 1) {
+        return read_standard(rt, buf);
     }
-    let mut name = io::buffer();
-    let n = os::arg(number, &mut name);
-    if os::errno() != 0 {
-        // the buffer holds the start of a name that is too long for it
-        os::fail(&name);
-        return unread();
+    let mut name = [0u8; NAME_ROOM];
+    match rt.arg(number, &mut name) {
+        Ok(n) => read_named(rt, &name[..n], buf),
+        Err(_) => {
+            // the buffer holds the start of a name that is too long for it
+            tell(rt, &name, &io::Error::from_raw_os_error(NAME_TOO_LONG));
+            unread()
+        }
     }
-    read_named(&name[..n], buf)
 }
 
 // The heading of an input, where there are several, put into a buffer and written. The buffer has room for the longest name.
-pub fn head_input(out: &mut [u8], output: Output, number: usize) -> Output
+pub fn head_input<R: Env + Eprint, W: Write>(
+    rt: &R,
+    writer: &mut W,
+    out: &mut [u8],
+    output: Output,
+    number: usize,
+) -> Output
     requires { heading_room ≤ length out.old }
-    ensures { InputHeaded output out.old result out.new }
+    ensures headed { InputHeaded output out.old result out.new }
+    ensures put { HeadingPut output result (W.contents writer.old) (W.contents writer.new) }
 {
-    if os::arg_count() < 3 {
+    if !has_argument(rt, 2) {
         return output;
     }
-    let mut name = io::buffer();
-    let n = os::arg(number, &mut name);
-    heading(out, output, &name[..n])
+    let mut name = [0u8; NAME_ROOM];
+    let n = rt.arg(number, &mut name).unwrap_or(0);
+    heading(rt, writer, out, output, &name[..n])
 }

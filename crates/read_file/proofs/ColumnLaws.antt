@@ -16,7 +16,7 @@ use Rattle.circuit.specs.Circuit.{numbered, no_type}
 use Rattle.circuit.specs.Records.{padded, unused_type, type_record}
 use Rattle.read_file.specs.Whole.{column_of}
 use Rattle.circuit.proofs.Padding.{get_or-padded, padded_nil}
-use Rattle.circuit.proofs.Tested.{get_d_any}
+use Rattle.circuit.proofs.Tested.{get_or-any}
 
 pub column_none : (shown : TypeRecord → ℕ) (all : List TypeRecord) → replicate 16 0 ≡ column_of shown all 0
 column_none shown all = fill_none 16 _
@@ -31,7 +31,7 @@ pub column_more : (shown : TypeRecord → ℕ) (all : List TypeRecord) (past : T
     → set (column_of shown all i) i (shown (get_or all i past)) ≡ column_of shown all (i + 1)
 column_more shown all past i h ts is =
     let inside : i < length all = omega (arith, ap length is, places ts, h) in
-    rw (add-one, get_d_any all i past unused_type inside) (fill_more 16 (λ (m : ℕ). shown (get_or all m unused_type)) i h)
+    rw (add-one, get_or-any all i past unused_type inside) (fill_more 16 (λ (m : ℕ). shown (get_or all m unused_type)) i h)
 
 -- ---- what a column tells
 
@@ -56,31 +56,31 @@ past m f n i h = go (dec_lt i m)
     go (no q) = get_or-eq_default (table m (up_to n f)) 0 {n = i} (omega (arith, length-table m (up_to n f)))
 
 -- the types that stand in the places
-module _ (types : List ModuleType) (typeCount : ℕ) (all : List TypeRecord)
-    (within : length types ≤ most_types) (counted : typeCount ≡ length types) (is : all ≡ padded most_types unused_type (map type_record types)) where
+module _ (types : List ModuleType) (type_count : ℕ) (all : List TypeRecord)
+    (within : length types ≤ most_types) (counted : type_count ≡ length types) (is : all ≡ padded most_types unused_type (map type_record types)) where
   -- what a column holds of a number is that of the type with it
   told : (shown : TypeRecord → ℕ) (of : ModuleType → ℕ) → ((t : ModuleType) → shown (type_record t) ≡ of t) → of no_type ≡ 0
-      → (n : ℕ) → numbered (column_of shown all typeCount) n 0 ≡ of (numbered types n no_type)
+      → (n : ℕ) → numbered (column_of shown all type_count) n 0 ≡ of (numbered types n no_type)
   unfolding numbered
   told shown of same none zero = sym none
-  told shown of same none (suc m) = go (dec_lt m typeCount)
+  told shown of same none (suc m) = go (dec_lt m type_count)
     where
-      go : Dec (m < typeCount) → get_or (column_of shown all typeCount) m 0 ≡ of (get_or types m no_type)
+      go : Dec (m < type_count) → get_or (column_of shown all type_count) m 0 ≡ of (get_or types m no_type)
       go (yes h) =
-          let few : typeCount ≤ 16 = omega (arith, within, counted) in
-          get_or-fill 16 (λ (p : ℕ). shown (get_or all p unused_type)) typeCount m h few
+          let few : type_count ≤ 16 = omega (arith, within, counted) in
+          get_or-fill 16 (λ (p : ℕ). shown (get_or all p unused_type)) type_count m h few
           ∙ ap (λ (l : List TypeRecord). shown (get_or l m unused_type)) is
           ∙ ap shown (type_at types unused_type m (omega arith))
           ∙ same (get_or types m no_type)
       go (no h) =
-          past 16 (λ (p : ℕ). shown (get_or all p unused_type)) typeCount m (omega arith)
+          past 16 (λ (p : ℕ). shown (get_or all p unused_type)) type_count m (omega arith)
           ∙ sym none
           ∙ ap of (sym (get_or-eq_default types no_type {n = m} (omega (arith, counted))))
 
-  pub nodes_told : (n : ℕ) → numbered (column_of (λ (r : TypeRecord). r.highest) all typeCount) n 0 ≡ (numbered types n no_type).highest
+  pub nodes_told : (n : ℕ) → numbered (column_of (λ (r : TypeRecord). r.highest) all type_count) n 0 ≡ (numbered types n no_type).highest
   unfolding type_record
   nodes_told = told (λ (r : TypeRecord). r.highest) (λ (t : ModuleType). t.highest) (λ t. refl) refl
 
-  pub labels_told : (n : ℕ) → numbered (column_of (λ (r : TypeRecord). r.labels) all typeCount) n 0 ≡ (numbered types n no_type).labels
+  pub labels_told : (n : ℕ) → numbered (column_of (λ (r : TypeRecord). r.labels) all type_count) n 0 ≡ (numbered types n no_type).labels
   unfolding type_record
   labels_told = told (λ (r : TypeRecord). r.labels) (λ (t : ModuleType). t.labels) (λ t. refl) refl

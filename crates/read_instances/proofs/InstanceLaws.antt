@@ -78,8 +78,8 @@ named-place b = go (ltb b 128) refl
 
 -- ---- the tests
 
-module _ {types : List ModuleType} {bridges : List Listed} {typeCount : ℕ} {nodes labels : List ℕ} {lists : Lists}
-    (told : ShapesAndLists types bridges typeCount nodes labels lists) where
+module _ {types : List ModuleType} {bridges : List Listed} {type_count : ℕ} {nodes labels : List ℕ} {lists : Lists}
+    (told : ShapesAndLists types bridges type_count nodes labels lists) where
   -- what the code gathers of a choice is what the choice means
   pub given_is : (t : ModuleType) (h k choice b : ℕ) → h ≡ t.highest → k ≡ t.labels → choice ≡ b
       → given_by h k choice lists ≡ meant t bridges (choice_of (signed 128 b))
@@ -92,7 +92,7 @@ module _ {types : List ModuleType} {bridges : List Listed} {typeCount : ℕ} {no
   pub gathered : (body : List ℕ) (at P k : ℕ) (gives : Chosen) (is : List Instance) (count faults : ℕ)
       → count ≡ length is → faults ≡ fault_count types bridges is → k ≡ (type_of_instance types (instance_in body)).labels
       → gives ≡ meant (type_of_instance types (instance_in body)) bridges (instance_in body).choice
-      → gathered_tests body at P typeCount k gives count faults ≡ instance_tests (read_to P types bridges is) at body
+      → gathered_tests body at P type_count k gives count faults ≡ instance_tests (read_to P types bridges is) at body
   unfolding instance_tests_of instance_tests instance_in
   gathered body at P k gives is count faults ec ef ek eg = rw (told.counted, ec, ef, ek, eg)
 
@@ -131,11 +131,11 @@ pub record Passed (body : List ℕ) (given : Chosen) (count faults : ℕ) : Type
   pub fits : InstanceFits body
   pub few : faults + given.faults ≤ 2048
 
-pub passed : (body : List ℕ) (at P typeCount k : ℕ) (given : Chosen) (count faults : ℕ) → P ≤ 64
-    → first_of (gathered_tests body at P typeCount k given count faults) ≡ passes → Passed body given count faults
+pub passed : (body : List ℕ) (at P type_count k : ℕ) (given : Chosen) (count faults : ℕ) → P ≤ 64
+    → first_of (gathered_tests body at P type_count k given count faults) ≡ passes → Passed body given count faults
 unfolding instance_tests_of instance_in NoneOf
-passed body at P typeCount k given count faults inputs e =
-    let none = none_of (gathered_tests body at P typeCount k given count faults) e in
+passed body at P type_count k given count faults inputs e =
+    let none = none_of (gathered_tests body at P type_count k given count faults) e in
     let room = leb-false 128 count none.1.0 in
     let long = (both_hold (eqb (length body % 2) 0) (between 4 26 (length body)) none.0).1 in
     let size = in_between 4 26 (length body) long in
@@ -145,7 +145,7 @@ passed body at P typeCount k given count faults inputs e =
       room = room;
       few = ltb-false 2048 (faults + given.faults) none.1.1.1.1.1.1.0;
       fits = record {
-        choice = (both_hold (between 1 typeCount (get_or body 0 0)) (choice_in_range (signed 128 (get_or body 1 0))) none.1.1.0).1;
+        choice = (both_hold (between 1 type_count (get_or body 0 0)) (choice_in_range (signed 128 (get_or body 1 0))) none.1.1.0).1;
         few = omega (arith, length-references body);
         good = all_weaker (reference_good P count) (reference_good 64 128) (good_weaker P count inputs (omega arith)) (references_in body) refs;
       };
@@ -172,8 +172,8 @@ type-small types good (suc m) = go (dec_lt m (length types))
     go (yes h) = good-small (get_or types m no_type) (good m no_type h)
     go (no h) = rw (get_or-eq_default types no_type {n = m} (omega arith)) (omega arith, omega arith)
 
-pub given-small : {types : List ModuleType} {bridges : List Listed} {typeCount : ℕ} {nodes labels : List ℕ} {lists : Lists}
-    → ShapesAndLists types bridges typeCount nodes labels lists
+pub given-small : {types : List ModuleType} {bridges : List Listed} {type_count : ℕ} {nodes labels : List ℕ} {lists : Lists}
+    → ShapesAndLists types bridges type_count nodes labels lists
     → (n : ℕ) (c : Choice) → chosen_size (numbered types n no_type) bridges c ≤ 65536
 unfolding chosen_size exhaustive_size
 given-small {types} {bridges} told n exhaustive =

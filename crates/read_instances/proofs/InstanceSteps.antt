@@ -46,11 +46,11 @@ pub record InstancesSoFar (file : List ℕ) (from P : ℕ) (types : List ModuleT
   pub summed : faults ≡ fault_count types bridges instances
 
 -- so of all types and bridges that the code's columns and sums tell
-pub record AtLoop (file : List ℕ) (from P typeCount : ℕ) (nodes labels : List ℕ) (lists : Lists) (all : List InstanceRecord)
+pub record AtLoop (file : List ℕ) (from P type_count : ℕ) (nodes labels : List ℕ) (lists : Lists) (all : List InstanceRecord)
     (count faults at : ℕ) : Type 0 where
   pub place : at ≤ length file
   pub few : faults ≤ 2048
-  pub read : (ts : List ModuleType) (bs : List Listed) → ShapesAndLists ts bs typeCount nodes labels lists
+  pub read : (ts : List ModuleType) (bs : List Listed) → ShapesAndLists ts bs type_count nodes labels lists
       → InstancesSoFar file from P ts bs all count faults at
 
 pub no_instances : (file : List ℕ) (from P : ℕ) (types : List ModuleType) (bridges : List Listed) (unused : InstanceRecord) → from ≤ length file
@@ -98,11 +98,11 @@ module _ {file : List ℕ} {from P : ℕ} {types : List ModuleType} {bridges : L
 
 -- ---- a turn, which found n, has m behind it, and was told what the field asks
 
-module _ {file : List ℕ} {from P typeCount : ℕ} {held : Held} {all : List InstanceRecord} {count faults at : ℕ}
-    (inv : AtLoop file from P typeCount held.nodes held.labels held.lists all count faults at)
+module _ {file : List ℕ} {from P type_count : ℕ} {held : Held} {all : List InstanceRecord} {count faults at : ℕ}
+    (inv : AtLoop file from P type_count held.nodes held.labels held.lists all count faults at)
     {n : Next} {m : ℕ} (turn : Turned file at (is_kind instance_tag) n m) (asked : Asked) (is : asked ≡ kept_by (asked_of file held) none_asked n) where
   abbrev verdict : FieldRecord → Verdict
-  verdict = instance_verdict file P typeCount asked count faults
+  verdict = instance_verdict file P type_count asked count faults
 
   -- where a field was found
   module _ (f : FieldRecord) (e : n ≡ Found f) where
@@ -114,7 +114,7 @@ module _ {file : List ℕ} {from P typeCount : ℕ} {held : Held} {all : List In
     unfolding kept_by
     asked_is = rw e at is
 
-    module _ (ts : List ModuleType) (bs : List Listed) (told : ShapesAndLists ts bs typeCount held.nodes held.labels held.lists) where
+    module _ (ts : List ModuleType) (bs : List Listed) (told : ShapesAndLists ts bs type_count held.nodes held.labels held.lists) where
       labelled : asked.k ≡ (type_of_instance ts (instance_in (body_of file f))).labels
       unfolding asked_of instance_in
       labelled = ap (λ (a : Asked). a.k) asked_is ∙ told.labels_by_number (get_or (body_of file f) 0 0)
@@ -137,7 +137,7 @@ module _ {file : List ℕ} {from P typeCount : ℕ} {held : Held} {all : List In
   unfolding kept_by
   none_small e = let none : asked ≡ none_asked = rw e at is in rw none (omega arith)
 
-  pub turn_given : HeldAt typeCount held → TurnGiven file n asked faults
+  pub turn_given : HeldAt type_count held → TurnGiven file n asked faults
   turn_given some = record { inside = next_in file at (is_kind instance_tag) n turn.own; few = inv.few; small = go n refl }
     where
       go : (x : Next) → n ≡ x → asked.given.faults ≤ 65536
@@ -145,7 +145,7 @@ module _ {file : List ℕ} {from P typeCount : ℕ} {held : Held} {all : List In
       go Other e = none_small e
 
   pub instances_end : ends_by verdict n ≡ true → (r : Refusal) → verdict_of r ≡ verdict_by verdict n
-      → (ts : List ModuleType) (bs : List Listed) → ShapesAndLists ts bs typeCount held.nodes held.labels held.lists
+      → (ts : List ModuleType) (bs : List Listed) → ShapesAndLists ts bs type_count held.nodes held.labels held.lists
       → InstancesRead file from P ts bs (record { refusal = r; at = at; count = count; faults = faults; all = all })
   unfolding ends_by verdict_by NextIs
   instances_end ends r is-r ts bs told = go n refl
@@ -162,7 +162,7 @@ module _ {file : List ℕ} {from P typeCount : ℕ} {held : Held} {all : List In
   module _ (inputs : P ≤ 64) (goes : ends_by verdict n ≡ false) where
     holds : (f : FieldRecord) → n ≡ Found f → Passed (body_of file f) asked.given count faults
     unfolding ends_by instance_verdict
-    holds f e = passed (body_of file f) f.at P typeCount asked.k asked.given count faults inputs (passes-is (verdict f) (rw e at goes))
+    holds f e = passed (body_of file f) f.at P type_count asked.k asked.given count faults inputs (passes-is (verdict f) (rw e at goes))
 
     goes_on_lem : n ≡ Other → ⊥
     unfolding ends_by
@@ -180,13 +180,13 @@ module _ {file : List ℕ} {from P typeCount : ℕ} {held : Held} {all : List In
         go (Found f) e = ((stands f e).0.inside, (holds f e).fits)
         go Other e = tt
 
-    pub instances_more : AtLoop file from P typeCount held.nodes held.labels held.lists (set all count (kept_by (instance_kept file) unused_instance n)) (count + 1) (faults + asked.given.faults) m
+    pub instances_more : AtLoop file from P type_count held.nodes held.labels held.lists (set all count (kept_by (instance_kept file) unused_instance n)) (count + 1) (faults + asked.given.faults) m
         × (count < most_instances) × (at < m) × (faults + asked.given.faults ≤ 2048)
     unfolding kept_by instance_kept
     instances_more = go n refl
       where
         go : (x : Next) → n ≡ x
-            → AtLoop file from P typeCount held.nodes held.labels held.lists (set all count (kept_by (instance_kept file) unused_instance x)) (count + 1) (faults + asked.given.faults) m
+            → AtLoop file from P type_count held.nodes held.labels held.lists (set all count (kept_by (instance_kept file) unused_instance x)) (count + 1) (faults + asked.given.faults) m
             × (count < most_instances) × (at < m) × (faults + asked.given.faults ≤ 2048)
         go Other e = absurd (goes_on_lem e)
         go (Found f) e =

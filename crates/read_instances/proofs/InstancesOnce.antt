@@ -26,9 +26,9 @@ read_once file from P types bridges r s p q =
     λ i. record { refusal = refusal i; at = at i; count = count i; faults = faults i; all = all i }
 
 -- the arguments tell some, since they are asked to
-pub instances_once : (file : List ℕ) (from P typeCount : ℕ) (held : Held) → HeldAt typeCount held → (r s : Instances)
-    → ((ts : List ModuleType) (bs : List Listed) → ShapesAndLists ts bs typeCount held.nodes held.labels held.lists → InstancesRead file from P ts bs r)
-    → ((ts : List ModuleType) (bs : List Listed) → ShapesAndLists ts bs typeCount held.nodes held.labels held.lists → InstancesRead file from P ts bs s)
+pub instances_once : (file : List ℕ) (from P type_count : ℕ) (held : Held) → HeldAt type_count held → (r s : Instances)
+    → ((ts : List ModuleType) (bs : List Listed) → ShapesAndLists ts bs type_count held.nodes held.labels held.lists → InstancesRead file from P ts bs r)
+    → ((ts : List ModuleType) (bs : List Listed) → ShapesAndLists ts bs type_count held.nodes held.labels held.lists → InstancesRead file from P ts bs s)
     → r ≡ s
-instances_once file from P typeCount held h r s p q =
+instances_once file from P type_count held h r s p q =
     read_once file from P h.types h.bridges r s (p h.types h.bridges h.told) (q h.types h.bridges h.told)

@@ -19,8 +19,8 @@ use Rattle.read_bridges.specs.ListSums.{lists_of}
 
 -- the tests of an instance field, from what the code has gathered
 abbrev pub gathered_tests : List ℕ → ℕ → ℕ → ℕ → ℕ → Chosen → ℕ → ℕ → List Test
-gathered_tests body at P typeCount k given count faults =
-    instance_tests_of P typeCount k count faults given.unsuited given.empty given.faults at body
+gathered_tests body at P type_count k given count faults =
+    instance_tests_of P type_count k count faults given.unsuited given.empty given.faults at body
 
 -- an instance that has passed its tests
 pub record InstanceFits (body : List ℕ) : Type 0 where
@@ -29,9 +29,9 @@ pub record InstanceFits (body : List ℕ) : Type 0 where
   pub good : T (all_of (reference_good 64 128) (references_in body))
 
 -- what the code's columns and sums tell of types and bridges
-pub record ShapesAndLists (types : List ModuleType) (bridges : List Listed) (typeCount : ℕ) (nodes labels : List ℕ)
+pub record ShapesAndLists (types : List ModuleType) (bridges : List Listed) (type_count : ℕ) (nodes labels : List ℕ)
     (lists : Lists) : Type 0 where
-  pub counted : typeCount ≡ length types
+  pub counted : type_count ≡ length types
   pub nodes_of : (n : ℕ) → numbered nodes n 0 ≡ (numbered types n no_type).highest
   pub labels_by_number : (n : ℕ) → numbered labels n 0 ≡ (numbered types n no_type).labels
   pub good : Each (λ (i : ℕ) (t : ModuleType). TypeGood t) types
@@ -39,10 +39,10 @@ pub record ShapesAndLists (types : List ModuleType) (bridges : List Listed) (typ
   pub summed : lists ≡ lists_of bridges
 
 -- some types and bridges are told by the columns and sums
-pub record HeldAt (typeCount : ℕ) (held : Held) : Type 0 where
+pub record HeldAt (type_count : ℕ) (held : Held) : Type 0 where
   pub types : List ModuleType
   pub bridges : List Listed
-  pub told : ShapesAndLists types bridges typeCount held.nodes held.labels held.lists
+  pub told : ShapesAndLists types bridges type_count held.nodes held.labels held.lists
 
 -- the instances from an offset on
 pub record InstancesRead (file : List ℕ) (from P : ℕ) (types : List ModuleType) (bridges : List Listed) (r : Instances) : Type 0 where

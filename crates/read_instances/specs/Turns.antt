@@ -28,8 +28,8 @@ abbrev pub none_asked : Asked
 none_asked = record { k = 0; given = record { faults = 0; unsuited = false; empty = false } }
 
 unfoldable pub instance_verdict : List ℕ → ℕ → ℕ → Asked → ℕ → ℕ → FieldRecord → Verdict
-instance_verdict file P typeCount asked count faults f =
-    first_of (gathered_tests (body_of file f) f.at P typeCount asked.k asked.given count faults)
+instance_verdict file P type_count asked count faults f =
+    first_of (gathered_tests (body_of file f) f.at P type_count asked.k asked.given count faults)
 
 -- so that the sum of faults fits a word
 pub record FieldGiven (file : List ℕ) (f : FieldRecord) (asked : Asked) (faults : ℕ) : Type 0 where

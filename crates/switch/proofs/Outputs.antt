@@ -90,7 +90,7 @@ planes_cong f g same =
     (word_cong (λ (v : ℕ). is_at1 (f v)) (λ (v : ℕ). is_at1 (g v)) (λ v l. ap is_at1 (same v l)))
     (word_cong (λ (v : ℕ). is_at0 (f v)) (λ (v : ℕ). is_at0 (g v)) (λ v l. ap is_at0 (same v l)))
 
-value-by-rails : (toSupply toGround : Bool) → value_of (of_bool toSupply) (of_bool toGround) ≡ cond toSupply at1 (cond toGround at0 at_x)
+value-by-rails : (to_supply to_ground : Bool) → value_of (of_bool to_supply) (of_bool to_ground) ≡ cond to_supply at1 (cond to_ground at0 at_x)
 unfolding value_of
 value-by-rails true g = refl
 value-by-rails false true = refl

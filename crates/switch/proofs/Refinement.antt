@@ -9,7 +9,7 @@ use mathlib.Core.List.Memᴰ
 use mathlib.Core.List.{List}
 use lib.Dec.{T}
 use Rattle.switch.specs.Conduction.{Value, at0, at1, at_x, by_values, Link, Among, Joined, ground, supply}
-use Rattle.switch.specs.Modules.{ModuleType, links_of, LevelIs, level_0, level_1, level_X}
+use Rattle.switch.specs.Modules.{ModuleType, links_of, LevelIs, level_0, level_1, level_x}
 use Rattle.switch.specs.Bridges.{Bridge, nodes, input, to_label, closing, Marked}
 use Rattle.switch.specs.Deciding.{joins, level_in, output_value}
 use Rattle.switch.specs.Statements.{Accepted, Refines, MoreJoined, RefinementKeeps, LevelIsOne}
@@ -56,19 +56,19 @@ module _ (ws : List Link) (m : ℕ) where
   given_by_lem : (s g : Bool) → Supplied ↔ T s → Grounded ↔ T g → LevelIs ws m (cond s at1 (cond g at0 at_x))
   given_by_lem true g es eg = level_1 (es.1 tt)
   given_by_lem false true es eg = level_0 (eg.1 tt)
-  given_by_lem false false es eg = level_X es.0 eg.0
+  given_by_lem false false es eg = level_x es.0 eg.0
 
   only_by : (s g : Bool) → Supplied ↔ T s → Grounded ↔ T g → (Supplied → Grounded → ⊥)
       → (value : Value) → LevelIs ws m value → value ≡ cond s at1 (cond g at0 at_x)
   only_by true g es eg apart value (level_1 p) = refl
   only_by true g es eg apart value (level_0 p) = absurd (apart (es.1 tt) p)
-  only_by true g es eg apart value (level_X p q) = absurd (p (es.1 tt))
+  only_by true g es eg apart value (level_x p q) = absurd (p (es.1 tt))
   only_by false true es eg apart value (level_1 p) = absurd (es.0 p)
   only_by false true es eg apart value (level_0 p) = refl
-  only_by false true es eg apart value (level_X p q) = absurd (q (eg.1 tt))
+  only_by false true es eg apart value (level_x p q) = absurd (q (eg.1 tt))
   only_by false false es eg apart value (level_1 p) = absurd (es.0 p)
   only_by false false es eg apart value (level_0 p) = absurd (eg.0 p)
-  only_by false false es eg apart value (level_X p q) = refl
+  only_by false false es eg apart value (level_x p q) = refl
 
   level_given : LevelIs ws m (level_in ws m)
   unfolding level_in

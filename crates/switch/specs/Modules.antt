@@ -64,7 +64,7 @@ Complementary t =
 pub data LevelIs (ws : List Link) (m : ℕ) : Value → Type 0 where
   level_1 : Joined ws m supply → LevelIs ws m at1
   level_0 : Joined ws m ground → LevelIs ws m at0
-  level_X : (Joined ws m supply → ⊥) → (Joined ws m ground → ⊥) → LevelIs ws m at_x
+  level_x : (Joined ws m supply → ⊥) → (Joined ws m ground → ⊥) → LevelIs ws m at_x
 
 -- a type's output under values
 abbrev pub OutputIs : ModuleType → (ℕ → Value) → Value → Type 0

@@ -64,4 +64,4 @@ planes values = record { ones = word (λ (v : ℕ). is_at1 (values v)); zeros = 
 -- of an output, from the words that tell under which vectors it is joined to supply, and to ground:
 -- 1 where it is joined to supply, 0 where it is joined to ground, X where it is joined to neither
 abbrev pub planes_of : ℕ → ℕ → Planes
-planes_of toSupply toGround = planes (λ (v : ℕ). value_of (bit toSupply v) (bit toGround v))
+planes_of to_supply to_ground = planes (λ (v : ℕ). value_of (bit to_supply v) (bit to_ground v))

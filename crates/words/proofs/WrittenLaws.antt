@@ -78,8 +78,8 @@ module _ (buffer : List ℕ) (at : ℕ) where
   unfolding written
   set_before b text fits =
       let front : length (take (suc at) buffer) ≡ suc at = length-take-le (suc at) buffer (omega arith) in
-      let inFront : at < length (take (suc at) buffer) = omega arith in
-      let inText : at < length (take (suc at) buffer ++ text) = simp length-append (omega arith) in
+      let in_front : at < length (take (suc at) buffer) = omega arith in
+      let in_text : at < length (take (suc at) buffer ++ text) = simp length-append (omega arith) in
       let inside : at < length buffer = omega arith in
       rw (
         set-append_left (take (suc at) buffer ++ text),

@@ -1,5 +1,5 @@
 /*
- * The grader from C and C++. Link target/staticlib/libtogyamiru.a, which `rt staticlib togyamiru` proves and writes for x86-64; of the C library it needs memcpy and
+ * The grader from C and C++. Link target/staticlib/libtogyamiru.a, which `.ci/build togyamiru_c` proves and writes for x86-64; of the C library it needs memcpy and
  * memset alone.
  *
  * The functions are thread-safe: a call touches what it is lent and its own stack, and nothing else. There is no heap, no static data, no input or output.

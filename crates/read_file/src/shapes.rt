@@ -1,10 +1,11 @@
 // The types of a file with their shapes, which instances are held to: of each its highest node and its number of labels.
 ghost use Rattle.std.specs.Prelude.{◌≤◌, length};
+ghost use Rattle.read_types.specs.ReadTypes.{TypesRead};
 ghost use Rattle.read_file.specs.Whole.{ShapedRead};
 
 use circuit::limits::MOST_TYPES;
 use circuit::refusal::Refusal;
-use read_types::types::read_types;
+use read_types::types::{Types, read_types};
 use switch::ModuleType;
 
 // What was read of types, and a column for each part of their shapes.
@@ -18,12 +19,11 @@ pub struct Shaped {
     pub labels: [u8; MOST_TYPES],
 }
 
-// The types from an offset on. Their shapes are gathered here, since a function that is handed the types would copy them all.
-pub fn read_shaped(file: &[u8], from: usize) -> Shaped
-    requires { from ≤ length file.now }
+// The same types with their shapes gathered, from a record that is handed over whole.
+fn with_shapes(file: &[u8], from: usize, types: Types) -> Shaped
+    requires { TypesRead file.now from types }
     ensures { ShapedRead file.now from result }
 {
-    let types = read_types(file, from);
     let refusal = types.refusal;
     let count = types.count;
     let all = types.all;
@@ -44,4 +44,12 @@ pub fn read_shaped(file: &[u8], from: usize) -> Shaped
         nodes,
         labels,
     }
+}
+
+// The types from an offset on. Their shapes are gathered here, since a function that is handed the types would copy them all.
+pub fn read_shaped(file: &[u8], from: usize) -> Shaped
+    requires { from ≤ length file.now }
+    ensures { ShapedRead file.now from result }
+{
+    with_shapes(file, from, read_types(file, from))
 }

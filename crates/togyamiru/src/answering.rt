@@ -2,14 +2,19 @@
 ghost use Rattle.std.specs.Prelude.{◌≤◌, true, false, ◌≡◌, length, take};
 ghost use Rattle.grading.specs.Buffers.{buffers_of};
 ghost use Rattle.grading.specs.Grading.{over};
-ghost use Rattle.grading.specs.Given.{Read};
+ghost use Rattle.circuit.specs.Circuit.{Circuit as CircuitMeant};
+ghost use Rattle.circuit.specs.Laws.{CircuitGood};
+ghost use Rattle.circuit.specs.Records.{circuit_record, padded};
+ghost use Rattle.grading.specs.Codes.{codes_of};
+ghost use Rattle.grading.specs.Given.{CircuitGiven, Read};
+ghost use Rattle.grading.specs.Rows.{rows_of};
 ghost use Rattle.grading.specs.Promise.{Promise};
 ghost use Rattle.togyamiru.specs.NumbersEntry.{numbers_of};
 ghost use Rattle.togyamiru.specs.RowsModel.{RowsAnswer, RowsAnswerOfRead};
 
-use circuit::Reading;
 use circuit::limits::MOST_FAULTS;
 use circuit::refusal::refuses;
+use circuit::{Circuit, Reading};
 use grade_file::grade::grade_read;
 use grade_rows::rows_of;
 use grading::answers::{counts_of, number_of, place_of};
@@ -28,6 +33,15 @@ fn put_rows(codes: [u32; MOST_FAULTS], count: usize, rows: &mut [u32])
     }
 }
 
+// The rows of a circuit, at the front of a buffer that has room for them.
+fn list_circuit(c: Circuit, rows: &mut [u32])
+    requires given { CircuitGiven c }
+    requires room { (c.faults ≤ 2048) × (c.faults ≤ length rows.old) }
+    ensures { (meant : CircuitMeant) → c ≡ circuit_record meant → CircuitGood meant → rows.new ≡ over (take c.faults (padded 2048 0 (codes_of (rows_of meant)))) rows.old }
+{
+    put_rows(rows_of(c), c.faults, rows);
+}
+
 // The rows of a file as it was read, with their count alone, or a refusal, with the row buffer as it was.
 fn list_read(reading: Reading, rows: &mut [u32]) -> Answer
     requires { Read reading }
@@ -42,7 +56,7 @@ fn list_read(reading: Reading, rows: &mut [u32]) -> Answer
     if rows.len() < faults {
         return Answer::ShortClasses(faults);
     }
-    put_rows(rows_of(c), faults, rows);
+    list_circuit(c, rows);
     Answer::Graded(Counts {
         vectors: 0,
         faults,

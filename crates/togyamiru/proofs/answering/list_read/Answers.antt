@@ -1,6 +1,6 @@
 -- `togyamiru::answering::list_read` meets its contract: the file refused, the row buffer too short, or the rows listed; each for every file of which the reading tells.
 -- Assumes nothing.
-use mathlib.Core.Path.{sym, ◌∙◌}
+use mathlib.Core.Path.{refl, sym, ◌∙◌}
 use mathlib.Core.List.{List}
 use Prim.Native.Nat.{ℕ}
 use Rattle.circuit.specs.Reading.{reading_of}
@@ -30,16 +30,12 @@ module _ (c : Else-refuses) where
 pub returns-then-rows-faults : goal.returns-then-rows-faults
 returns-then-rows-faults c = λ file tells. short_rows _ _ (here (goal.at.returns-then-rows-faults c).Else-refuses file tells) _ c.if-rows-faults.true
 
-pub rows_of-requires : goal.rows_of-requires
-rows_of-requires c = given _ _ (known (goal.at.rows_of-requires c).Else-refuses)
-
-pub put_rows-requires : goal.put_rows-requires
-put_rows-requires c =
-    let past = (goal.at.put_rows-requires c).Else-refuses in
-    (faults_few _ _ (known past), c.if-rows-faults.false)
+pub list_circuit-requires : goal.list_circuit-requires
+list_circuit-requires c =
+    let past = (goal.at.list_circuit-requires c).Else-refuses in
+    record { given = given _ _ (known past); room = (faults_few _ _ (known past), c.if-rows-faults.false) }
 
 pub returns : goal.returns
 returns c = λ file tells.
     let this = here (goal.at.returns c).Else-refuses file tells in
-    rows_listed _ _ this _ c.if-rows-faults.false c.rows_of.result _ (c.rows_of.ensures this.circuit this.is (good_here _ _ this))
-    c.put_rows.ensures
+    rows_listed _ _ this _ c.if-rows-faults.false _ _ refl (c.list_circuit.ensures this.circuit this.is (good_here _ _ this))

@@ -1,9 +1,9 @@
--- `read_file::shapes::read_shaped` meets its contract. The loop's invariant: the columns hold what they show of the first `i` types.
+-- `read_file::shapes::with_shapes` meets its contract. The loop's invariant: the columns hold what they show of the first `i` types.
 use Prim.Native.Nat.{◌-◌, ◌≤◌}
 use mathlib.Core.Path.{◌≡◌}
 use Rattle.switch.specs.declared.ModuleType.{ModuleType as TypeRecord}
 use Rattle.read_file.specs.Whole.{column_of}
-use Rattle.read_file.proofs.shapes.read_shaped.Given as goal
+use Rattle.read_file.proofs.shapes.with_shapes.Given as goal
 
 abbrev pub invariant-loop-i : goal.invariant-loop-i
 invariant-loop-i l =

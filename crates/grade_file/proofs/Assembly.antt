@@ -1,5 +1,5 @@
 -- Grading a circuit instance by instance: what stands in signals, matrix, codes and rounds after the first instances (`Turned`), that one turn of the loop goes from
--- one instance to the next, given what each call answers, and that with all rows classed after the last the circuit is graded. Assumes nothing.
+-- one instance to the next, given what each call answers, that after the last the circuit's rows are marked, and that with those classed it is graded. Assumes nothing.
 use Prim.Native.Nat.{ℕ, suc, ◌+◌, ◌-◌, ◌*◌, ◌/◌, ◌<◌, ◌≤◌, max}
 use mathlib.Core.Path.{◌≡◌, refl, sym, ap, ap₂, ◌∙◌}
 use mathlib.Core.List.{List, ◌++◌, map, map-append}
@@ -55,7 +55,7 @@ use Rattle.grade_classes.proofs.ClassLaws.{keyed_long, keyed_take}
 use Rattle.grade_classes.proofs.KeyMeaning.{row_key}
 use Rattle.grade_classes.proofs.ClassMeaning.{classes-by-key, keys_are}
 use Rattle.grade_classes.proofs.FoundMeaning.{found_all, words_are, numbers_are}
-use Rattle.grade_file.specs.Model.{Graded}
+use Rattle.grade_file.specs.Model.{RowsMarked, Graded}
 
 -- ---- after the first instances
 
@@ -82,11 +82,6 @@ pub record Turned (c : Circuit) (matrix₀ : List ℕ) (s : State) : Type 0 wher
   pub codes_long : length s.codes ≡ 2048
   pub keys_are : take s.from s.codes ≡ map row_key (rows_before c s.place)
   pub rounds_are : s.rounds ≡ greatest_to s.place (instance_rounds c)
-
--- the buffers are long enough
-pub record Room (m : CircuitRecord) (matrix classes : List ℕ) : Type 0 where
-  pub words : 4 * m.faults ≤ length matrix
-  pub entries : m.faults ≤ length classes
 
 -- a list over the start of a buffer
 over-is : (text buffer : List ℕ) → written buffer 0 text ≡ over text buffer
@@ -134,7 +129,7 @@ module _ (c : Circuit) (m : CircuitRecord) (is : m ≡ circuit_record c) where
 
 -- ---- at any turn
 
-module _ (m : CircuitRecord) (told : CircuitGiven m) (matrix₀ classes₀ : List ℕ) (room : Room m matrix₀ classes₀) (s : State)
+module _ (m : CircuitRecord) (told : CircuitGiven m) (matrix₀ : List ℕ) (room : 4 * m.faults ≤ length matrix₀) (s : State)
     (so_far : Turned told.circuit matrix₀ s) where
   abbrev c : Circuit
   c = told.circuit
@@ -147,30 +142,17 @@ module _ (m : CircuitRecord) (told : CircuitGiven m) (matrix₀ classes₀ : Lis
   matrix_long =
       ap length so_far.matrix_is
       ∙ length_written matrix₀ 0 (matrix_to c s.place)
-      (omega (arith, length_matrix c rows, rows_within c s.place, room.words, faults_are c m told.is))
+      (omega (arith, length_matrix c rows, rows_within c s.place, room, faults_are c m told.is))
 
-  pub from_few : (s.from ≤ 2048) × (s.from ≤ m.faults)
-  from_few =
-      let most : s.from ≤ m.faults = omega (arith, so_far.from_is, rows_within c s.place, faults_are c m told.is) in
-      (omega (arith, most, faults_are c m told.is, few_rows c told.good), most)
-
-  -- after the last, with the rows classed
-  pub turned_end : m.instance_count ≤ s.place → (r : Classed) (classes' : List ℕ)
-      → RowsClassed (take s.from s.codes) s.matrix classes₀ r classes'
-      → Graded c record { vectors = m.vector_count; faults = m.faults; classes = r.count; found = r.found; rounds = s.rounds }
-      matrix₀ classes₀ s.matrix classes'
-  unfolding counts_of_circuit matrix_of written rounds_of
-  turned_end past r classes' classed =
+  -- after the last, the circuit's rows are marked
+  pub turned_end : m.instance_count ≤ s.place → RowsMarked c matrix₀ s.matrix s.codes s.rounds
+  unfolding matrix_of rounds_of
+  turned_end past =
       record {
-        counts_are = λ j. record {
-          vectors = vectors_are c m told.is j;
-          faults = faults_are c m told.is j;
-          classes = count_is j;
-          found = found_is j;
-          rounds = rounds_are j;
-        };
         matrix_is = matrix_is ∙ over-is (matrix_of c) matrix₀;
-        classes_are = classes_are ∙ over-is (classes_of (rows_of c)) classes₀;
+        codes_long = so_far.codes_long;
+        keys_are = ap (λ (n : ℕ). take n s.codes) (sym (so_far.from_is ∙ ap length all)) ∙ so_far.keys_are ∙ ap (map row_key) all;
+        rounds_are = so_far.rounds_are ∙ ap (λ (n : ℕ). greatest_to n (instance_rounds c)) last;
       }
     where
       last : s.place ≡ length c.instances
@@ -179,32 +161,67 @@ module _ (m : CircuitRecord) (told : CircuitGiven m) (matrix₀ classes₀ : Lis
       all : rows ≡ rows_of c
       all = rows_all c s.place (omega (arith, last))
 
-      rounds_are : s.rounds ≡ greatest_to (length c.instances) (instance_rounds c)
-      rounds_are = so_far.rounds_are ∙ ap (λ (n : ℕ). greatest_to n (instance_rounds c)) last
-
-      keys : take s.from s.codes ≡ map row_key (rows_of c)
-      keys = so_far.keys_are ∙ ap (map row_key) all
-
-      numbers : classes_by eqb (take s.from s.codes) ≡ classes_of (rows_of c)
-      numbers = ap (classes_by eqb) keys ∙ sym (classes-by-key c told.good)
-
       matrix_is : s.matrix ≡ written matrix₀ 0 (join_lists (map (row_words c) (rows_of c)))
       matrix_is = so_far.matrix_is ∙ ap (λ (l : List Row). written matrix₀ 0 (join_lists (map (row_words c) l))) all
 
-      classes_are : classes' ≡ written classes₀ 0 (classes_of (rows_of c))
+-- ---- after the last, with the rows marked
+
+module _ (m : CircuitRecord) (told : CircuitGiven m) (matrix₀ matrix' codes' : List ℕ) (rounds : ℕ)
+    (marked : RowsMarked told.circuit matrix₀ matrix' codes' rounds) where
+  abbrev whole : Circuit
+  whole = told.circuit
+
+  pub faults_few : m.faults ≤ 2048
+  faults_few = omega (arith, faults_are whole m told.is, few_rows whole told.good)
+
+  matrix_here : matrix' ≡ written matrix₀ 0 (matrix_of whole)
+  matrix_here = marked.matrix_is ∙ sym (over-is (matrix_of whole) matrix₀)
+
+  -- the matrix is as long as it was
+  pub marked_long : 4 * m.faults ≤ length matrix₀ → length matrix' ≡ length matrix₀
+  unfolding matrix_of
+  marked_long room =
+      ap length matrix_here
+      ∙ length_written matrix₀ 0 (matrix_of whole) (omega (arith, length_matrix whole (rows_of whole), room, faults_are whole m told.is))
+
+  -- with the rows classed
+  pub graded : (r : Classed) (classes₀ classes' : List ℕ) → RowsClassed (take m.faults codes') matrix' classes₀ r classes'
+      → Graded whole record { vectors = m.vector_count; faults = m.faults; classes = r.count; found = r.found; rounds = rounds }
+      matrix₀ classes₀ matrix' classes'
+  unfolding counts_of_circuit matrix_of written
+  graded r classes₀ classes' classed =
+      record {
+        counts_are = λ j. record {
+          vectors = vectors_are whole m told.is j;
+          faults = faults_are whole m told.is j;
+          classes = count_is j;
+          found = found_is j;
+          rounds = marked.rounds_are j;
+        };
+        matrix_is = marked.matrix_is;
+        classes_are = classes_are ∙ over-is (classes_of (rows_of whole)) classes₀;
+      }
+    where
+      keys : take m.faults codes' ≡ map row_key (rows_of whole)
+      keys = ap (λ (n : ℕ). take n codes') (faults_are whole m told.is) ∙ marked.keys_are
+
+      numbers : classes_by eqb (take m.faults codes') ≡ classes_of (rows_of whole)
+      numbers = ap (classes_by eqb) keys ∙ sym (classes-by-key whole told.good)
+
+      classes_are : classes' ≡ written classes₀ 0 (classes_of (rows_of whole))
       classes_are = classed.classes_are ∙ ap (written classes₀ 0) numbers
 
-      count_is : r.count ≡ largest (classes_of (rows_of c))
+      count_is : r.count ≡ largest (classes_of (rows_of whole))
       count_is = classed.count_is ∙ ap largest numbers
 
-      many : length (take s.from s.codes) ≡ length (rows_of c)
-      many = ap length keys ∙ length-map (rows_of c) row_key
+      many : length (take m.faults codes') ≡ length (rows_of whole)
+      many = ap length keys ∙ length-map (rows_of whole) row_key
 
-      found_is : r.found ≡ found_count c
+      found_is : r.found ≡ found_count whole
       found_is =
           classed.found_is
-          ∙ ap (λ (n : ℕ). found_from s.matrix classes' 0 n 0) many
-          ∙ sym (found_all c told.good s.matrix classes' (rw matrix_is (words_are c (rows_of c) _)) (rw classes_are (numbers_are (rows_of c) _)))
+          ∙ ap (λ (n : ℕ). found_from matrix' classes' 0 n 0) many
+          ∙ sym (found_all whole told.good matrix' classes' (rw matrix_here (words_are whole (rows_of whole) _)) (rw classes_are (numbers_are (rows_of whole) _)))
 
 -- ---- one instance
 
@@ -286,7 +303,7 @@ pub record TurnFits (t : TypeRecord) (one : InstanceRecord) (s : State) (codes :
   pub codes_long : length codes ≡ 2048
   pub marks : InstanceGiven t one.references s.place codes s.from to s.ones s.zeros s.matrix
 
-module _ (m : CircuitRecord) (told : CircuitGiven m) (matrix₀ classes₀ : List ℕ) (room : Room m matrix₀ classes₀) (s : State)
+module _ (m : CircuitRecord) (told : CircuitGiven m) (matrix₀ : List ℕ) (room : 4 * m.faults ≤ length matrix₀) (s : State)
     (so_far : Turned told.circuit matrix₀ s) (h : s.place < length told.circuit.instances) (e : InstanceRecord) (u : TypeRecord) where
   abbrev d : Circuit
   d = told.circuit
@@ -352,7 +369,7 @@ module _ (m : CircuitRecord) (told : CircuitGiven m) (matrix₀ classes₀ : Lis
         zeros_long = signals_long.1;
         order = order.0;
         most = order.1;
-        room = omega (arith, matrix_long m told matrix₀ classes₀ room s so_far, within, room.words, faults_are d m is);
+        room = omega (arith, matrix_long m told matrix₀ room s so_far, within, room, faults_are d m is);
         codes = listed_fit d good m is i no_instance h e u s.codes s.from to codes listed few_faults;
       };
     }
@@ -395,7 +412,7 @@ module _ (m : CircuitRecord) (told : CircuitGiven m) (matrix₀ classes₀ : Lis
           = ap (λ (l : List Row). join_lists (map (row_words d) l)) grown ∙ matrix_append d (rows_before d i) new in
           let place : 4 * s.from ≡ 0 + length (matrix_to d i) = omega (arith, so_far.from_is, length_matrix d (rows_before d i)) in
           let fits : 0 + length (matrix_to d i ++ added) ≤ length matrix₀
-          = rw (← whole) (omega (arith, length_matrix d (rows_before d (suc i)), rows_within d (suc i), room.words, faults_are d m is)) in
+          = rw (← whole) (omega (arith, length_matrix d (rows_before d (suc i)), rows_within d (suc i), room, faults_are d m is)) in
           marked.rows_are
           ∙ rw (texts, so_far.matrix_is, place)
           (written_written matrix₀ 0 (matrix_to d i) added fits ∙ ap (written matrix₀ 0) (sym whole))

@@ -7,7 +7,7 @@ ghost use Rattle.grading.specs.Buffers.{buffers_of};
 ghost use Rattle.grading.specs.Given.{CircuitGiven, Read};
 ghost use Rattle.grading.specs.CircuitPromise.{PromiseOfCircuit};
 ghost use Rattle.grading.specs.Promise.{Promise, PromiseOfRead};
-ghost use Rattle.grade_file.specs.Model.{Graded};
+ghost use Rattle.grade_file.specs.Model.{Graded, RowsMarked};
 
 use circuit::limits::MOST_FAULTS;
 use circuit::refusal::refuses;
@@ -32,45 +32,55 @@ fn counted(vectors: usize, faults: usize, classed: Classed, rounds: usize) -> Co
     }
 }
 
-// The counts of a circuit whose buffers are long enough, with its rows and classes written.
+// The rows of a circuit listed, marked and keyed, instance by instance; answers the rounds that joining took.
 // The arrays are taken out of the circuit, each once: one that is indexed inside it makes the compiler copy the circuit whole, and its bridges and vectors again.
-fn fill_buffers(c: Circuit, matrix: &mut [u64], classes: &mut [u16]) -> Counts
-    requires { CircuitGiven c × (4 * c.faults ≤ length matrix.old) × (c.faults ≤ length classes.old) }
-    ensures { (meant : CircuitMeant) → c ≡ circuit_record meant → CircuitGood meant → Graded meant result matrix.old classes.old matrix.new classes.new }
+// The signals are put before types, bridges and instances are taken, so that the compiler lays these where the vectors were.
+fn mark_rows(c: Circuit, matrix: &mut [u64], codes: &mut [u32; MOST_FAULTS]) -> usize
+    requires { CircuitGiven c × (4 * c.faults ≤ length matrix.old) × (length codes.old ≡ 2048) }
+    ensures { (meant : CircuitMeant) → c ≡ circuit_record meant → CircuitGood meant → RowsMarked meant matrix.old matrix.new codes.new result }
 {
-    let types = c.types;
-    let bridges = c.bridges;
-    let instances = c.instances;
     let vectors = c.vectors;
     let mut ones = [0u64; 768];
     let mut zeros = [0u64; 768];
     put_signals(vectors, (c.vector_count + 63) / 64, &mut ones, &mut zeros);
-    let mut codes = [0u32; MOST_FAULTS];
+    let types = c.types;
+    let bridges = c.bridges;
+    let instances = c.instances;
     let mut from: usize = 0;
     let mut rounds: usize = 0;
     let mut i: usize = 0;
     while i < c.instance_count {
         let one = instances[i];
         let t = types[(one.type_number as usize) - 1];
-        let to = list_rows(one, t, bridges, c.bridge_count, i, &mut codes, from);
+        let to = list_rows(one, t, bridges, c.bridge_count, i, codes, from);
         let its_rounds = mark_instance(
             t,
             one,
             i,
             c.vector_count,
-            &codes,
+            codes,
             from,
             to,
             &mut ones,
             &mut zeros,
             matrix,
         );
-        write_keys(&mut codes, from, to, i, one, t.output);
+        write_keys(codes, from, to, i, one, t.output);
         rounds = greater(rounds, its_rounds);
         from = to;
         i += 1;
     }
-    let classed = class_rows(&codes, from, matrix, classes);
+    rounds
+}
+
+// The counts of a circuit whose buffers are long enough, with its rows and classes written.
+fn fill_buffers(c: Circuit, matrix: &mut [u64], classes: &mut [u16]) -> Counts
+    requires { CircuitGiven c × (4 * c.faults ≤ length matrix.old) × (c.faults ≤ length classes.old) }
+    ensures { (meant : CircuitMeant) → c ≡ circuit_record meant → CircuitGood meant → Graded meant result matrix.old classes.old matrix.new classes.new }
+{
+    let mut codes = [0u32; MOST_FAULTS];
+    let rounds = mark_rows(c, matrix, &mut codes);
+    let classed = class_rows(&codes, c.faults, matrix, classes);
     counted(c.vector_count, c.faults, classed, rounds)
 }
 

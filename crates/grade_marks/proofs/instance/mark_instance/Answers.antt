@@ -36,22 +36,26 @@ label_planes-label_ones-requires c = c.requires.tied
 pub label_planes-label_zeros-requires : goal.label_planes-label_zeros-requires
 label_planes-label_zeros-requires c = c.requires.tied
 
-pub join_type-rails-requires : goal.join_type-rails-requires
-join_type-rails-requires c = c.requires.sound
+pub join_type-requires : goal.join_type-requires
+join_type-requires c = c.requires.sound
 
-pub put_output-requires : goal.put_output-requires
-put_output-requires c =
-    let ranges = given_type c.args.t c.requires.sound in
-    record { node_bound = (omega (arith, ranges.output_high, ranges.highest), c.requires.placed); ones_len = (c.requires.ones_long, c.requires.zeros_long) }
-
-pub write_rows-requires : goal.write_rows-requires
-write_rows-requires c =
+pub mark_joined-requires : goal.mark_joined-requires
+mark_joined-requires c =
     let pre = c.requires in
-    record { from_le_to = (pre.order, pre.most); to_in_bounds = pre.room; codes_fit = pre.codes }
+    let ranges = given_type c.args.t pre.sound in
+    record {
+      output_bound = (omega (arith, ranges.output_high, ranges.highest), pre.placed);
+      ones_len = (pre.ones_long, pre.zeros_long);
+      from_le_to = (pre.order, pre.most);
+      to_in_bounds = pre.room;
+      codes_fit = pre.codes;
+    }
 
 pub returns : goal.returns
 returns c =
     let args = c.args in
-    marked args.t args.one.references args.ones.now args.zeros.now _ _
-    c.join_type-rails.result c.label_planes-label_ones.ensures c.label_planes-label_zeros.ensures c.join_type-rails.ensures
-    c.put_output.ensures.0 c.put_output.ensures.1 c.write_rows.ensures
+    let told = c.mark_joined.ensures in
+    rw told.rounds_are
+    (marked args.t args.one.references args.ones.now args.zeros.now _ _
+    c.join_type.result c.label_planes-label_ones.ensures c.label_planes-label_zeros.ensures c.join_type.ensures
+    told.ones_put told.zeros_put told.rows_put)

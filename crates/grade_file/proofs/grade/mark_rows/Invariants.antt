@@ -1,9 +1,9 @@
--- `grade_file::grade::fill_buffers` meets its contract. The loop's invariant: whatever good circuit the record tells, its first `i` instances are marked,
+-- `grade_file::grade::mark_rows` meets its contract. The loop's invariant: whatever good circuit the record tells, its first `i` instances are marked,
 -- their rows keyed and their rounds known (`Turned`). The measure is what is left of the instances. Assumes nothing.
 use Prim.Native.Nat.{◌-◌}
 use Rattle.grading.specs.Given.{CircuitGiven}
 use Rattle.grade_file.proofs.Assembly.{Turned}
-use Rattle.grade_file.proofs.grade.fill_buffers.Given as goal
+use Rattle.grade_file.proofs.grade.mark_rows.Given as goal
 
 abbrev pub invariant-loop-i : goal.invariant-loop-i
 invariant-loop-i l =

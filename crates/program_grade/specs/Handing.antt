@@ -32,7 +32,8 @@ AllHanded file lines = TextHanded (line_count (grading_of_file file)) lines
 abbrev pub ReportPut : List ℕ → Output → Output → Option (List ℕ) → Option (List ℕ) → Type 0
 ReportPut file before after old new = TextPut before after old new (report_of (grading_of_file file))
 
--- and of an input nothing, where it could not be read, or the heading and the report of the bytes that were read
+-- and of an input nothing, or a heading and the report of some bytes. That there is nothing only where it could not be read, and that the
+-- bytes are those that were read, is left to reading
 abbrev pub InputReported : Output → Output → Option (List ℕ) → Option (List ℕ) → Type 0
 InputReported before after old new =
     ((after ≡ before) × (new ≡ old))

@@ -24,7 +24,8 @@ listing_text file = text_from (line_in (listing_of_file file)) 0 (length (listin
 abbrev pub ListingPut : List ℕ → Output → Output → Option (List ℕ) → Option (List ℕ) → Type 0
 ListingPut file before after old new = TextPut before after old new (listing_text file)
 
--- and of an input nothing, where it could not be read, or the heading and the listing of the bytes that were read
+-- and of an input nothing, or a heading and the listing of some bytes. That there is nothing only where it could not be read, and that the
+-- bytes are those that were read, is left to reading
 abbrev pub InputListed : Output → Output → Option (List ℕ) → Option (List ℕ) → Type 0
 InputListed before after old new =
     ((after ≡ before) × (new ≡ old))

@@ -1,6 +1,6 @@
 -- The code's records in the words of Conduction and Modules: an edge record, a module type, planes of labels, and what a record must be to
 -- be one of 01's.
-use Rattle.std.specs.Prelude.{ℕ, zero, suc, ◌+◌, ◌-◌, ◌*◌, ◌/◌, ◌%◌, ◌^◌, ◌≤◌, Bool, true, false, List, map, T, length, take, get_or}
+use Rattle.std.specs.Prelude.{ℕ, zero, suc, ◌+◌, ◌-◌, ◌*◌, ◌/◌, ◌%◌, ◌^◌, ◌≤◌, Bool, true, false, List, map, T, length, take, get_or, replicate}
 use Rattle.words.specs.Bits.{bit}
 use Rattle.switch.specs.Conduction.{Value, at0, at1, at_x, Channel, channel_p, channel_n, channel_bit, channel_by, Switching}
 use Rattle.switch.specs.Conduction.{EdgeTag, by_position, stated, Edge}
@@ -51,6 +51,10 @@ edge_of r = record { first = first_node_in r; second = second_node_in r; channel
 -- equal
 abbrev pub no_edge : EdgeRecord
 no_edge = record { code = 0 }
+
+-- what stands in the unused places for types
+abbrev pub unused_type : TypeRecord
+unused_type = record { highest = 0; output = 0; labels = 0; count = 0; edges = replicate most_edges no_edge }
 
 unfoldable pub edges_of : List EdgeRecord → List Edge
 edges_of rs = map edge_of rs

@@ -1,7 +1,10 @@
 // Switch-level modules: the limits of a module type and the records that the other crates hand on. The code is in the crate `join_nodes`.
 #![tactic(auto)]
 
-pub mod edges;
+ghost use Rattle.std.specs.Prelude.{◌≡◌, take};
+ghost use Rattle.switch.specs.Records.{unused_type};
+
+mod edges;
 
 // The limits of a module type: its edges, its nodes (0 to 31) and its labels.
 pub const MOST_EDGES: usize = 256;
@@ -10,14 +13,12 @@ pub const MOST_NODES: usize = 32;
 
 pub const MOST_LABELS: usize = 12;
 
-// An edge of a module type, one transistor: its two nodes, its label, its channel and the tag it came with in one number, which `edges` makes and takes apart. So the edges of a type fill half a kilobyte.
-#[derive(Clone, Copy)]
+// An edge of a module type, one transistor: its two nodes, its label, its channel and the tag it came with in one number, which its methods make and take apart. So the edges of a type fill half a kilobyte.
+// The default, of number 0, is what stands in the places of a type that no edge fills.
+#[derive(Clone, Copy, Default)]
 pub struct Edge {
     pub code: u16,
 }
-
-// What stands in the places of a type that no edge fills.
-pub const NO_EDGE: Edge = Edge { code: 0 };
 
 // A module type: highest node, output node, number of labels, and its edges, in the first `count` places.
 #[derive(Clone, Copy)]
@@ -27,6 +28,30 @@ pub struct ModuleType {
     pub labels: u8,
     pub count: usize,
     pub edges: [Edge; MOST_EDGES],
+}
+
+// What stands in the unused places for types.
+impl Default for ModuleType {
+    ghost is_default = { λ t. t ≡ unused_type };
+
+    fn default() -> ModuleType {
+        ModuleType {
+            highest: 0,
+            output: 0,
+            labels: 0,
+            count: 0,
+            edges: [Edge::default(); MOST_EDGES],
+        }
+    }
+}
+
+impl ModuleType {
+    // The edges in use.
+    pub fn edges(&self) -> &[Edge]
+        ensures { result.now ≡ take self.now.count self.now.edges }
+    {
+        &self.edges[..self.count.min(MOST_EDGES)]
+    }
 }
 
 // The most rounds that joining took, which are the greatest distance of a joined node from its rail under any of 256 vectors; and four words for each node and each rail: under which of them the node is joined to it.

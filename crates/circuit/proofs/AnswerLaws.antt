@@ -3,14 +3,15 @@ use Prim.Native.Nat.{ℕ}
 use mathlib.Core.Path.{◌≡◌, refl, sym, ap, ◌∙◌}
 use mathlib.Core.Bool.{cond}
 use lib.Dec.{eqb}
+use Rattle.std.specs.Prelude.{Option, Some, None}
 use Rattle.circuit.specs.Table.{Verdict, passes, refused_at}
 use Rattle.circuit.specs.Reading.{accepted, refusal}
-use Rattle.circuit.specs.Refusals.{refusal_number, refusal_place, numbered_verdict, verdict_of}
+use Rattle.circuit.specs.Refusals.{verdict_of}
 use Rattle.circuit.specs.Answers.{Tells, Answers}
 use Rattle.circuit.specs.Laws.{AnswersUnique}
 use Rattle.circuit.specs.declared.Reading.{Reading as ReadingRecord}
 use Rattle.circuit.specs.declared.refusal.Refusal.{Refusal}
-use Rattle.circuit.specs.declared.refusal.Refusal.TheVariants.{Nothing, TooLong, Broken, UnknownTag, Misplaced, WrongLength, TooMany, OutOfRange, BadEnds, NotComplementary, BadReference, BridgeUnsuited, EmptyList, TooManyFaults, Unfinished}
+use Rattle.circuit.specs.declared.refusal.Refusal.TheVariants.{TooLong, Broken, UnknownTag, Misplaced, WrongLength, TooMany, OutOfRange, BadEnds, NotComplementary, BadReference, BridgeUnsuited, EmptyList, TooManyFaults, Unfinished}
 
 -- the refusal with a number and a place
 numbered : ℕ → ℕ → Refusal
@@ -21,30 +22,30 @@ numbered n p =
     (cond (eqb n 12) (EmptyList p) (cond (eqb n 13) (TooManyFaults p) (Unfinished p)))))))))))))
 
 -- the refusal that a verdict tells
-told_by : Verdict → Refusal
-told_by passes = Nothing
-told_by (refused_at n p) = numbered n p
+told_by : Verdict → Option Refusal
+told_by passes = None
+told_by (refused_at n p) = Some (numbered n p)
 
-told : (r : Refusal) → told_by (verdict_of r) ≡ r
-unfolding told_by numbered verdict_of numbered_verdict refusal_number refusal_place
-told Nothing = refl
-told TooLong = refl
-told (Broken p) = refl
-told (UnknownTag p) = refl
-told (Misplaced p) = refl
-told (WrongLength p) = refl
-told (TooMany p) = refl
-told (OutOfRange p) = refl
-told (BadEnds p) = refl
-told (NotComplementary p) = refl
-told (BadReference p) = refl
-told (BridgeUnsuited p) = refl
-told (EmptyList p) = refl
-told (TooManyFaults p) = refl
-told (Unfinished p) = refl
+told : (r : Option Refusal) → told_by (verdict_of r) ≡ r
+unfolding told_by numbered
+told None = refl
+told (Some TooLong) = refl
+told (Some (Broken p)) = refl
+told (Some (UnknownTag p)) = refl
+told (Some (Misplaced p)) = refl
+told (Some (WrongLength p)) = refl
+told (Some (TooMany p)) = refl
+told (Some (OutOfRange p)) = refl
+told (Some (BadEnds p)) = refl
+told (Some (NotComplementary p)) = refl
+told (Some (BadReference p)) = refl
+told (Some (BridgeUnsuited p)) = refl
+told (Some (EmptyList p)) = refl
+told (Some (TooManyFaults p)) = refl
+told (Some (Unfinished p)) = refl
 
--- number and place tell a refusal
-pub verdict-tells : (r s : Refusal) → verdict_of r ≡ verdict_of s → r ≡ s
+-- number and place tell a refusal, and that there is none
+pub verdict-tells : (r s : Option Refusal) → verdict_of r ≡ verdict_of s → r ≡ s
 verdict-tells r s e = sym (told r) ∙ ap told_by e ∙ told s
 
 same_answer : (r s : ReadingRecord) → r.refusal ≡ s.refusal → r.circuit ≡ s.circuit → r ≡ s

@@ -1,14 +1,17 @@
 -- The laws of kinds and their order: a kind is told by its number; and what is out of place behind a field.
 use Prim.Native.Nat.{ℕ, ◌<◌, ◌≤◌}
 use mathlib.Core.Path.{◌≡◌, refl, sym, ap, ◌∙◌}
-use mathlib.Core.Bool.{Bool, true, false, cond, not, ◌||◌}
+use mathlib.Core.Bool.{Bool, true, false, cond, not}
 use mathlib.Core.Logic.{◌⊎◌, inl, inr}
 use native.Mathlib.Omega.{arith}
-use native.Mathlib.Decide.{dec_lt}
-use borrow.Author.Tests.{eqb-true, eqb-false, eq-eqb, ne_eqb, ltb-true, ltb-false}
-use lib.Dec.{eqb, ltb}
+use borrow.Author.Tests.{eqb-true, eqb-false, eq-eqb, ne_eqb}
+use lib.Dec.{eqb}
 use Rattle.switch.specs.Conduction.{EdgeTag, by_position, stated, between}
 use Rattle.circuit.specs.Order.{Tag, inputs_tag, type_tag, edge_tag, bridge_tag, instance_tag, vector_tag, no_tag, tag_number, tag_of, is_kind, is_edge, edge_tag_of, is_unknown, rank, Previous, after_tag, reached, may_follow}
+use Rattle.circuit.specs.Kinds.{kind_of, of_kind}
+use Rattle.circuit.specs.declared.order.Kind.{Kind}
+use Rattle.circuit.specs.contracts.order.Kind.{the_type}
+use denote.Enum.Bare.{sameb}
 use Rattle.circuit.proofs.RangeLaws.{between_below, between_above}
 
 -- ---- kinds
@@ -75,25 +78,7 @@ module _ (kind : Tag) (n : ℕ) (known : 1 ≤ tag_number kind) where
       go true e = sym (is_kind_lem kind (tag_of n) (ap tag_of (eqb-true n (tag_number kind) e) ∙ tag_back kind))
       go false e = sym (not_kind kind (tag_of n) (λ own. eqb-false n (tag_number kind) e (tag_byte own)))
 
-  not_tag : tag_of n ≡ no_tag → n ≡ tag_number kind → ⊥
-  not_tag none is = let z : tag_number kind ≡ 0 = ap tag_number (sym (tag_back kind) ∙ ap tag_of (sym is) ∙ none) in absurd (omega arith)
-
--- 3 and 7 are the tags of edges, and 7 that of an edge that states its channel
-edge_of_two : (tag : Tag) → (is_kind (edge_tag by_position) tag || is_kind (edge_tag stated) tag) ≡ is_edge tag
-unfolding is_kind is_edge
-edge_of_two inputs_tag = refl
-edge_of_two type_tag = refl
-edge_of_two (edge_tag by_position) = refl
-edge_of_two (edge_tag stated) = refl
-edge_of_two bridge_tag = refl
-edge_of_two instance_tag = refl
-edge_of_two vector_tag = refl
-edge_of_two no_tag = refl
-
-pub edge-byte : (n : ℕ) → (eqb n 3 || eqb n 7) ≡ is_edge (tag_of n)
-edge-byte n =
-    rw (kind_byte (edge_tag by_position) n (omega arith), kind_byte (edge_tag stated) n (omega arith)) (edge_of_two (tag_of n))
-
+-- 7 is the tag of an edge that states its channel
 edge-tag-is : (tag : Tag) → cond (is_kind (edge_tag stated) tag) stated by_position ≡ edge_tag_of tag
 unfolding is_kind edge_tag_of
 edge-tag-is inputs_tag = refl
@@ -108,51 +93,22 @@ edge-tag-is no_tag = refl
 pub edge-tag-byte : (n : ℕ) → cond (eqb n 7) stated by_position ≡ edge_tag_of (tag_of n)
 edge-tag-byte n = rw (kind_byte (edge_tag stated) n (omega arith)) (edge-tag-is (tag_of n))
 
--- 0, and a byte past the tags, stand for none
-no_tag_byte : (n : ℕ) → (n ≡ 0) ⊎ (7 < n) → tag_of n ≡ no_tag
-unfolding tag_of
-no_tag_byte n (inl e) = rw e refl
-no_tag_byte n (inr h) =
-    rw (
-      ne_eqb n 1 (omega arith),
-      ne_eqb n 2 (omega arith),
-      ne_eqb n 3 (omega arith),
-      ne_eqb n 4 (omega arith),
-      ne_eqb n 5 (omega arith),
-      ne_eqb n 6 (omega arith),
-      ne_eqb n 7 (omega arith),
-    )
-    refl
+-- a field's kind, told by `==` or by a `match`
+module _ (kind : Kind) where
+  pub kind-told : (tag : Tag) → sameb the_type (kind_of tag) kind ≡ of_kind kind tag
+  unfolding is_kind is_edge
+  kind-told tag = grind arith
 
-low-tag-byte : (n : ℕ) → (n ≡ 0 → ⊥) → n ≤ 3 → tag_of n ≡ no_tag → ⊥
-low-tag-byte n low high none =
-    let one : n ≡ 1 → ⊥ = not_tag inputs_tag n (omega arith) none in
-    let two : n ≡ 2 → ⊥ = not_tag type_tag n (omega arith) none in
-    let three : n ≡ 3 → ⊥ = not_tag (edge_tag by_position) n (omega arith) none in
-    absurd (omega arith)
+  pub kind-same : {r : Bool} {of : Kind} (tag : ℕ) → of ≡ kind_of (tag_of tag) → r ≡ sameb the_type of kind → r ≡ of_kind kind (tag_of tag)
+  kind-same tag e is = is ∙ ap (λ (k : Kind). sameb the_type k kind) e ∙ kind-told (tag_of tag)
 
-high-tag-byte : (n : ℕ) → 4 ≤ n → n ≤ 7 → tag_of n ≡ no_tag → ⊥
-high-tag-byte n low high none =
-    let four : n ≡ 4 → ⊥ = not_tag bridge_tag n (omega arith) none in
-    let five : n ≡ 5 → ⊥ = not_tag instance_tag n (omega arith) none in
-    let six : n ≡ 6 → ⊥ = not_tag vector_tag n (omega arith) none in
-    let seven : n ≡ 7 → ⊥ = not_tag (edge_tag stated) n (omega arith) none in
-    absurd (omega arith)
+  pub of-its_kind : (tag : Tag) → kind ≡ kind_of tag → of_kind kind tag ≡ true
+  unfolding is_kind is_edge
+  of-its_kind tag e = grind arith
 
-some-tag-byte : (n : ℕ) → (n ≡ 0 → ⊥) → n ≤ 7 → tag_of n ≡ no_tag → ⊥
-some-tag-byte n low high none = go (dec_lt n 4)
-  where
-    go : Dec (n < 4) → ⊥
-    go (yes h) = low-tag-byte n low (omega arith) none
-    go (no h) = high-tag-byte n (omega arith) high none
-
-pub unknown_byte : (n : ℕ) → (eqb n 0 || ltb 7 n) ≡ is_unknown (tag_of n)
-unknown_byte n = go (eqb n 0) (ltb 7 n) refl refl
-  where
-    go : (a b : Bool) → eqb n 0 ≡ a → ltb 7 n ≡ b → (a || b) ≡ is_unknown (tag_of n)
-    go true b e f = sym (is_kind_lem no_tag (tag_of n) (no_tag_byte n (inl (eqb-true n 0 e))))
-    go false true e f = sym (is_kind_lem no_tag (tag_of n) (no_tag_byte n (inr (ltb-true 7 n f))))
-    go false false e f = sym (not_kind no_tag (tag_of n) (some-tag-byte n (eqb-false n 0 e) (ltb-false 7 n f)))
+  pub of-another_kind : (tag : Tag) → (kind ≡ kind_of tag → ⊥) → of_kind kind tag ≡ false
+  unfolding is_kind is_edge
+  of-another_kind tag other = grind arith
 
 -- ---- edges, and the order
 

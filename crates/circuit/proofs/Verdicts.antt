@@ -1,11 +1,16 @@
--- The laws of verdicts: tests looked at one after the other, each only where none before it refused, give the first that refuses.
+-- The laws of verdicts: what the code's refusal says of a file, or none; and tests looked at one after the other, each only where none before it refused, give the first that refuses.
 use Prim.Native.Nat.{ℕ}
 use mathlib.Core.Path.{◌≡◌, refl, sym}
 use mathlib.Core.Bool.{Bool, true, false, cond}
 use mathlib.Core.List.{List, [], ◌∷◌}
 use native.Mathlib.Omega.{arith}
+use Rattle.std.specs.Prelude.{Option, Some, None, is_some, Result, Ok, Err, is_ok, is_err}
+use Rattle.std.specs.Option.{option_or}
+use Rattle.std.specs.Bool.{then_some}
 use Rattle.circuit.specs.Table.{Test, Verdict, passes, refused_at, first_of}
-use Rattle.circuit.specs.Verdicts.{is_refused, or_if}
+use Rattle.circuit.specs.Refusals.{verdict_of}
+use Rattle.circuit.specs.Verdicts.{is_refused, or_if, refusal_of}
+use Rattle.circuit.specs.declared.refusal.Refusal.{Refusal}
 
 -- the verdict after some more tests
 unfoldable pub first_after : Verdict → List Test → Verdict
@@ -46,3 +51,45 @@ first_passes t ts = go t.refuses
     go : (b : Bool) → cond b (refused_at t.number t.place) (first_of ts) ≡ passes → (b ≡ false) × (first_of ts ≡ passes)
     go true e = (cc, cc)
     go false e = (refl, e)
+
+-- ---- of a refusal, or of none
+
+pub none-passes : verdict_of None ≡ passes
+none-passes = refl
+
+pub some-refused : (r : Refusal) → is_refused (verdict_of (Some r)) ≡ true
+unfolding is_refused
+some-refused r = refl
+
+pub is_some-refused : (r : Option Refusal) → is_some r ≡ is_refused (verdict_of r)
+unfolding is_refused
+is_some-refused None = refl
+is_some-refused (Some r) = refl
+
+pub passes-none : (r : Option Refusal) → verdict_of r ≡ passes → r ≡ None
+passes-none None e = refl
+passes-none (Some r) e = cc
+
+-- the first of two
+pub verdict-or : (r s : Option Refusal) → verdict_of (option_or r s) ≡ cond (is_refused (verdict_of r)) (verdict_of r) (verdict_of s)
+unfolding is_refused
+verdict-or None s = refl
+verdict-or (Some r) s = refl
+
+-- a refusal so far, and after it one more test
+pub verdict-or_if : (so_far : Option Refusal) (test : Bool) (this : Refusal)
+    → verdict_of (option_or so_far (then_some test this)) ≡ or_if (verdict_of so_far) test (verdict_of (Some this))
+unfolding or_if
+verdict-or_if None true this = refl
+verdict-or_if None false this = refl
+verdict-or_if (Some r) test this = refl
+
+-- of what a field gives, or its refusal
+pub is_err-refused : {A : Type 0} (r : Result A Refusal) → is_err r ≡ is_refused (verdict_of (refusal_of r))
+unfolding is_refused
+is_err-refused (Ok a) = refl
+is_err-refused (Err r) = refl
+
+pub passes-ok : {A : Type 0} (r : Result A Refusal) → verdict_of (refusal_of r) ≡ passes → is_ok r ≡ true
+passes-ok (Ok a) e = refl
+passes-ok (Err r) e = cc

@@ -1,11 +1,12 @@
 -- The code's records of a circuit: arrays whose first places are used and whose other places hold a stated default.
-use Rattle.std.specs.Prelude.{ℕ, true, false, List, [], map, length, get_or, replicate}
+use Rattle.std.specs.Prelude.{ℕ, List, [], map, length, get_or, replicate}
 use Rattle.words.specs.Bits.{pack}
 use Rattle.words.specs.Tables.{table}
 use Rattle.switch.specs.Conduction.{Value, at_x}
 use Rattle.switch.specs.Modules.{ModuleType, most_edges}
 use Rattle.switch.specs.Bridges.{Bridge, nodes, input}
 use Rattle.switch.specs.Records.{no_edge, edge_record}
+pub use Rattle.switch.specs.Records.{unused_type}
 use Rattle.switch.specs.Promises.{is_at0, is_at1}
 use Rattle.switch.specs.declared.ModuleType.{ModuleType as TypeRecord}
 use Rattle.circuit.specs.Limits.{most_types, most_bridges, most_instances, most_vectors}
@@ -13,6 +14,7 @@ use Rattle.circuit.specs.Circuit.{Circuit, Instance, Listed, Reference, primary,
 use Rattle.circuit.specs.Circuit.{fault_count}
 use Rattle.circuit.specs.declared.Bridge.{Bridge as BridgeRecord}
 use Rattle.circuit.specs.declared.Reference.{Reference as ReferenceRecord}
+use Rattle.circuit.specs.declared.Reference.TheVariants.{Input, Earlier}
 use Rattle.circuit.specs.declared.Instance.{Instance as InstanceRecord}
 use Rattle.circuit.specs.declared.Vector.{Vector as VectorRecord}
 use Rattle.circuit.specs.declared.Circuit.{Circuit as CircuitRecord}
@@ -20,9 +22,6 @@ use Rattle.circuit.specs.declared.Circuit.{Circuit as CircuitRecord}
 -- a list in n places, the others at a default
 unfoldable pub padded : {A : Type 0} → ℕ → A → List A → List A
 padded n none as' = table n (λ (i : ℕ). get_or as' i none)
-
-abbrev pub unused_type : TypeRecord
-unused_type = record { highest = 0; output = 0; labels = 0; count = 0; edges = replicate most_edges no_edge }
 
 unfoldable pub type_record : ModuleType → TypeRecord
 type_record t = record {
@@ -44,11 +43,16 @@ unfoldable pub bridge_record : Listed → BridgeRecord
 bridge_record b = bridge_record_in b.list b.bridge
 
 abbrev pub unused_reference : ReferenceRecord
-unused_reference = record { earlier = false; number = 0 }
+unused_reference = Input 0
 
 unfoldable pub reference_record : Reference → ReferenceRecord
-reference_record (primary n) = record { earlier = false; number = n }
-reference_record (output_of i) = record { earlier = true; number = i }
+reference_record (primary n) = Input n
+reference_record (output_of i) = Earlier i
+
+-- the number that a reference tells, of an input or of an instance
+abbrev pub number_told : ReferenceRecord → ℕ
+number_told (Input n) = n
+number_told (Earlier i) = i
 
 abbrev pub unused_instance : InstanceRecord
 unused_instance = record { type_number = 0; choice = 0; references = replicate 12 unused_reference }

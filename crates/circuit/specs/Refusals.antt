@@ -1,13 +1,12 @@
 -- 01, "Refusal numbers": for each case of the code's refusal the paper's number and place, and so the verdict that it stands for.
-use Rattle.std.specs.Prelude.{ℕ, zero, suc}
+use Rattle.std.specs.Prelude.{ℕ, Option, Some, None}
 use Rattle.circuit.specs.Table.{Verdict, passes, refused_at}
 use Rattle.circuit.specs.declared.refusal.Refusal.{Refusal}
-use Rattle.circuit.specs.declared.refusal.Refusal.TheVariants.{Nothing, TooLong, Broken, UnknownTag, Misplaced, WrongLength, TooMany}
+use Rattle.circuit.specs.declared.refusal.Refusal.TheVariants.{TooLong, Broken, UnknownTag, Misplaced, WrongLength, TooMany}
 use Rattle.circuit.specs.declared.refusal.Refusal.TheVariants.{OutOfRange, BadEnds, NotComplementary, BadReference, BridgeUnsuited}
 use Rattle.circuit.specs.declared.refusal.Refusal.TheVariants.{EmptyList, TooManyFaults, Unfinished}
 
-unfoldable pub refusal_number : Refusal → ℕ
-refusal_number Nothing = 0
+abbrev pub refusal_number : Refusal → ℕ
 refusal_number TooLong = 1
 refusal_number (Broken at) = 2
 refusal_number (UnknownTag at) = 3
@@ -23,8 +22,7 @@ refusal_number (EmptyList at) = 12
 refusal_number (TooManyFaults at) = 13
 refusal_number (Unfinished at) = 14
 
-unfoldable pub refusal_place : Refusal → ℕ
-refusal_place Nothing = 0
+abbrev pub refusal_place : Refusal → ℕ
 refusal_place TooLong = 0
 refusal_place (Broken at) = at
 refusal_place (UnknownTag at) = at
@@ -40,10 +38,7 @@ refusal_place (EmptyList at) = at
 refusal_place (TooManyFaults at) = at
 refusal_place (Unfinished at) = at
 
--- number 0 is none of the table's
-unfoldable pub numbered_verdict : ℕ → ℕ → Verdict
-numbered_verdict zero place = passes
-numbered_verdict (suc n) place = refused_at (suc n) place
-
-unfoldable pub verdict_of : Refusal → Verdict
-verdict_of r = numbered_verdict (refusal_number r) (refusal_place r)
+-- the verdict of a refusal, or of none
+abbrev pub verdict_of : Option Refusal → Verdict
+verdict_of None = passes
+verdict_of (Some r) = refused_at (refusal_number r) (refusal_place r)

@@ -1,17 +1,19 @@
 // The circuit that a file tells, and the refusals of the table.
 #![tactic(auto)]
 
+ghost use Rattle.std.specs.Prelude.{◌≡◌, take};
+ghost use Rattle.circuit.specs.Records.{unused_reference, unused_instance};
+
 pub mod limits;
 pub mod order;
-pub mod ranges;
 pub mod refusal;
 
 use crate::limits::{MOST_BRIDGES, MOST_INSTANCES, MOST_TYPES, MOST_VECTORS};
 use crate::refusal::Refusal;
-use switch::ModuleType;
+use switch::{MOST_LABELS, ModuleType};
 
-// A bridge of a user list, its bytes as in the file.
-#[derive(Clone, Copy)]
+// A bridge of a user list, its bytes as in the file; zeros in the places that no bridge fills.
+#[derive(Clone, Copy, Default)]
 pub struct Bridge {
     pub list: u8,
     pub kind: u8,
@@ -19,11 +21,20 @@ pub struct Bridge {
     pub second: u8,
 }
 
-// What a label is tied to: primary input `number`, or the output of the earlier instance `number`.
+// What a label is tied to: the primary input of this number, or the output of the earlier instance of this number.
 #[derive(Clone, Copy)]
-pub struct Reference {
-    pub earlier: bool,
-    pub number: u8,
+pub enum Reference {
+    Input(u8),
+    Earlier(u8),
+}
+
+// What stands in the places for labels that a type does not have.
+impl Default for Reference {
+    ghost is_default = { λ r. r ≡ unused_reference };
+
+    fn default() -> Reference {
+        Reference::Input(0)
+    }
 }
 
 // An instance: type number, list choice as in the file, and a reference for each label of its type.
@@ -31,17 +42,30 @@ pub struct Reference {
 pub struct Instance {
     pub type_number: u8,
     pub choice: u8,
-    pub references: [Reference; 12],
+    pub references: [Reference; MOST_LABELS],
 }
 
-// A vector: the primary inputs that are 1, and those that are 0, input 1 at bit 0.
-#[derive(Clone, Copy)]
+// What stands in the unused places for instances.
+impl Default for Instance {
+    ghost is_default = { λ i. i ≡ unused_instance };
+
+    fn default() -> Instance {
+        Instance {
+            type_number: 0,
+            choice: 0,
+            references: [Reference::default(); MOST_LABELS],
+        }
+    }
+}
+
+// A vector: the primary inputs that are 1, and those that are 0, input 1 at bit 0; zeros in the places that no vector fills.
+#[derive(Clone, Copy, Default)]
 pub struct Vector {
     pub ones: u64,
     pub zeros: u64,
 }
 
-// A circuit. Of each array the first places are used, as many as its count says; every other place holds zeros.
+// A circuit. Of each array the first places are used, as many as its count says; every other place holds the default.
 #[derive(Clone, Copy)]
 pub struct Circuit {
     pub inputs: usize,
@@ -56,9 +80,36 @@ pub struct Circuit {
     pub vectors: [Vector; MOST_VECTORS],
 }
 
-// What reading answers: why the file is refused, or `Nothing` and its circuit. Beside a refusal `read` gives an empty circuit, and `read_stages` what was read before it.
+// The places in use.
+impl Circuit {
+    pub fn types(&self) -> &[ModuleType]
+        ensures { result.now ≡ take self.now.type_count self.now.types }
+    {
+        &self.types[..self.type_count.min(MOST_TYPES)]
+    }
+
+    pub fn bridges(&self) -> &[Bridge]
+        ensures { result.now ≡ take self.now.bridge_count self.now.bridges }
+    {
+        &self.bridges[..self.bridge_count.min(MOST_BRIDGES)]
+    }
+
+    pub fn instances(&self) -> &[Instance]
+        ensures { result.now ≡ take self.now.instance_count self.now.instances }
+    {
+        &self.instances[..self.instance_count.min(MOST_INSTANCES)]
+    }
+
+    pub fn vectors(&self) -> &[Vector]
+        ensures { result.now ≡ take self.now.vector_count self.now.vectors }
+    {
+        &self.vectors[..self.vector_count.min(MOST_VECTORS)]
+    }
+}
+
+// What reading answers: why the file is refused, or no refusal and its circuit. Beside a refusal `read` gives an empty circuit, and `read_stages` what was read before it.
 #[derive(Clone, Copy)]
 pub struct Reading {
-    pub refusal: Refusal,
+    pub refusal: Option<Refusal>,
     pub circuit: Circuit,
 }

@@ -2,9 +2,9 @@
 ghost use Rattle.std.specs.Prelude.{cond, ◌≡◌};
 ghost use Rattle.switch.specs.Conduction.{by_position, stated};
 ghost use Rattle.circuit.specs.Order.{tag_of, edge_tag_of};
-ghost use Rattle.circuit.specs.Kinds.{of_kind};
+ghost use Rattle.circuit.specs.Kinds.{kind_of};
 
-#[derive(Clone, Copy)]
+#[derive(Clone, Copy, Debug, PartialEq, Eq)]
 pub enum Kind {
     Inputs,
     Module,
@@ -15,18 +15,21 @@ pub enum Kind {
     Unknown,
 }
 
-// Whether a field with this tag is of a kind. An edge has one of two tags.
-pub fn is_kind(tag: u8, kind: Kind) -> bool
-    ensures { result ≡ of_kind kind (tag_of tag) }
-{
-    match kind {
-        Kind::Inputs => tag == 1,
-        Kind::Module => tag == 2,
-        Kind::Edge => tag == 3 || tag == 7,
-        Kind::Bridge => tag == 4,
-        Kind::Instance => tag == 5,
-        Kind::Vector => tag == 6,
-        Kind::Unknown => tag == 0 || 7 < tag,
+// The kind of a field with this tag. An edge has one of two tags.
+impl From<u8> for Kind {
+    ghost from_gives = { λ tag kind. kind ≡ kind_of (tag_of tag) };
+
+    #[tactic(auto, unfolding(crate::specs::Order::tag_of))]
+    fn from(tag: u8) -> Kind {
+        match tag {
+            1 => Kind::Inputs,
+            2 => Kind::Module,
+            3 | 7 => Kind::Edge,
+            4 => Kind::Bridge,
+            5 => Kind::Instance,
+            6 => Kind::Vector,
+            _ => Kind::Unknown,
+        }
     }
 }
 

@@ -1,11 +1,9 @@
-// Why a file is refused, a case for each reason of the table, with its place where the table gives one.
+// Why a file is refused, a case for each reason of the table, with its place where the table gives one. A file with nothing against it has none of them.
 ghost use Rattle.std.specs.Prelude.{◌≡◌};
-ghost use Rattle.circuit.specs.Refusals.{refusal_number, refusal_place, verdict_of};
-ghost use Rattle.circuit.specs.Verdicts.{is_refused, or_if};
+ghost use Rattle.circuit.specs.Refusals.{refusal_number, refusal_place};
 
-#[derive(Clone, Copy)]
+#[derive(Clone, Copy, Debug, PartialEq, Eq)]
 pub enum Refusal {
-    Nothing,
     TooLong,
     Broken(usize),
     UnknownTag(usize),
@@ -22,71 +20,48 @@ pub enum Refusal {
     Unfinished(usize),
 }
 
-// Whether there is a refusal.
-pub fn refuses(r: Refusal) -> bool
-    ensures { result ≡ is_refused (verdict_of r) }
-{
-    match r {
-        Refusal::Nothing => false,
-        _ => true,
+impl Refusal {
+    // The table's number.
+    pub fn number(self) -> u32
+        ensures { result ≡ refusal_number self }
+    {
+        match self {
+            Refusal::TooLong => 1,
+            Refusal::Broken(_) => 2,
+            Refusal::UnknownTag(_) => 3,
+            Refusal::Misplaced(_) => 4,
+            Refusal::WrongLength(_) => 5,
+            Refusal::TooMany(_) => 6,
+            Refusal::OutOfRange(_) => 7,
+            Refusal::BadEnds(_) => 8,
+            Refusal::NotComplementary(_) => 9,
+            Refusal::BadReference(_) => 10,
+            Refusal::BridgeUnsuited(_) => 11,
+            Refusal::EmptyList(_) => 12,
+            Refusal::TooManyFaults(_) => 13,
+            Refusal::Unfinished(_) => 14,
+        }
     }
-}
 
-// The refusal so far, or where there is none this one, if its test refuses.
-pub fn or_if(so_far: Refusal, test: bool, this: Refusal) -> Refusal
-    ensures { verdict_of result ≡ or_if (verdict_of so_far) test (verdict_of this) }
-{
-    if refuses(so_far) {
-        return so_far;
-    }
-    if test {
-        return this;
-    }
-    Refusal::Nothing
-}
-
-// The table's number of a refusal, 0 where there is none.
-pub fn number_of(r: Refusal) -> u32
-    ensures { result ≡ refusal_number r }
-{
-    match r {
-        Refusal::Nothing => 0,
-        Refusal::TooLong => 1,
-        Refusal::Broken(_) => 2,
-        Refusal::UnknownTag(_) => 3,
-        Refusal::Misplaced(_) => 4,
-        Refusal::WrongLength(_) => 5,
-        Refusal::TooMany(_) => 6,
-        Refusal::OutOfRange(_) => 7,
-        Refusal::BadEnds(_) => 8,
-        Refusal::NotComplementary(_) => 9,
-        Refusal::BadReference(_) => 10,
-        Refusal::BridgeUnsuited(_) => 11,
-        Refusal::EmptyList(_) => 12,
-        Refusal::TooManyFaults(_) => 13,
-        Refusal::Unfinished(_) => 14,
-    }
-}
-
-// The place of a refusal, 0 where the table gives none.
-pub fn place_of(r: Refusal) -> usize
-    ensures { result ≡ refusal_place r }
-{
-    match r {
-        Refusal::Nothing => 0,
-        Refusal::TooLong => 0,
-        Refusal::Broken(at) => at,
-        Refusal::UnknownTag(at) => at,
-        Refusal::Misplaced(at) => at,
-        Refusal::WrongLength(at) => at,
-        Refusal::TooMany(at) => at,
-        Refusal::OutOfRange(at) => at,
-        Refusal::BadEnds(at) => at,
-        Refusal::NotComplementary(at) => at,
-        Refusal::BadReference(at) => at,
-        Refusal::BridgeUnsuited(at) => at,
-        Refusal::EmptyList(at) => at,
-        Refusal::TooManyFaults(at) => at,
-        Refusal::Unfinished(at) => at,
+    // The place, 0 where the table gives none.
+    pub fn place(self) -> usize
+        ensures { result ≡ refusal_place self }
+    {
+        match self {
+            Refusal::TooLong => 0,
+            Refusal::Broken(at)
+            | Refusal::UnknownTag(at)
+            | Refusal::Misplaced(at)
+            | Refusal::WrongLength(at)
+            | Refusal::TooMany(at)
+            | Refusal::OutOfRange(at)
+            | Refusal::BadEnds(at)
+            | Refusal::NotComplementary(at)
+            | Refusal::BadReference(at)
+            | Refusal::BridgeUnsuited(at)
+            | Refusal::EmptyList(at)
+            | Refusal::TooManyFaults(at)
+            | Refusal::Unfinished(at) => at,
+        }
     }
 }

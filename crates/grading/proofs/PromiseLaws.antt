@@ -5,9 +5,8 @@ use Rattle.circuit.specs.Reading.{Reading}
 use Rattle.circuit.proofs.CircuitLaws.{accepted-is-good}
 use Rattle.grading.specs.Buffers.{Buffers, room_of}
 use Rattle.grading.specs.Grading.{Grading, grading_of, after_reading, buffers_after}
-use Rattle.grading.specs.Promise.{AnswersAs}
+use Rattle.grading.specs.Promise.{Answer, AnswersAs}
 use Rattle.grading.specs.Statements.{CircuitPromiseIsFiles}
-use Rattle.grading.specs.declared.Answer.{Answer}
 
 pub circuit-promise-is-files : CircuitPromiseIsFiles
 unfolding grading_of after_reading

@@ -6,8 +6,7 @@ use Rattle.circuit.specs.Laws.{CircuitGood}
 use Rattle.circuit.specs.declared.Circuit.{Circuit as CircuitRecord}
 use Rattle.grading.specs.Buffers.{Buffers, room_of}
 use Rattle.grading.specs.Grading.{grading_of_circuit}
-use Rattle.grading.specs.Promise.{AnswersAs}
-use Rattle.grading.specs.declared.Answer.{Answer}
+use Rattle.grading.specs.Promise.{Answer, AnswersAs}
 
 -- for every good circuit that the record tells
 abbrev pub PromiseOfCircuit : CircuitRecord → Buffers → Answer → Buffers → Type 0

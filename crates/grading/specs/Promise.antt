@@ -1,6 +1,6 @@
 -- The promise of `grade`: its whole answer and the buffers at exit, on refusal too, for any bytes and any buffers. And that of
 -- `grade_read`.
-use Rattle.std.specs.Prelude.{ℕ, ◌≡◌, Bool, true, false, List}
+use Rattle.std.specs.Prelude.{ℕ, ◌≡◌, Bool, true, false, List, Result, Ok, Err}
 use Rattle.circuit.specs.Reading.{reading_of}
 use Rattle.circuit.specs.Refusals.{refusal_number, refusal_place}
 use Rattle.circuit.specs.Answers.{Tells}
@@ -9,36 +9,43 @@ use Rattle.grading.specs.Buffers.{Buffers, room_of}
 use Rattle.grading.specs.Grading.{Counts, no_counts, Grading, grading_of}
 use Rattle.grading.specs.Grading.{is_graded_in, counts_in, number_in, place_in, buffers_after}
 use Rattle.grading.specs.declared.Counts.{Counts as CountsRecord}
-use Rattle.grading.specs.declared.Answer.{Answer}
-use Rattle.grading.specs.declared.Answer.TheVariants.{Graded, Refused, ShortMatrix, ShortClasses}
+use Rattle.grading.specs.declared.Ungraded.{Ungraded}
+use Rattle.grading.specs.declared.Ungraded.TheVariants.{Refused, ShortMatrix, ShortClasses}
 
-unfoldable pub is_graded : Answer → Bool
-is_graded (Graded counts) = true
-is_graded (Refused refusal) = false
-is_graded (ShortMatrix words) = false
-is_graded (ShortClasses faults) = false
+-- a grading's counts, or why there is none
+abbrev pub Answer : Type 0
+Answer = Result CountsRecord Ungraded
 
--- for each case of an answer the paper's number, place and counts; 0 where it has none
-unfoldable pub number_of : Answer → ℕ
-number_of (Graded counts) = 0
-number_of (Refused refusal) = refusal_number refusal
-number_of (ShortMatrix words) = 15
-number_of (ShortClasses faults) = 22
+abbrev pub is_graded : Answer → Bool
+is_graded (Ok counts) = true
+is_graded (Err why) = false
 
-unfoldable pub place_of : Answer → ℕ
-place_of (Graded counts) = 0
-place_of (Refused refusal) = refusal_place refusal
-place_of (ShortMatrix words) = words
-place_of (ShortClasses faults) = faults
+-- for each reason the paper's number and place
+abbrev pub number_why : Ungraded → ℕ
+number_why (Refused refusal) = refusal_number refusal
+number_why (ShortMatrix words) = 15
+number_why (ShortClasses faults) = 22
+
+abbrev pub place_why : Ungraded → ℕ
+place_why (Refused refusal) = refusal_place refusal
+place_why (ShortMatrix words) = words
+place_why (ShortClasses faults) = faults
+
+-- an answer's number, place and counts; 0 where it has none
+abbrev pub number_of : Answer → ℕ
+number_of (Ok counts) = 0
+number_of (Err why) = number_why why
+
+abbrev pub place_of : Answer → ℕ
+place_of (Ok counts) = 0
+place_of (Err why) = place_why why
 
 abbrev pub counts_meant : CountsRecord → Counts
 counts_meant r = record { vectors = r.vectors; faults = r.faults; classes = r.classes; found = r.found; rounds = r.rounds }
 
-unfoldable pub counts_of : Answer → Counts
-counts_of (Graded counts) = counts_meant counts
-counts_of (Refused refusal) = no_counts
-counts_of (ShortMatrix words) = no_counts
-counts_of (ShortClasses faults) = no_counts
+abbrev pub counts_of : Answer → Counts
+counts_of (Ok counts) = counts_meant counts
+counts_of (Err why) = no_counts
 
 -- the answer to a grading, and the buffers as they were and as they are then
 pub record AnswersAs (grading : Grading) (answer : Answer) (before after : Buffers) : Type 0 where

@@ -14,9 +14,8 @@ use Rattle.grading.specs.Rows.{Row, rows_of, cell}
 use Rattle.grading.specs.Wires.{wire_of, one_end, other_end, carried, leaks}
 use Rattle.grading.specs.Classes.{same_class, largest, classes_by, classes_of}
 use Rattle.grading.specs.Rounds.{type_at, links_at, DistanceIn, instance_rounds, rounds_of, PlanesAt}
-use Rattle.grading.specs.Promise.{Promise}
+use Rattle.grading.specs.Promise.{Answer, Promise}
 use Rattle.grading.specs.CircuitPromise.{PromiseOfCircuit}
-use Rattle.grading.specs.declared.Answer.{Answer}
 
 -- ---- any test for one class
 

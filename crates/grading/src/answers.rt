@@ -1,18 +1,37 @@
 // An answer's number, place and counts, as the paper has them; 0 where it has none.
 ghost use Rattle.std.specs.Prelude.{◌≡◌};
-ghost use Rattle.grading.specs.Promise.{number_of, place_of, counts_meant, counts_of};
+ghost use Rattle.grading.specs.Promise.{number_why, place_why, number_of, place_of, counts_meant, counts_of};
 
-use crate::{Answer, Counts};
-use circuit::refusal;
+use crate::{Answer, Counts, Ungraded};
+
+impl Ungraded {
+    pub fn number(self) -> u32
+        ensures { result ≡ number_why self }
+    {
+        match self {
+            Ungraded::Refused(why) => why.number(),
+            Ungraded::ShortMatrix(_) => 15,
+            Ungraded::ShortClasses(_) => 22,
+        }
+    }
+
+    pub fn place(self) -> usize
+        ensures { result ≡ place_why self }
+    {
+        match self {
+            Ungraded::Refused(why) => why.place(),
+            Ungraded::ShortMatrix(words) => words,
+            Ungraded::ShortClasses(faults) => faults,
+        }
+    }
+}
 
 pub fn number_of(answer: Answer) -> u32
     ensures { result ≡ number_of answer }
 {
     match answer {
-        Answer::Graded(_) => 0,
-        Answer::Refused(why) => refusal::number_of(why),
-        Answer::ShortMatrix(_) => 15,
-        Answer::ShortClasses(_) => 22,
+        Ok(_) => 0,
+        Err(why) => why.number(),
     }
 }
 
@@ -20,24 +39,13 @@ pub fn place_of(answer: Answer) -> usize
     ensures { result ≡ place_of answer }
 {
     match answer {
-        Answer::Graded(_) => 0,
-        Answer::Refused(why) => refusal::place_of(why),
-        Answer::ShortMatrix(words) => words,
-        Answer::ShortClasses(faults) => faults,
+        Ok(_) => 0,
+        Err(why) => why.place(),
     }
 }
 
 pub fn counts_of(answer: Answer) -> Counts
     ensures { counts_meant result ≡ counts_of answer }
 {
-    match answer {
-        Answer::Graded(counts) => counts,
-        _ => Counts {
-            vectors: 0,
-            faults: 0,
-            classes: 0,
-            found: 0,
-            rounds: 0,
-        },
-    }
+    answer.unwrap_or_default()
 }

@@ -1,4 +1,5 @@
 // A row as one number: instance, kind, first and second, a byte each, highest first.
+// Numbers, its kind among them, since `togyamiru_rows` and the functions of its header hand C just these.
 ghost use Rattle.std.specs.Prelude.{◌<◌, ◌≡◌};
 ghost use Rattle.grading.specs.Codes.{packed, instance_in, kind_in, first_in, second_in};
 

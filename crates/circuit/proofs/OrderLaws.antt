@@ -4,46 +4,30 @@ use mathlib.Core.Path.{◌≡◌, refl, sym, ap, ◌∙◌}
 use mathlib.Core.Bool.{Bool, true, false, cond, not}
 use mathlib.Core.Logic.{◌⊎◌, inl, inr}
 use native.Mathlib.Omega.{arith}
-use borrow.Author.Tests.{eqb-true, eqb-false, eq-eqb, ne_eqb}
+use borrow.Author.Tests.{eqb-true, eqb-false}
 use lib.Dec.{eqb}
+use Rattle.std.proofs.lemmas.Bool.Decides.{nat_tests}
 use Rattle.switch.specs.Conduction.{EdgeTag, by_position, stated, between}
 use Rattle.circuit.specs.Order.{Tag, inputs_tag, type_tag, edge_tag, bridge_tag, instance_tag, vector_tag, no_tag, tag_number, tag_of, is_kind, is_edge, edge_tag_of, is_unknown, rank, Previous, after_tag, reached, may_follow}
 use Rattle.circuit.specs.Kinds.{kind_of, of_kind}
 use Rattle.circuit.specs.declared.order.Kind.{Kind}
 use Rattle.circuit.specs.contracts.order.Kind.{the_type}
 use denote.Enum.Bare.{sameb}
-use Rattle.circuit.proofs.RangeLaws.{between_below, between_above}
 
 -- ---- kinds
 
 pub tag_back : (tag : Tag) → tag_of (tag_number tag) ≡ tag
 unfolding tag_of
-tag_back inputs_tag = refl
-tag_back type_tag = refl
-tag_back (edge_tag by_position) = refl
-tag_back (edge_tag stated) = refl
-tag_back bridge_tag = refl
-tag_back instance_tag = refl
-tag_back vector_tag = refl
-tag_back no_tag = refl
+tag_back tag = grind arith
 
 module _ (kind tag : Tag) where
   pub kind_is : is_kind kind tag ≡ true → tag ≡ kind
   unfolding is_kind
   kind_is e = sym (tag_back tag) ∙ ap tag_of (eqb-true (tag_number tag) (tag_number kind) e) ∙ tag_back kind
 
-  pub is_kind_lem : tag ≡ kind → is_kind kind tag ≡ true
-  unfolding is_kind
-  is_kind_lem e = eq-eqb (tag_number tag) (tag_number kind) (ap tag_number e)
-
   pub other_kind : is_kind kind tag ≡ false → tag ≡ kind → ⊥
   unfolding is_kind
   other_kind e same = eqb-false (tag_number tag) (tag_number kind) e (ap tag_number same)
-
-  pub not_kind : (tag ≡ kind → ⊥) → is_kind kind tag ≡ false
-  unfolding is_kind
-  not_kind other =
-      ne_eqb (tag_number tag) (tag_number kind) (λ e. other (sym (tag_back tag) ∙ ap tag_of e ∙ tag_back kind))
 
 -- ---- by a tag byte
 
@@ -71,28 +55,6 @@ module _ (kind : Tag) (n : ℕ) (known : 1 ≤ tag_number kind) where
       go (inl back) = back ∙ ap tag_number own
       go (inr none) = let z : tag_number kind ≡ 0 = ap tag_number (sym own ∙ none) in absurd (omega arith)
 
-  pub kind_byte : eqb n (tag_number kind) ≡ is_kind kind (tag_of n)
-  kind_byte = go (eqb n (tag_number kind)) refl
-    where
-      go : (b : Bool) → eqb n (tag_number kind) ≡ b → b ≡ is_kind kind (tag_of n)
-      go true e = sym (is_kind_lem kind (tag_of n) (ap tag_of (eqb-true n (tag_number kind) e) ∙ tag_back kind))
-      go false e = sym (not_kind kind (tag_of n) (λ own. eqb-false n (tag_number kind) e (tag_byte own)))
-
--- 7 is the tag of an edge that states its channel
-edge-tag-is : (tag : Tag) → cond (is_kind (edge_tag stated) tag) stated by_position ≡ edge_tag_of tag
-unfolding is_kind edge_tag_of
-edge-tag-is inputs_tag = refl
-edge-tag-is type_tag = refl
-edge-tag-is (edge_tag by_position) = refl
-edge-tag-is (edge_tag stated) = refl
-edge-tag-is bridge_tag = refl
-edge-tag-is instance_tag = refl
-edge-tag-is vector_tag = refl
-edge-tag-is no_tag = refl
-
-pub edge-tag-byte : (n : ℕ) → cond (eqb n 7) stated by_position ≡ edge_tag_of (tag_of n)
-edge-tag-byte n = rw (kind_byte (edge_tag stated) n (omega arith)) (edge-tag-is (tag_of n))
-
 -- a field's kind, told by `==` or by a `match`
 module _ (kind : Kind) where
   pub kind-told : (tag : Tag) → sameb the_type (kind_of tag) kind ≡ of_kind kind tag
@@ -115,89 +77,49 @@ module _ (kind : Kind) where
 -- an edge field is told by which of the two tags it has
 pub edge-is : (tag : Tag) → is_edge tag ≡ true → tag ≡ edge_tag (edge_tag_of tag)
 unfolding is_edge edge_tag_of
-edge-is inputs_tag e = cc
-edge-is type_tag e = cc
-edge-is (edge_tag t) e = refl
-edge-is bridge_tag e = cc
-edge-is instance_tag e = cc
-edge-is vector_tag e = cc
-edge-is no_tag e = cc
+edge-is tag e = grind arith
 
 -- it is a known field, and neither the inputs' nor a type's
 pub edge-known : (t : EdgeTag) → is_unknown (edge_tag t) ≡ false
 unfolding is_kind
-edge-known by_position = refl
-edge-known stated = refl
+edge-known t = grind arith
 
 pub edge_no_inputs : (t : EdgeTag) → is_kind inputs_tag (edge_tag t) ≡ false
 unfolding is_kind
-edge_no_inputs by_position = refl
-edge_no_inputs stated = refl
+edge_no_inputs t = grind arith
 
 pub edge_no_type : (t : EdgeTag) → is_kind type_tag (edge_tag t) ≡ false
 unfolding is_kind
-edge_no_type by_position = refl
-edge_no_type stated = refl
+edge_no_type t = grind arith
 
 -- every kind of 01 and 02 comes before the end of the order
 pub known-rank : (tag : Tag) → is_unknown tag ≡ false → rank tag < 6
 unfolding is_kind
-known-rank inputs_tag e = omega arith
-known-rank type_tag e = omega arith
-known-rank (edge_tag t) e = omega arith
-known-rank bridge_tag e = omega arith
-known-rank instance_tag e = omega arith
-known-rank vector_tag e = omega arith
-known-rank no_tag e = let z : ◌≡◌ {A = ℕ} 0 1 = cc in absurd (omega arith)
+known-rank tag e = grind arith
 
 -- ---- out of place
 
 -- after a type and its edges a kind is past once a later one has been
 pub past : (previous : Previous) (tag : Tag) → 3 ≤ reached previous → reached previous ≤ 5 → rank tag < reached previous
     → may_follow previous tag ≡ false
-unfolding may_follow
-past previous inputs_tag low high h = ne_eqb (reached previous) 0 (omega arith)
-past previous type_tag low high h = between_above 1 2 (reached previous) h
-past previous (edge_tag t) low high h = ne_eqb (reached previous) 2 (omega arith)
-past previous bridge_tag low high h = between_above 1 3 (reached previous) h
-past previous instance_tag low high h = between_above 1 4 (reached previous) h
-past previous vector_tag low high h = between_above 1 5 (reached previous) h
-past previous no_tag low high h = absurd (omega arith)
+unfolding may_follow between
+past previous tag low high h = grind (arith, nat_tests)
 
 -- before the first field only the inputs field is in place
 pub first-place : (previous : Previous) (tag : Tag) → reached previous ≡ 0 → is_kind inputs_tag tag ≡ false → is_unknown tag ≡ false
     → may_follow previous tag ≡ false
-unfolding may_follow is_kind
-first-place previous inputs_tag e other known = cc
-first-place previous type_tag e other known = between_below 1 2 (reached previous) (omega arith)
-first-place previous (edge_tag t) e other known = ne_eqb (reached previous) 2 (omega arith)
-first-place previous bridge_tag e other known = between_below 1 3 (reached previous) (omega arith)
-first-place previous instance_tag e other known = between_below 1 4 (reached previous) (omega arith)
-first-place previous vector_tag e other known = between_below 1 5 (reached previous) (omega arith)
-first-place previous no_tag e other known = cc
+unfolding may_follow is_kind between
+first-place previous tag e other known = grind (arith, nat_tests)
 
 -- what may follow goes by how far the order has come
 pub follows_alike : (p q : Previous) (tag : Tag) → reached p ≡ reached q → may_follow p tag ≡ may_follow q tag
 unfolding may_follow
-follows_alike p q inputs_tag e = ap (λ (n : ℕ). eqb n 0) e
-follows_alike p q type_tag e = ap (between 1 2) e
-follows_alike p q (edge_tag t) e = ap (λ (n : ℕ). eqb n 2) e
-follows_alike p q bridge_tag e = ap (between 1 3) e
-follows_alike p q instance_tag e = ap (between 1 4) e
-follows_alike p q vector_tag e = ap (between 1 5) e
-follows_alike p q no_tag e = refl
+follows_alike p q tag e = grind arith
 
 -- behind a type or an edge of it only the inputs field is out of place
 pub after-a-type : (tag : Tag) → not (may_follow (after_tag type_tag) tag) ≡ is_kind inputs_tag tag
 unfolding may_follow is_kind between
-after-a-type inputs_tag = refl
-after-a-type type_tag = refl
-after-a-type (edge_tag by_position) = refl
-after-a-type (edge_tag stated) = refl
-after-a-type bridge_tag = refl
-after-a-type instance_tag = refl
-after-a-type vector_tag = refl
-after-a-type no_tag = refl
+after-a-type tag = grind arith
 
 -- ---- a kind that has its place to itself
 
@@ -207,13 +129,7 @@ kind_at n = cond (eqb n 3) bridge_tag (cond (eqb n 4) instance_tag (cond (eqb n 
 
 kind-at : (tag : Tag) → 3 ≤ rank tag → kind_at (rank tag) ≡ tag
 unfolding kind_at
-kind-at inputs_tag h = absurd (omega arith)
-kind-at type_tag h = absurd (omega arith)
-kind-at (edge_tag t) h = absurd (omega arith)
-kind-at bridge_tag h = refl
-kind-at instance_tag h = refl
-kind-at vector_tag h = refl
-kind-at no_tag h = refl
+kind-at tag h = grind arith
 
 pub alone : (kind tag : Tag) → 3 ≤ rank kind → rank tag ≡ rank kind → tag ≡ kind
 alone kind tag h e = sym (kind-at tag (omega arith)) ∙ ap kind_at e ∙ kind-at kind h

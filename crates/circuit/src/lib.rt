@@ -13,6 +13,7 @@ use crate::refusal::Refusal;
 use switch::{MOST_LABELS, ModuleType};
 
 // A bridge of a user list, its bytes as in the file; zeros in the places that no bridge fills.
+// The kind is a byte too, and no enum, since a row's number hands it to C as it is.
 #[derive(Clone, Copy, Default)]
 pub struct Bridge {
     pub list: u8,
@@ -38,6 +39,7 @@ impl Default for Reference {
 }
 
 // An instance: type number, list choice as in the file, and a reference for each label of its type.
+// The choice is a byte, since it is compared with the list numbers of bridges, and an enum would say no more than 0 and 255 do.
 #[derive(Clone, Copy)]
 pub struct Instance {
     pub type_number: u8,
@@ -66,6 +68,7 @@ pub struct Vector {
 }
 
 // A circuit. Of each array the first places are used, as many as its count says; every other place holds the default.
+// There is no heap, so arrays with counts, and the theorems on `circuit_record` name each: its methods lend what is in use.
 #[derive(Clone, Copy)]
 pub struct Circuit {
     pub inputs: usize,
@@ -80,7 +83,6 @@ pub struct Circuit {
     pub vectors: [Vector; MOST_VECTORS],
 }
 
-// The places in use.
 impl Circuit {
     pub fn types(&self) -> &[ModuleType]
         ensures { result.now ≡ take self.now.type_count self.now.types }
@@ -107,7 +109,8 @@ impl Circuit {
     }
 }
 
-// What reading answers: why the file is refused, or no refusal and its circuit. Beside a refusal `read` gives an empty circuit, and `read_stages` what was read before it.
+// What reading answers: why the file is refused, or no refusal and its circuit.
+// No `Result`, since beside a refusal `read` promises an empty circuit, and `read_stages` what was read before it.
 #[derive(Clone, Copy)]
 pub struct Reading {
     pub refusal: Option<Refusal>,

@@ -34,6 +34,7 @@ impl From<u8> for Kind {
 }
 
 // Whether an edge field with this tag states its channel.
+#[tactic(auto, unfolding(crate::specs::Order::tag_of, crate::specs::Order::edge_tag_of))]
 pub fn states_channel(tag: u8) -> bool
     ensures { cond result stated by_position ≡ edge_tag_of (tag_of tag) }
 {

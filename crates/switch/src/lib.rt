@@ -21,6 +21,7 @@ pub struct Edge {
 }
 
 // A module type: highest node, output node, number of labels, and its edges, in the first `count` places.
+// There is no heap, so an array with a count, of which `edges` lends what is in use.
 #[derive(Clone, Copy)]
 pub struct ModuleType {
     pub highest: u8,

@@ -1,4 +1,5 @@
--- The laws of verdicts: what the code's refusal says of a file, or none; and tests looked at one after the other, each only where none before it refused, give the first that refuses.
+-- The laws of verdicts: what a refusal of the code says of a file, and what none says; and that tests looked at one after the other,
+-- each only where none before it refused, give the first that refuses.
 use Prim.Native.Nat.{ℕ}
 use mathlib.Core.Path.{◌≡◌, refl, sym}
 use mathlib.Core.Bool.{Bool, true, false, cond}

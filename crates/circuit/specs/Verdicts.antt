@@ -1,4 +1,5 @@
--- What the code does with verdicts: whether one refuses, one test more after those before it, and the refusal of what is judged as it is read.
+-- What the code does with verdicts: whether one refuses, one test more after those before it, and the refusal of what is judged as it is
+-- read.
 use Rattle.std.specs.Prelude.{Bool, true, false, cond, Option, Some, None, Result, Ok, Err}
 use Rattle.circuit.specs.Table.{Verdict, passes, refused_at}
 use Rattle.circuit.specs.declared.refusal.Refusal.{Refusal}

@@ -1,6 +1,6 @@
 // An edge's record, made and taken apart. From its lowest bit: five bits for the first node, five for the second, five for the gate, which is the label and 16 more in a p-channel edge, and one that tells an edge of tag 7.
 // One number, since the fixed memory of a call holds 16 types of 256 edges: four bytes an edge would take 25 KB more of stack.
-ghost use Rattle.std.specs.Prelude.{cond, ◌≡◌, ◌<◌, ◌≤◌, take};
+ghost use Rattle.std.specs.Prelude.{cond, ◌≡◌, ◌<◌};
 ghost use Rattle.switch.specs.Conduction.{channel_p, channel_n, by_position, stated};
 ghost use Rattle.switch.specs.Records.{edge_record, first_node_in, second_node_in, label_in, gate_in, channel_in, tag_in};
 

@@ -4,6 +4,8 @@ use Prim.Native.Nat.{ℕ, zero, suc, ◌+◌, ◌-◌, ◌<◌, ◌≤◌}
 use mathlib.Core.Path.{◌≡◌, refl, sym, ap, ◌∙◌}
 use mathlib.Core.Bool.{Bool, true, false, cond}
 use mathlib.Core.List.{List}
+use Rattle.std.specs.Prelude.{None}
+use native.Mathlib.Decide.{ℕ_discrete}
 use native.Mathlib.Omega.{arith}
 use borrow.Author.Tests.{ltb-false, lt-ltb, le-ltb, eq-eqb, ne_eqb}
 use lib.Dec.{eqb, ltb}
@@ -12,9 +14,8 @@ use Rattle.circuit.specs.Fields.{Field, Cut, clean, broken, field, cut_in, cut_f
 use Rattle.circuit.specs.Order.{Tag, tag_of}
 use Rattle.circuit.specs.Table.{Test, first_of}
 use Rattle.circuit.specs.Stages.{stopped, if_passes, section}
-use Rattle.read_fields.specs.Steps.{body_of, field_in, FieldAt, NextIs}
+use Rattle.read_fields.specs.Steps.{field_in, end_of, FieldAt, NextIs}
 use Rattle.read_fields.specs.declared.Field.{Field as FieldRecord}
-use Rattle.read_fields.specs.declared.Next.TheVariants.{Other}
 
 -- the offset behind the field that stands at an offset, if one does
 abbrev pub behind : List ℕ → ℕ → ℕ
@@ -59,8 +60,13 @@ module _ (file : List ℕ) (at : ℕ) where
       ∙ same_step file at (cut_in (length file - at) file (behind file at)) (cut_from file (behind file at))
       (λ whole. enough (length file - at) (suc (length file) - behind file at) file (behind file at) whole (omega arith) (omega arith))
 
-  pub cut_clean : length file ≡ at → cut_from file at ≡ clean
-  cut_clean h = cut_step (omega arith) ∙ rw (eq-eqb at (length file) (sym h))
+  pub cut_clean : length file ≤ at → cut_from file at ≡ clean
+  unfolding cut_from cut_in
+  cut_clean h = go (ℕ_discrete (length file) at)
+    where
+      go : Dec (length file ≡ at) → cut_from file at ≡ clean
+      go (yes e) = cut_step (omega arith) ∙ rw (eq-eqb at (length file) (sym e))
+      go (no past) = ap (λ (m : ℕ). cut_in m file at) (let e : suc (length file) - at ≡ 0 = omega arith in e)
 
   -- fewer bytes are left than the field's three and its body's
   pub cut_broken : at < length file → length file < behind file at → cut_from file at ≡ broken at
@@ -81,13 +87,13 @@ module _ {A : Type 0} (own : Tag → Bool) (tests : Tag → A → ℕ → List �
   -- a stage at a field of its own
   pub section_step : (f : FieldRecord) → FieldAt file at f → own (tag_of f.tag) ≡ true
       → section own tests add sofar (cut_from file at)
-      ≡ if_passes (first_of (tests (tag_of f.tag) sofar f.at (body_of file f))) sofar (cut_from file at)
-      (section own tests add (add (tag_of f.tag) sofar (body_of file f)) (cut_from file (f.body + f.len)))
+      ≡ if_passes (first_of (tests (tag_of f.tag) sofar f.at f.body.now)) sofar (cut_from file at)
+      (section own tests add (add (tag_of f.tag) sofar f.body.now) (cut_from file (end_of f)))
   unfolding section field_in
   section_step f here its = rw (here.cut, its)
 
   -- a stage where no field of its own stands
-  pub section_stop : NextIs file at own Other → section own tests add sofar (cut_from file at) ≡ stopped sofar (cut_from file at)
+  pub section_stop : NextIs file at own None → section own tests add sofar (cut_from file at) ≡ stopped sofar (cut_from file at)
   unfolding NextIs section
   section_stop other = go (cut_from file at) refl
     where

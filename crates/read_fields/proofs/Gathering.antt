@@ -3,6 +3,7 @@
 use Prim.Native.Nat.{ℕ, ◌+◌, ◌<◌, ◌≤◌}
 use mathlib.Core.Path.{◌≡◌, refl, sym, ap, ◌∙◌}
 use mathlib.Core.Bool.{true}
+use Rattle.std.specs.Prelude.{None}
 use mathlib.Core.List.{List, [], ◌∷◌, ◌++◌, map, map-append}
 use native.Mathlib.Omega.{arith}
 use lib.ListN.{length, set, replicate, length-append, length-map}
@@ -12,9 +13,8 @@ use Rattle.circuit.specs.Table.{Test, Verdict, passes, refused_at, first_of}
 use Rattle.circuit.specs.Records.{padded}
 use Rattle.circuit.specs.Verdicts.{is_refused}
 use Rattle.circuit.specs.Stages.{Stage, stopped, if_passes, section_of, stage_of}
-use Rattle.read_fields.specs.Steps.{body_of, FieldAt, NextIs}
+use Rattle.read_fields.specs.Steps.{end_of, FieldAt, NextIs}
 use Rattle.read_fields.specs.declared.Field.{Field as FieldRecord}
-use Rattle.read_fields.specs.declared.Next.TheVariants.{Other}
 use Rattle.circuit.proofs.Padding.{padded_nil, padded_snoc}
 use Rattle.read_fields.proofs.Cuts.{section_step, section_stop}
 
@@ -51,24 +51,24 @@ module _ {A R : Type 0} {kind : Tag} {most : ℕ} {tests : List A → ℕ → Li
   abbrev add : List A → List ℕ → List A
   add l body = l ++ (make body ∷ [])
 
-  pub stops : NextIs file at (is_kind kind) Other → section_of kind tests add [] (cut_from file from) ≡ stopped as' (cut_from file at)
+  pub stops : NextIs file at (is_kind kind) None → section_of kind tests add [] (cut_from file from) ≡ stopped as' (cut_from file at)
   stops other = so.stage ∙ section_stop (is_kind kind) (λ (tag : Tag). tests) (λ (tag : Tag). add) as' file at other
 
   module _ (f : FieldRecord) (here : FieldAt file at f) (own : is_kind kind (tag_of f.tag) ≡ true) (v : Verdict)
-      (verdict : v ≡ first_of (tests as' f.at (body_of file f))) where
+      (verdict : v ≡ first_of (tests as' f.at f.body.now)) where
     stepped : section_of kind tests add [] (cut_from file from)
-        ≡ if_passes v as' (cut_from file at) (section_of kind tests add (add as' (body_of file f)) (cut_from file (f.body + f.len)))
+        ≡ if_passes v as' (cut_from file at) (section_of kind tests add (add as' f.body.now) (cut_from file (end_of f)))
     stepped = so.stage ∙ section_step (is_kind kind) (λ (tag : Tag). tests) (λ (tag : Tag). add) as' file at f here own ∙ rw (← verdict)
 
     pub fails : is_refused v ≡ true → section_of kind tests add [] (cut_from file from) ≡ stage_of v as' (cut_from file at)
     fails e =
-        stepped ∙ refused-here v as' (cut_from file at) (section_of kind tests add (add as' (body_of file f)) (cut_from file (f.body + f.len))) e
+        stepped ∙ refused-here v as' (cut_from file at) (section_of kind tests add (add as' f.body.now) (cut_from file (end_of f))) e
 
     pub one_more_lem : v ≡ passes → count < most
-        → SoFar kind most tests make shown none file from (add as' (body_of file f)) (set all count (shown (make (body_of file f)))) (count + 1) (f.body + f.len)
+        → SoFar kind most tests make shown none file from (add as' f.body.now) (set all count (shown (make f.body.now))) (count + 1) (end_of f)
     unfolding if_passes
     one_more_lem e room =
-        let a : A = make (body_of file f) in
+        let a : A = make f.body.now in
         let counted = so.counted in
         let longer = length-append as' (a ∷ []) in
         let full : length (map shown as') ≡ count = length-map as' shown ∙ sym counted in

@@ -1,9 +1,8 @@
 -- What the steps over a file rest on, and what the crates that read cite of them.
---   Bodies, Cuts      a field's body, and the cut of a file at a place
+--   Cuts              the cut of a file at a place, by what stands there
 --   Places            a cut tells its place, and so how a stage ended
 --   Gathering         the fields of one stage, gathered one by one
---   Turns             what a turn of a stage finds, and the place behind it
-pub mod Bodies
+--   Turns             what a reader found at a turn of a stage, and where it stands then
 pub mod Cuts
 pub mod Gathering
 pub mod Places

@@ -1,8 +1,10 @@
 // A reader: the file, and its place in it.
-ghost use Rattle.std.specs.Prelude.{◌≡◌, ◌<◌, ◌≤◌, ◌^◌, length};
-ghost use Rattle.read_fields.specs.Steps.{StepIs, behind_step, Stepped};
+ghost use Rattle.std.specs.Prelude.{◌≡◌};
+ghost use Rattle.circuit.specs.Kinds.{of_kind};
+ghost use Rattle.read_fields.specs.Steps.{StepIs, Stepped, Sought};
 
 use crate::{Field, Step};
+use circuit::order::{Kind, is_kind};
 
 #[derive(Clone, Copy)]
 pub struct Reader<'a> {
@@ -10,65 +12,58 @@ pub struct Reader<'a> {
     pub at: usize,
 }
 
-// A reader over a file, at a place of it.
-pub fn reader_at<'a>(file: &'a [u8], at: usize) -> Reader<'a>
-    requires { at ≤ length file.now }
-    ensures { (result.file ≡ file.entry) × (result.at ≡ at) }
-{
-    Reader { file, at }
-}
+impl<'a> Reader<'a> {
+    // A reader over a file, at a place of it.
+    pub fn new(file: &'a [u8], at: usize) -> Reader<'a>
+        ensures { (result.file ≡ file.entry) × (result.at ≡ at) }
+    {
+        Reader { file, at }
+    }
 
-// The reader's place.
-fn place<'a>(reader: Reader<'a>) -> usize
-    ensures { result ≡ reader.entry.at }
-{
-    reader.at
-}
+    // The step to the next field: it is told, and the reader's place moves behind it. Where no whole field stands, the place stays.
+    pub fn step(&mut self) -> Step<'a>
+        ensures { Stepped self.old self.new result }
+    {
+        let step = cut_at(self.file, self.at);
+        if let Step::Whole(f) = step {
+            self.at += 3 + f.body.len();
+        }
+        step
+    }
 
-// The step to the next field: it is told, and the reader's place moves behind it. Where no whole field stands, the place stays.
-pub fn next<'s, 'a>(reader: &'s mut Reader<'a>) -> Step
-    requires { reader.old.at ≤ length reader.old.file.now }
-    ensures { Stepped reader.old reader.new result }
-{
-    let at = place(*reader);
-    let step = cut_at(reader.file, at);
-    reader.at = behind(step, at);
-    step
-}
-
-// The place behind a step that was made at a place.
-fn behind(step: Step, at: usize) -> usize
-    requires { behind_step step at < 2 ^ 64 }
-    ensures { result ≡ behind_step step at }
-{
-    match step {
-        Step::Whole(f) => f.body + f.len,
-        Step::Broken => at,
-        Step::End => at,
+    // The field of one kind, where one stands next, with the reader behind it; else the reader stays. A stage knows its own fields by this test alone.
+    pub fn next_of(&mut self, kind: Kind) -> Option<Field<'a>>
+        ensures { Sought (of_kind kind) self.old self.new result }
+    {
+        let mut ahead = *self;
+        let Step::Whole(f) = ahead.step() else {
+            return None;
+        };
+        if !is_kind(f.tag, kind) {
+            return None;
+        }
+        *self = ahead;
+        Some(f)
     }
 }
 
-// The work of a step, on the file's bytes.
-fn cut_at(file: &[u8], at: usize) -> Step
-    requires { at ≤ length file.now }
+// What stands at a place: three bytes before each body say its field's tag and the body's length, high byte first.
+fn cut_at<'a>(file: &'a [u8], at: usize) -> Step<'a>
     ensures { StepIs file.now at result }
 {
-    let size = file.len();
-    if size <= at {
+    if file.len() <= at {
         return Step::End;
     }
-    let left = size - at;
-    if left < 3 {
+    let [tag, high, low, rest @ ..] = &file[at..] else {
         return Step::Broken;
+    };
+    let len = u16::from_be_bytes([*high, *low]) as usize;
+    match rest.get(..len) {
+        Some(body) => Step::Whole(Field {
+            at,
+            tag: *tag,
+            body,
+        }),
+        None => Step::Broken,
     }
-    let len = (file[at + 1] as usize) * 256 + (file[at + 2] as usize);
-    if left - 3 < len {
-        return Step::Broken;
-    }
-    Step::Whole(Field {
-        at,
-        tag: file[at],
-        body: at + 3,
-        len,
-    })
 }

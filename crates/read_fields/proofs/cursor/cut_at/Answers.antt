@@ -1,47 +1,85 @@
 -- `read_fields::cursor::cut_at` meets its contract: what is left of the file decides between its end, no whole field, and a field. Assumes nothing.
-use Prim.Native.Nat.{ℕ, ◌+◌, ◌*◌, ◌≤◌}
-use mathlib.Core.Path.{◌≡◌, refl, ap}
+use Prim.Native.Nat.{ℕ, ◌+◌, ◌-◌, ◌*◌, ◌<◌, ◌≤◌}
+use mathlib.Core.Path.{◌≡◌, refl, sym, ap, ◌∙◌}
 use mathlib.Core.List.{List}
 use native.Mathlib.Omega.{arith}
-use lib.ListN.{length, get_or}
-use Rattle.circuit.specs.Fields.{two_bytes}
-use Rattle.read_fields.specs.Steps.{body_of, field_in, FieldAt, StepIs}
+use lib.ListN.{length, get_or, take, drop, length-drop}
+use lib.Seq.{get_or-drop, drop-drop, take_all}
+use Rattle.std.specs.List.{slice_range}
+use native.Mathlib.Numerals.{unary_clauses}
+use Rattle.std.proofs.Common.{add-zero}
+use denote.Ref.{Bor}
+use Rattle.circuit.specs.Fields.{field, cut_from, two_bytes}
+use Rattle.read_fields.specs.Steps.{field_in, FieldAt, StepIs}
 use Rattle.read_fields.proofs.Cuts.{behind, cut_clean, cut_broken, cut_field}
 use Rattle.read_fields.proofs.cursor.cut_at.Goals as goal
 
--- the length that the code adds up
-len_is : (file : List ℕ) (at : ℕ) → get_or file (at + 1) 0 * 256 + get_or file (at + 2) 0 ≡ two_bytes file (at + 1)
-unfolding two_bytes
-len_is file at = omega (arith, ap (λ (i : ℕ). get_or file i 0) (let e : at + 2 ≡ at + 1 + 1 = omega arith in e))
+module _ (file : List ℕ) (at : ℕ) (before : at < length file) where
+  -- what is left of the file, as the code slices it
+  abbrev left : List ℕ
+  left = take (length file - at) (drop at file)
 
-field_at : (file : List ℕ) (at len : ℕ) → len ≡ two_bytes file (at + 1) → at + 3 + len ≤ length file
-    → FieldAt file at (record { at = at; tag = get_or file at 0; body = at + 3; len = len })
-unfolding body_of field_in
-field_at file at len e fits = record {
-  place = refl;
-  inside = fits;
-  further = omega arith;
-  cut = let whole : behind file at ≤ length file = omega arith in rw e (cut_field file at whole);
-}
+  left_is : left ≡ drop at file
+  left_is = take_all (length file - at) (drop at file) (omega (arith, length-drop at file))
 
-pub returns-then-size-at : goal.returns-then-size-at
+  length_left : length left + at ≡ length file
+  length_left = omega (arith, ap length left_is, length-drop at file)
+
+  -- its bytes are the file's
+  byte_is : (i : ℕ) → get_or left i 0 ≡ get_or file (at + i) 0
+  byte_is i = ap (λ (l : List ℕ). get_or l i 0) left_is ∙ get_or-drop at file i 0
+
+  -- the length that the code reads
+  len_is : get_or left 1 0 * 256 + get_or left 2 0 ≡ two_bytes file (at + 1)
+  unfolding two_bytes
+  len_is = omega (arith, byte_is 1, byte_is 2, ap (λ (i : ℕ). get_or file i 0) (let e : at + 2 ≡ at + 1 + 1 = omega arith in e))
+
+  rest_is : take (length left - 3) (drop 3 left) ≡ drop (at + 3) file
+  rest_is = take_all (length left - 3) (drop 3 left) (omega (arith, length-drop 3 left)) ∙ ap (drop 3) left_is ∙ drop-drop 3 at file
+
+  -- a field, with as many bytes for its body as its length says
+  field_at : (len : ℕ) (body : Bor (List ℕ)) → len ≡ two_bytes file (at + 1) → at + 3 + len ≤ length file
+      → body.now ≡ slice_range (take (length left - 3) (drop 3 left)) 0 len → length body.now ≡ len
+      → FieldAt file at (record { at = at; tag = get_or left 0 0; body = body })
+  unfolding field_in
+  field_at len body e fits is long = record {
+    place = refl;
+    inside = omega arith;
+    cut =
+        let whole : behind file at ≤ length file = omega arith in
+        let tags = sym (rw add-zero at (byte_is 0)) in
+        let bodies = ap (λ (n : ℕ). take n (drop (at + 3) file)) (sym e) ∙ ap (take len) (sym rest_is) ∙ sym (simp unary_clauses at is) in
+        let ends : behind file at ≡ at + 3 + length body.now = omega arith in
+        cut_field file at whole ∙ (λ i. field (record { at = at; tag = tags i; body = bodies i }) (cut_from file (ends i)));
+  }
+
+pub returns-then-file-at : goal.returns-then-file-at
 unfolding StepIs
-returns-then-size-at c = cut_clean c.args.file.now c.args.at (omega arith)
+returns-then-file-at c = cut_clean c.args.file.now c.args.at c.if-file-at.true
 
-pub returns-then-left-lt3 : goal.returns-then-left-lt3
+pub returns-in_default : goal.returns-in_default
 unfolding StepIs
-returns-then-left-lt3 c = let a = c.args in cut_broken a.file.now a.at (omega arith) (omega arith)
-
-pub returns-then-left-len : goal.returns-then-left-len
-unfolding StepIs
-returns-then-left-len c =
+returns-in_default c =
     let a = c.args in
-    let e = len_is a.file.now a.at in
-    cut_broken a.file.now a.at (omega arith) (omega arith)
+    let left = length_left a.file.now a.at c.if-file-at.false in
+    cut_broken a.file.now a.at c.if-file-at.false (omega arith)
 
-pub returns : goal.returns
+pub returns-in-None : goal.returns-in-None
 unfolding StepIs
-returns c =
+returns-in-None c =
     let a = c.args in
-    let e = len_is a.file.now a.at in
-    field_at a.file.now a.at (get_or a.file.now (a.at + 1) 0 * 256 + get_or a.file.now (a.at + 2) 0) e (omega arith)
+    let e = len_is a.file.now a.at c.if-file-at.false in
+    let left = length_left a.file.now a.at c.if-file-at.false in
+    let rest = ap length (rest_is a.file.now a.at c.if-file-at.false) in
+    let none = c.in-None.ensures in
+    cut_broken a.file.now a.at c.if-file-at.false (omega (arith, c.in-len3-up.len_at_least, length-drop (a.at + 3) a.file.now, none.lookup.0))
+
+pub returns-in-Some : goal.returns-in-Some
+unfolding StepIs
+returns-in-Some c =
+    let a = c.args in
+    let before = c.if-file-at.false in
+    let some = c.in-Some.ensures.lookup.0 in
+    let rest = ap length (rest_is a.file.now a.at before) in
+    field_at a.file.now a.at before c.from_be_bytes-len.result c.in-Some.body (c.from_be_bytes-len.ensures ∙ len_is a.file.now a.at before)
+    (omega (arith, some, length-drop (a.at + 3) a.file.now)) some.2 (omega (arith, some.3))

@@ -6,4 +6,5 @@
 pub mod Cuts
 pub mod Gathering
 pub mod Places
+pub mod Stages
 pub mod Turns

@@ -1,10 +1,17 @@
 -- What it means that the fields of one kind are gathered: each is judged in turn by how many stand before it, and kept as an item.
-use Rattle.std.specs.Prelude.{ℕ, ◌+◌, ◌≤◌, ◌≡◌, Bool, true, List, [], ◌∷◌, ◌++◌, length, drop, Option, Some, None}
+use Rattle.std.specs.Prelude.{ℕ, ◌≡◌, Bool, true, List, [], ◌∷◌, ◌++◌, length, drop, Option, Some, None, Result, Ok, Err}
+use Rattle.circuit.specs.Table.{Verdict, passes}
+use Rattle.circuit.specs.Refusals.{verdict_of}
 use Rattle.circuit.specs.Order.{Tag, tag_of}
 use Rattle.circuit.specs.declared.refusal.Refusal.{Refusal}
 use Rattle.read_fields.specs.Steps.{end_of, FieldAt, NextIs}
 use Rattle.read_fields.specs.declared.Field.{Field as FieldRecord}
 use Rattle.read_fields.specs.declared.gather.Gathered.{Gathered}
+
+-- a field judged: refused with the verdict of its tests, or else kept as an item
+abbrev pub JudgedAs : {T : Type 0} → Verdict → T → Result T Refusal → Type 0
+JudgedAs verdict kept (Ok item) = (verdict ≡ passes) × (item ≡ kept)
+JudgedAs verdict kept (Err why) = verdict ≡ verdict_of (Some why)
 
 -- fields whose tags pass a test, one behind the other from an offset to another, and what was kept of each
 pub data Kept {T : Type 0} (file : List ℕ) (own : Tag → Bool) (from : ℕ) (Keeps : FieldRecord → ℕ → T → Type 0) : List T → ℕ → Type 0 where

@@ -1,5 +1,5 @@
 -- The code's steps over a file in the words of its cut into fields: what stands at a place, and what the reader's step promises.
-use Rattle.std.specs.Prelude.{ℕ, ◌+◌, ◌≤◌, ◌≡◌, Bool, true, false, List, length, Option, Some, None}
+use Rattle.std.specs.Prelude.{ℕ, ◌+◌, ◌≤◌, ◌≡◌, Bool, true, false, cond, List, length, Option, Some, None}
 use Rattle.circuit.specs.Fields.{Field, Cut, clean, broken, field, cut_from}
 use Rattle.circuit.specs.Order.{Tag, tag_of}
 use Rattle.read_fields.specs.declared.cursor.Reader.{Reader}
@@ -31,6 +31,12 @@ StepIs file at End = cut_from file at ≡ clean
 unfoldable pub NextIs : List ℕ → ℕ → (Tag → Bool) → Option FieldRecord → Type 0
 NextIs file at own (Some f) = FieldAt file at f × (own (tag_of f.tag) ≡ true)
 NextIs file at own None = (f : Field) (rest : Cut) → cut_from file at ≡ field f rest → own (tag_of f.tag) ≡ false
+
+-- the field that a step told, where its tag passes
+unfoldable pub own_field : (Tag → Bool) → Step → Option FieldRecord
+own_field own (Whole f) = cond (own (tag_of f.tag)) (Some f) None
+own_field own Broken = None
+own_field own End = None
 
 -- ---- a step of the reader
 

@@ -4,7 +4,7 @@ ghost use Rattle.circuit.specs.Kinds.{of_kind};
 ghost use Rattle.read_fields.specs.Steps.{StepIs, Stepped, Sought};
 
 use crate::{Field, Step};
-use circuit::order::{Kind, is_kind};
+use circuit::order::Kind;
 
 #[derive(Clone, Copy)]
 pub struct Reader<'a> {
@@ -31,17 +31,12 @@ impl<'a> Reader<'a> {
         step
     }
 
-    // The field of one kind, where one stands next, with the reader behind it; else the reader stays. A stage knows its own fields by this test alone.
+    // The field of a kind, where one stands next: the reader goes behind it, and else stays.
     pub fn next_of(&mut self, kind: Kind) -> Option<Field<'a>>
         ensures { Sought (of_kind kind) self.old self.new result }
     {
         let mut ahead = *self;
-        let Step::Whole(f) = ahead.step() else {
-            return None;
-        };
-        if !is_kind(f.tag, kind) {
-            return None;
-        }
+        let f = ahead.step().of_kind(kind)?;
         *self = ahead;
         Some(f)
     }

@@ -6,6 +6,10 @@ pub mod gather;
 
 ghost use Rattle.std.specs.Prelude.{◌≡◌, get_or};
 ghost use Rattle.circuit.specs.Fields.{two_bytes};
+ghost use Rattle.circuit.specs.Kinds.{of_kind};
+ghost use Rattle.read_fields.specs.Steps.{own_field};
+
+use circuit::order::Kind;
 
 // A whole field: the offset of its tag byte, its tag, and its body.
 #[derive(Clone, Copy)]
@@ -22,6 +26,18 @@ pub enum Step<'a> {
     Whole(Field<'a>),
     Broken,
     End,
+}
+
+impl<'a> Step<'a> {
+    // The field that was told, if it is of the kind. A stage knows its own fields by this test alone.
+    pub fn of_kind(self, kind: Kind) -> Option<Field<'a>>
+        ensures { result ≡ own_field (of_kind kind) self.entry }
+    {
+        let Step::Whole(f) = self else {
+            return None;
+        };
+        (Kind::from(f.tag) == kind).then_some(f)
+    }
 }
 
 impl<'a> Field<'a> {

@@ -1,13 +1,13 @@
 -- `read_fields::gather::gather` meets its contract: each turn finds one field more and keeps its item behind the others, or it ends the stage. Assumes nothing.
-use Prim.Native.Nat.{ℕ, suc, ◌+◌, ◌<◌, ◌≤◌}
+use Prim.Native.Nat.{ℕ, suc, ◌<◌}
 use mathlib.Core.Path.{◌≡◌, refl, sym, ap, subst, ◌∙◌}
 use mathlib.Core.List.{List, [], ◌∷◌, ◌++◌}
 use native.Mathlib.Omega.{arith}
 use mathlib.Core.List.{append_assoc}
 use lib.ListN.{length, get_or, set, drop, length-append, length-drop}
 use lib.Seq.{drop-cons, set-append_seam}
-use Rattle.read_fields.specs.Steps.{FieldAt, Sought}
-use Rattle.read_fields.specs.Gathers.{Kept, none_kept, one_more, EndedBy, GatheredAs}
+use Rattle.read_fields.specs.Steps.{FieldAt}
+use Rattle.read_fields.specs.Gathers.{none_kept, one_more, EndedBy}
 use Rattle.read_fields.proofs.Turns.{found_at, found_own, found_behind, goes_on, stayed}
 use Rattle.read_fields.proofs.gather.gather.Goals as goal
 
@@ -36,7 +36,7 @@ loop-f-init g c = record {
 
 pub returns-in-Err : goal.returns-in-Err
 unfolding EndedBy
-returns-in-Err g c = 
+returns-in-Err g c =
     let inv = c.loop-f.invariant in
     let turn = c.in-Some.ensures in
     let here = rw inv.same_file at (found_at turn) in
@@ -57,7 +57,7 @@ loop-f-smaller g c =
     omega (arith, goes_on turn, here.inside)
 
 pub loop-f-preserved : goal.loop-f-preserved
-loop-f-preserved g c = 
+loop-f-preserved g c =
     let inv = c.loop-f.invariant in
     let turn = c.in-Some.ensures in
     let here = rw inv.same_file at (found_at turn) in

@@ -1,6 +1,6 @@
 -- `read_fields::gather::gather` meets its contract. The loop's invariant: the fields up to the reader's place are kept, in the first `count` places.
 -- The measure is what is left of the file. Assumes nothing.
-use Rattle.std.proofs.Common.{◌≡◌, ℕ, ◌+◌, ◌-◌, length, Ok, List, ◌++◌, drop}
+use Rattle.std.proofs.Common.{◌≡◌, ℕ, ◌-◌, length, Ok, List, ◌++◌, drop}
 use Rattle.circuit.specs.Kinds.{of_kind}
 use Rattle.read_fields.specs.declared.Field.{Field}
 use Rattle.read_fields.specs.Gathers.{Kept}

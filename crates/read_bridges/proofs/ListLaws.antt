@@ -7,9 +7,9 @@ use mathlib.Core.List.{List, [], ◌∷◌, ◌++◌, map}
 use native.Mathlib.Omega.{arith}
 use borrow.Author.Tests.{leb-true, leb-false, le-leb, lt-leb, lt-ltb, le-ltb, eq-eqb, ne_eqb}
 use lib.Dec.{T, eqb, leb, ltb, leb-zero, leb→le}
-use lib.ListN.{length, get_or, set, take, length-append, replicate, length-replicate, get_or-replicate, get_or-map}
+use lib.ListN.{length, get_or, set, take, length-append, length-map, replicate, length-replicate, get_or-replicate}
+use Rattle.std.proofs.lemmas.List.{get_or-map}
 use lib.Seq.{take-suc}
-use Rattle.words.specs.Tables.{table}
 use Rattle.words.proofs.Tables.{get_or-table, set-table, is-table}
 use Rattle.switch.specs.Conduction.{between}
 use Rattle.switch.specs.Bridges.{Bridge, nodes, input}
@@ -19,10 +19,10 @@ use Rattle.switch.proofs.Deciding.{all_of_lem}
 use Rattle.circuit.specs.Limits.{most_bridges}
 use Rattle.circuit.specs.Circuit.{Listed, user_list}
 use Rattle.circuit.specs.Table.{bridge_good, listed_good, bridge_suits}
-use Rattle.circuit.specs.Records.{padded, unused_bridge, bridge_record, bridge_record_in}
-use Rattle.read_bridges.specs.ListSums.{top_node, labels_named, most, lists_of, top_of_record, labels_of_record}
+use Rattle.circuit.specs.Records.{bridge_record, bridge_record_in}
+use Rattle.read_bridges.specs.declared.lists.ListSum.{ListSum}
+use Rattle.read_bridges.specs.ListSums.{top_node, labels_named, most, sum_of, lists_of, top_of_record, labels_of_record}
 use Rattle.circuit.specs.declared.Bridge.{Bridge as BridgeRecord}
-use Rattle.circuit.proofs.Padding.{get_or-padded}
 
 -- ---- what a list asks of a type
 
@@ -75,17 +75,10 @@ module _ (t : ModuleType) where
       rw
       (all_suit, not_and (leb (most top_node bs) t.highest), not_leb (most top_node bs) t.highest, not_leb (most labels_named bs) t.labels)
 
--- ---- the columns of the sums
+-- ---- the sums by their numbers
 
-module _ (bs : List Listed) (n : ℕ) (h : n < 128) where
-  pub count_at : get_or (lists_of bs).counts n 0 ≡ length (user_list n bs)
-  count_at = get_or-table 128 (λ (m : ℕ). length (user_list m bs)) 0 n h
-
-  pub node_at : get_or (lists_of bs).nodes n 0 ≡ most top_node (user_list n bs)
-  node_at = get_or-table 128 (λ (m : ℕ). most top_node (user_list m bs)) 0 n h
-
-  pub label_at : get_or (lists_of bs).labels n 0 ≡ most labels_named (user_list n bs)
-  label_at = get_or-table 128 (λ (m : ℕ). most labels_named (user_list m bs)) 0 n h
+pub sum_at : (bs : List Listed) (n : ℕ) (d : ListSum) → n < 128 → get_or (lists_of bs) n d ≡ sum_of (user_list n bs)
+sum_at bs n d h = get_or-table 128 (λ (m : ℕ). sum_of (user_list m bs)) d n h
 
 -- ---- one bridge more
 
@@ -124,24 +117,18 @@ unfolding most
 most-more f [] b = omega arith
 most-more f (a ∷ bs) b = omega (arith, most-more f bs b)
 
--- a column of what some measure gives of each list, with one bridge more
-module _ (measure : List Bridge → ℕ) where
-  abbrev pub column : List Listed → List ℕ
-  column bs = table 128 (λ (n : ℕ). measure (user_list n bs))
+pub sums_none : (none : ListSum) → none ≡ record { count = 0; nodes = 0; labels = 0 } → replicate 128 none ≡ lists_of []
+unfolding user_list most
+sums_none none e =
+    is-table none 128 (λ (n : ℕ). record { count = 0; nodes = 0; labels = 0 }) (replicate 128 none) (length-replicate 128 none)
+    (λ i h. get_or-replicate 128 i none none h ∙ e)
 
-  pub column_none : column [] ≡ replicate 128 (measure [])
-  unfolding user_list
-  column_none =
-      sym
-      (is-table 0 128 (λ (n : ℕ). measure []) (replicate 128 (measure [])) (length-replicate 128 (measure []))
-      (λ i h. get_or-replicate 128 i (measure []) 0 h))
-
-  pub column_more : (bs : List Listed) (b : Listed) → b.list < 128
-      → set (column bs) b.list (measure (user_list b.list bs ++ (b.bridge ∷ []))) ≡ column (bs ++ (b ∷ []))
-  column_more bs b h =
-      ap (λ (l : List Bridge). set (column bs) b.list (measure l)) (sym (more_own b.list bs b refl))
-      ∙ set-table 0 128 (λ (n : ℕ). measure (user_list n bs)) (λ (n : ℕ). measure (user_list n (bs ++ (b ∷ [])))) b.list h
-      (λ j q other. ap measure (sym (more_other j bs b (λ e. other (sym e)))))
+pub sums_more : (bs : List Listed) (b : Listed) (more : ListSum) → b.list < 128 → more ≡ sum_of (user_list b.list bs ++ (b.bridge ∷ []))
+    → set (lists_of bs) b.list more ≡ lists_of (bs ++ (b ∷ []))
+sums_more bs b more h e =
+    ap (set (lists_of bs) b.list) (e ∙ ap sum_of (sym (more_own b.list bs b refl)))
+    ∙ set-table more 128 (λ (n : ℕ). sum_of (user_list n bs)) (λ (n : ℕ). sum_of (user_list n (bs ++ (b ∷ [])))) b.list h
+    (λ j q other. ap sum_of (sym (more_other j bs b (λ e. other (sym e)))))
 
 -- ---- the code's records
 
@@ -167,16 +154,15 @@ module _ (list : ℕ) where
   second_in_lem (input m l) t = let h = leb→le l 11 (both (leb m 31) (leb l 11) t).1 in omega arith
 
 -- the bridges that some records tell
-pub record ToldBy (all : List BridgeRecord) (count : ℕ) (bs : List Listed) : Type 0 where
-  pub counted : count ≡ length bs
+pub record ToldBy (records : List BridgeRecord) (bs : List Listed) : Type 0 where
   pub within : length bs ≤ most_bridges
   pub ranges : T (all_of listed_good bs)
-  pub is : all ≡ padded most_bridges unused_bridge (map bridge_record bs)
+  pub are : records ≡ map bridge_record bs
 
 abbrev unlisted : Listed
 unlisted = record { list = 0; bridge = nodes 0 0 }
 
--- what the code reads from the record at a place below the count, said of the bridge that it tells
+-- what the code reads from a record, said of the bridge that it tells
 pub record BridgeAt (r : BridgeRecord) (b : Listed) : Type 0 where
   pub list : r.list ≡ b.list
   pub small : b.list < 128
@@ -184,29 +170,27 @@ pub record BridgeAt (r : BridgeRecord) (b : Listed) : Type 0 where
   pub top : top_of_record r ≡ top_node b.bridge
   pub labels : labels_of_record r ≡ labels_named b.bridge
 
-module _ (all : List BridgeRecord) (count : ℕ) (bs : List Listed) (told : ToldBy all count bs) (i : ℕ) (h : i < count) where
+module _ (records : List BridgeRecord) (bs : List Listed) (told : ToldBy records bs) (i : ℕ) (h : i < length records) where
+  below : i < length bs
+  below = omega (arith, ap length told.are, length-map bs bridge_record)
+
   pub bridge_at : Listed
   bridge_at = get_or bs i unlisted
 
   pub taken_more : take (suc i) bs ≡ take i bs ++ (bridge_at ∷ [])
   unfolding bridge_at
-  taken_more = let counted = told.counted in take-suc bs i unlisted (omega arith)
+  taken_more = take-suc bs i unlisted below
 
-  record_at : (d : BridgeRecord) → get_or all i d ≡ bridge_record bridge_at
-  unfolding bridge_at bridge_record bridge_record_in
+  record_at : (d : BridgeRecord) → get_or records i d ≡ bridge_record bridge_at
+  unfolding bridge_at
   record_at d =
-      let counted = told.counted in
-      let within = told.within in
-      ap (λ (l : List BridgeRecord). get_or l i d) told.is
-      ∙ get_or-padded unused_bridge most_bridges (map bridge_record bs) d i (omega arith)
-      ∙ get_or-map bridge_record bs i unlisted
+      ap (λ (l : List BridgeRecord). get_or l i d) told.are ∙ get_or-map bridge_record bs i unlisted d below
 
-  pub read_at : (d : BridgeRecord) → BridgeAt (get_or all i d) bridge_at
+  pub read_at : (d : BridgeRecord) → BridgeAt (get_or records i d) bridge_at
   unfolding listed_good bridge_record bridge_at between
   read_at d =
-      let counted = told.counted in
       let b : Listed = bridge_at in
-      let good : T (between 1 127 b.list && bridge_good b.bridge) = (all_of_lem listed_good unlisted bs).0 told.ranges i (omega arith) in
+      let good : T (between 1 127 b.list && bridge_good b.bridge) = (all_of_lem listed_good unlisted bs).0 told.ranges i below in
       let parts = both (between 1 127 b.list) (bridge_good b.bridge) good in
       let high = leb→le b.list 127 (both (leb 1 b.list) (leb b.list 127) parts.0).1 in
       rw record_at record {
@@ -217,43 +201,29 @@ module _ (all : List BridgeRecord) (count : ℕ) (bs : List Listed) (told : Told
         labels = labels_in b.list b.bridge;
       }
 
--- ---- the sums of the lists of some bridges, and of one bridge more
+-- ---- the sums as the code goes on from one bridge to the next
 
-pub record SumsOf (bs : List Listed) (counts tops labels : List ℕ) : Type 0 where
-  pub counts_are : counts ≡ column length bs
-  pub tops_are : tops ≡ column (most top_node) bs
-  pub labels_are : labels ≡ column (most labels_named) bs
+-- a sum with the bridge of a record
+abbrev pub with_record : ListSum → BridgeRecord → ListSum
+with_record s r = record { count = s.count + 1; nodes = max s.nodes (top_of_record r); labels = max s.labels (labels_of_record r) }
 
-pub no_sums : SumsOf [] (replicate 128 0) (replicate 128 0) (replicate 128 0)
-unfolding most
-no_sums = record { counts_are = sym (column_none length); tops_are = sym (column_none (most top_node)); labels_are = sym (column_none (most labels_named)) }
+sum_more : (bs : List Bridge) (b : Bridge)
+    → sum_of (bs ++ (b ∷ [])) ≡ record { count = length bs + 1; nodes = max (most top_node bs) (top_node b); labels = max (most labels_named bs) (labels_named b) }
+sum_more bs b = λ i. record {
+  count = length-append bs (b ∷ []) i;
+  nodes = most-more top_node bs b i;
+  labels = most-more labels_named bs b i;
+}
 
-module _ (bs : List Listed) (counts tops labels : List ℕ) (sums : SumsOf bs counts tops labels) (n : ℕ) (h : n < 128) where
-  pub counted_at : get_or counts n 0 ≡ length (user_list n bs)
-  counted_at = rw sums.counts_are (count_at bs n h)
+module _ (bs : List Listed) (lists : List ListSum) (are : lists ≡ lists_of bs) (b : Listed) (r : BridgeRecord) (at : BridgeAt r b) (d : ListSum) where
+  sum_is : get_or lists r.list d ≡ sum_of (user_list b.list bs)
+  sum_is = rw (are, at.list) (sum_at bs b.list d at.small)
 
-  pub top_at : get_or tops n 0 ≡ most top_node (user_list n bs)
-  top_at = rw sums.tops_are (node_at bs n h)
+  pub few : (get_or lists r.list d).count ≤ length bs
+  few = rw sum_is (length-list b.list bs)
 
-  pub labelled_at : get_or labels n 0 ≡ most labels_named (user_list n bs)
-  labelled_at = rw sums.labels_are (label_at bs n h)
-
-  pub sums_more : (b : Listed) (count top label : ℕ) → n ≡ b.list
-      → count ≡ get_or counts n 0 + 1 → top ≡ max (get_or tops n 0) (top_node b.bridge) → label ≡ max (get_or labels n 0) (labels_named b.bridge)
-      → SumsOf (bs ++ (b ∷ [])) (set counts n count) (set tops n top) (set labels n label)
-  sums_more b count top label own c t l =
-      let e = length-append (user_list n bs) (b.bridge ∷ []) in
-      let f = counted_at in
-      let count_is : count ≡ length (user_list n bs ++ (b.bridge ∷ [])) = omega arith in
-      let top-is : top ≡ most top_node (user_list n bs ++ (b.bridge ∷ [])) =
-      t ∙ rw top_at (sym (most-more top_node (user_list n bs) b.bridge)) in
-      let label_is : label ≡ most labels_named (user_list n bs ++ (b.bridge ∷ [])) =
-      l ∙ rw labelled_at (sym (most-more labels_named (user_list n bs) b.bridge)) in
-      record {
-        counts_are = rw (sums.counts_are, count_is) (grown length);
-        tops_are = rw (sums.tops_are, top-is) (grown (most top_node));
-        labels_are = rw (sums.labels_are, label_is) (grown (most labels_named));
-      }
-    where
-      grown : (measure : List Bridge → ℕ) → set (column measure bs) n (measure (user_list n bs ++ (b.bridge ∷ []))) ≡ column measure (bs ++ (b ∷ []))
-      grown measure = rw own (column_more measure bs b (rw own at h))
+  pub next_sums : (more : ListSum) → more ≡ with_record (get_or lists r.list d) r → set lists r.list more ≡ lists_of (bs ++ (b ∷ []))
+  next_sums more is =
+      let e : more ≡ sum_of (user_list b.list bs ++ (b.bridge ∷ [])) =
+      is ∙ rw (sum_is, at.top, at.labels) (sym (sum_more (user_list b.list bs) b.bridge)) in
+      rw (are, at.list) (sums_more bs b more at.small e)

@@ -15,31 +15,23 @@ use Rattle.circuit.proofs.Tested.{bridge-pass}
 use Rattle.read_fields.specs.Gathers.{JudgedAs, GatheredAs}
 use Rattle.read_fields.specs.declared.Field.{Field as FieldRecord}
 use Rattle.read_fields.specs.declared.gather.Gathered.{Gathered}
-use Rattle.read_fields.proofs.Stages.{Judges, stage_told}
+use Rattle.read_fields.proofs.Stages.{stage_told}
 use Rattle.read_bridges.specs.ReadBridges.{BridgesRead}
 
 pub room : (count at : ℕ) (body : List ℕ) → first_of (bridge_tests count at body) ≡ passes → count < most_bridges
 room count at body e = (bridge-pass count at body e).0
 
-abbrev keeps : FieldRecord → ℕ → BridgeRecord → Type 0
-keeps f n item = FieldRecord × JudgedAs (first_of (bridge_tests n f.at f.body.now)) (bridge_record (listed_in f.body.now)) (Ok item)
-
-abbrev refuses : FieldRecord → ℕ → Refusal → Type 0
-refuses f n why = FieldRecord × JudgedAs (first_of (bridge_tests n f.at f.body.now)) (bridge_record (listed_in f.body.now)) (Err why)
-
-judges : Judges bridge_tag most_bridges bridge_tests listed_in bridge_record unused_bridge listed_good keeps refuses
-judges = record {
-  keeps = λ f n item h. h.1;
-  refuses = λ f n why h. h.1;
-  room = room;
-  fits = λ n at body e. (bridge-pass n at body e).1.1;
-}
-
-pub bridges_read : (file : List ℕ) (from : ℕ) (unused : BridgeRecord) (all : List BridgeRecord) (r : Gathered) → from ≤ length file → unused ≡ unused_bridge
-    → GatheredAs file (is_kind bridge_tag) from keeps refuses (replicate most_bridges unused) all r
-    → BridgesRead file from (record { refusal = r.refusal; at = r.at; count = r.count; all = all })
-bridges_read file from unused all r h none gathered =
-    let told = stage_told bridge_tag most_bridges bridge_tests listed_in bridge_record unused_bridge listed_good file from keeps refuses judges h (rw none at gathered) in
+pub bridges_read : {file : List ℕ} {from : ℕ} {unused : BridgeRecord} {all : List BridgeRecord} {r : Gathered}
+    {Keeps : FieldRecord → ℕ → BridgeRecord → Type 0} {Refuses : FieldRecord → ℕ → Refusal → Type 0}
+    → GatheredAs file (is_kind bridge_tag) from Keeps Refuses (replicate most_bridges unused) all r
+    → ((f : FieldRecord) (n : ℕ) (item : BridgeRecord) → Keeps f n item
+    → JudgedAs (first_of (bridge_tests n f.at f.body.now)) (bridge_record (listed_in f.body.now)) (Ok item))
+    → ((f : FieldRecord) (n : ℕ) (why : Refusal) → Refuses f n why
+    → JudgedAs (first_of (bridge_tests n f.at f.body.now)) (bridge_record (listed_in f.body.now)) (Err why))
+    → from ≤ length file → unused ≡ unused_bridge → BridgesRead file from (record { refusal = r.refusal; at = r.at; count = r.count; all = all })
+bridges_read {file} {from} {unused} {all} {r} {Keeps} {Refuses} gathered keeps refuses h none =
+    let told = stage_told bridge_tag most_bridges bridge_tests listed_in bridge_record unused_bridge listed_good file from Keeps Refuses
+    (record { keeps = keeps; refuses = refuses; room = room; fits = λ n at body e. (bridge-pass n at body e).1.1 }) h (rw none at gathered) in
     record {
       bridges = told.elements;
       stage = told.stage;

@@ -1,3 +1,3 @@
--- What the reading of vectors rests on.
+-- What the functions that read vectors rest on.
 pub mod VectorLaws
 pub mod VectorsOnce

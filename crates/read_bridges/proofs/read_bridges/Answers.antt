@@ -4,8 +4,7 @@ use Rattle.read_bridges.proofs.BridgeLaws.{room, bridges_read}
 use Rattle.read_bridges.proofs.read_bridges.Goals as goal
 
 pub gather-read-requires : goal.gather-read-requires
-gather-read-requires c κs = (search rules, (search of_calls, λ f n item h. room n f.at f.body.now h.1.0))
+gather-read-requires c κs = (search rules, (search of_calls, λ f n item h. room n f.at f.body.now (search rules)))
 
 pub returns : goal.returns
-returns c =
-    bridges_read c.args.file.now c.args.from c.default-all.result c.gather-read.new.all c.gather-read.result c.requires (search rules) c.gather-read.ensures
+returns c = bridges_read c.gather-read.ensures (λ f n item h. search rules) (λ f n why h. search rules) c.requires (search rules)

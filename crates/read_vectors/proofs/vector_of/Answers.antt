@@ -1,35 +1,51 @@
--- `read_vectors::vector_of` meets its contract: what stands in the field that was found, if one was. Assumes nothing.
-use Prim.Native.Nat.{ℕ, ◌+◌, ◌≤◌}
-use mathlib.Core.Path.{◌≡◌, ◌∙◌}
-use mathlib.Core.List.{List}
-use lib.ListN.{length}
-use Rattle.circuit.specs.Records.{unused_vector}
-use Rattle.read_fields.specs.declared.Field.{Field as FieldRecord}
-use Rattle.read_fields.specs.declared.Next.{Next}
-use Rattle.read_fields.specs.declared.Next.TheVariants.{Found}
-use Rattle.read_fields.proofs.Turns.{kept_found, kept_other}
-use Rattle.read_vectors.specs.ReadVectors.{vector_kept, VectorNext}
+-- `read_vectors::vector_of` meets its contract. Assumes nothing.
+use Prim.Native.Nat.{ℕ, ◌<◌}
+use mathlib.Core.Path.{◌≡◌, sym, ap, ◌∙◌}
+use native.Mathlib.Numerals.{add-one}
+use native.Mathlib.Omega.{arith}
+use lib.ListN.{get_or}
+use Rattle.circuit.specs.declared.Vector.{Vector as VectorRecord}
+use Rattle.switch.specs.Promises.{is_at0, is_at1}
+use Rattle.switch.proofs.Outputs.{at1-small, at0-small}
+use Rattle.read_vectors.proofs.VectorLaws.{plane_none, plane_set, plane_kept, planes-whole, letter_1, letter_0, letter_not_1, letter_not_0}
 use Rattle.read_vectors.proofs.vector_of.Goals as goal
+use Rattle.read_vectors.proofs.vector_of.Goals.{in-49, in-48, in_default}
 
-fits : (file : List ℕ) (n : Next) (f : FieldRecord) → n ≡ Found f → VectorNext file n → (f.body + f.len ≤ length file) × (f.len ≤ 64)
-unfolding VectorNext
-fits file n f e is = rw e at is
+pub loop-i-init : goal.loop-i-init
+loop-i-init c =
+    let none = c.default-vector.ensures in
+    (none.0 ∙ plane_none is_at1 c.args.letters.now, none.1 ∙ plane_none is_at0 c.args.letters.now)
 
-pub vector_in-requires : goal.vector_in-requires
-vector_in-requires c =
-    let a = c.args in
-    let f = c.in-Found in
-    let is = fits a.file.now a.found f.f f.is c.requires in
-    record { len_in_bounds = is.0; len_bound = is.1 }
+pub loop-i-preserved : goal.loop-i-preserved
+loop-i-preserved c =
+    let body = c.args.letters.now in
+    let i : ℕ = c.loop-i.i in
+    let inv = c.loop-i.invariant in
+    let b : ℕ = get_or body i 0 in
+    let taken = c.loop-i-test.true in
+    let ones = λ (v : VectorRecord). v.ones in
+    let zeros = λ (v : VectorRecord). v.zeros in
+    let below : i < 64 = omega arith in
+    rw (add-one i)
+    (elim c.match-letter.branch [
+      | in-49 w ↦
+          let is : b ≡ 49 = w.in-49.is in (
+            ap ones w.vector-is ∙ rw inv.0 (plane_set is_at1 body at1-small i below (letter_1 b is)),
+            ap zeros w.vector-is ∙ inv.1 ∙ plane_kept is_at0 body i (letter_not_0 b (λ other. omega arith)),
+          )
+      | in-48 w ↦
+          let is : b ≡ 48 = w.in-48.is in (
+            ap ones w.vector-is ∙ inv.0 ∙ plane_kept is_at1 body i (letter_not_1 b (λ other. omega arith)),
+            ap zeros w.vector-is ∙ rw inv.1 (plane_set is_at0 body at0-small i below (letter_0 b is)),
+          )
+      | in_default w ↦ (
+        ap ones w.vector-is ∙ inv.0 ∙ plane_kept is_at1 body i (letter_not_1 b (λ other. omega arith)),
+        ap zeros w.vector-is ∙ inv.1 ∙ plane_kept is_at0 body i (letter_not_0 b (λ other. omega arith)),
+      )
+    ])
 
-pub returns-in-Found : goal.returns-in-Found
-unfolding vector_kept
-returns-in-Found c =
-    let a = c.args in
-    let f = c.in-Found in
-    c.vector_in.ensures ∙ kept_found a.found (vector_kept a.file.now) unused_vector f.f f.is
-
-pub returns-in-Other : goal.returns-in-Other
-returns-in-Other c =
-    let a = c.args in
-    c.no_vector.ensures ∙ kept_other a.found (vector_kept a.file.now) unused_vector c.in-Other.is
+pub returns : goal.returns
+returns c =
+    let body = c.args.letters.now in
+    let inv = c.loop-i.invariant in
+    sym (planes-whole body c.loop-i.i (omega arith) ∙ rw (inv.0, inv.1))

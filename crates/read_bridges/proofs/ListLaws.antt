@@ -5,7 +5,8 @@ use mathlib.Core.Path.{◌≡◌, refl, sym, ap, ◌∙◌}
 use mathlib.Core.Bool.{Bool, true, false, cond, not, ◌&&◌, ◌||◌, and-true}
 use mathlib.Core.List.{List, [], ◌∷◌, ◌++◌, map}
 use native.Mathlib.Omega.{arith}
-use borrow.Author.Tests.{leb-true, leb-false, le-leb, lt-leb, lt-ltb, le-ltb, eq-eqb, ne_eqb}
+use borrow.Author.Tests.{eq-eqb, ne_eqb}
+use Rattle.std.proofs.lemmas.Bool.Decides.{nat_tests}
 use lib.Dec.{T, eqb, leb, ltb, leb-zero, leb→le}
 use lib.ListN.{length, get_or, set, take, length-append, length-map, replicate, length-replicate, get_or-replicate}
 use Rattle.std.proofs.lemmas.List.{get_or-map}
@@ -27,30 +28,16 @@ use Rattle.circuit.specs.declared.Bridge.{Bridge as BridgeRecord}
 -- ---- what a list asks of a type
 
 leb_max : (a b h : ℕ) → leb (max a b) h ≡ (leb a h && leb b h)
-leb_max a b h = go (leb a h) refl (leb b h) refl
-  where
-    go : (x : Bool) → leb a h ≡ x → (y : Bool) → leb b h ≡ y → leb (max a b) h ≡ (x && y)
-    go true p true q = le-leb (max a b) h (omega (arith, leb-true a h p, leb-true b h q))
-    go true p false q = lt-leb (max a b) h (omega (arith, leb-false b h q))
-    go false p true q = lt-leb (max a b) h (omega (arith, leb-false a h p))
-    go false p false q = lt-leb (max a b) h (omega (arith, leb-false a h p))
+leb_max a b h = grind (arith, nat_tests)
 
 not_leb : (a h : ℕ) → not (leb a h) ≡ ltb h a
-not_leb a h = go (leb a h) refl
-  where
-    go : (x : Bool) → leb a h ≡ x → not x ≡ ltb h a
-    go true p = sym (le-ltb h a (leb-true a h p))
-    go false p = sym (lt-ltb h a (leb-false a h p))
+not_leb a h = grind (arith, nat_tests)
 
 swap_and : (a b c d : Bool) → ((a && b) && (c && d)) ≡ ((a && c) && (b && d))
-swap_and true true c d = refl
-swap_and true false true d = refl
-swap_and true false false d = refl
-swap_and false b c d = refl
+swap_and a b c d = grind arith
 
 not_and : (a b : Bool) → not (a && b) ≡ (not a || not b)
-not_and true b = refl
-not_and false b = refl
+not_and a b = grind arith
 
 module _ (t : ModuleType) where
   suits : (b : Bridge) → bridge_suits t b ≡ (leb (top_node b) t.highest && leb (labels_named b) t.labels)

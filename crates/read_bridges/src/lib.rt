@@ -18,7 +18,7 @@ use read_fields::Field;
 use read_fields::gather::gather;
 
 // The bridges that were read, and where the stage ended, with the refusal if it ended at a bridge that is refused.
-// No Result: what was read before a refusal is told too.
+// No Result, since what was read before a refusal is told too; and no struct that all stages share, since a generic one may hold no array of a type parameter.
 #[derive(Clone, Copy)]
 pub struct Bridges {
     pub refusal: Option<Refusal>,

@@ -101,3 +101,6 @@ module _ {A : Type 0} (own : Tag → Bool) (tests : Tag → A → ℕ → List �
       go clean e = refl
       go (broken place) e = refl
       go (field f rest) e = rw (other f rest e)
+
+-- what stands at an offset, by what is left there
+pub ruleset cuts = (cut_clean, cut_broken, cut_field)

@@ -21,6 +21,7 @@ impl<'a> Reader<'a> {
     }
 
     // The step to the next field: it is told, and the reader's place moves behind it. Where no whole field stands, the place stays.
+    #[tactic(auto, unfolding(crate::specs::Steps::StepIs, crate::specs::Steps::behind_step))]
     pub fn step(&mut self) -> Step<'a>
         ensures { Stepped self.old self.new result }
     {
@@ -32,6 +33,7 @@ impl<'a> Reader<'a> {
     }
 
     // The field of a kind, where one stands next: the reader goes behind it, and else stays.
+    #[tactic(auto, unfolding(crate::specs::Steps::StepIs, crate::specs::Steps::NextIs, crate::specs::Steps::own_field, crate::specs::Steps::behind_step, crate::specs::Steps::behind_found, crate::specs::Steps::field_in))]
     pub fn next_of(&mut self, kind: Kind) -> Option<Field<'a>>
         ensures { Sought (of_kind kind) self.old self.new result }
     {
@@ -43,6 +45,7 @@ impl<'a> Reader<'a> {
 }
 
 // What stands at a place: three bytes before each body say its field's tag and the body's length, high byte first.
+#[tactic(auto, using(crate::proofs::Cuts::cuts), unfolding(crate::specs::Steps::StepIs))]
 fn cut_at<'a>(file: &'a [u8], at: usize) -> Step<'a>
     ensures { StepIs file.now at result }
 {

@@ -30,6 +30,7 @@ pub enum Step<'a> {
 
 impl<'a> Step<'a> {
     // The field that was told, if it is of the kind. A stage knows its own fields by this test alone.
+    #[tactic(auto, using(crate::proofs::KindLaws::kinds), unfolding(crate::specs::Steps::own_field))]
     pub fn of_kind(self, kind: Kind) -> Option<Field<'a>>
         ensures { result ≡ own_field (of_kind kind) self.entry }
     {

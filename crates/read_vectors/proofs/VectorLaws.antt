@@ -1,12 +1,13 @@
 -- The laws of vectors: letters looked at one by one, the planes of a vector set bit by bit, and what is told of the vectors that were read.
 use Prim.Native.Nat.{ℕ, zero, suc, ◌+◌, ◌*◌, ◌%◌, ◌^◌, ◌<◌, ◌≤◌}
 use mathlib.Core.Path.{◌≡◌, refl, sym, ap, ◌∙◌}
-use mathlib.Core.Bool.{Bool, true, false, cond, not, ◌&&◌, and-true}
+use mathlib.Core.Bool.{true, not, ◌&&◌, and-true}
 use mathlib.Core.List.{List, [], ◌∷◌, ◌++◌}
 use native.Mathlib.Nat.{pow-suc}
 use native.Mathlib.Omega.{arith}
-use borrow.Author.Tests.{ne_eqb, leb-false, eqb-true, not-false}
+use borrow.Author.Tests.{leb-false, eqb-true, not-false}
 use lib.Bits.{bit_or, or_shifted_r}
+use Rattle.std.proofs.lemmas.Bool.Decides.{nat_tests}
 use lib.Dec.{eqb, leb}
 use lib.Pow.{shl_exact}
 use lib.ListN.{length, get_or, take, replicate, length-map, get_or-map}
@@ -14,7 +15,7 @@ use lib.Seq.{take-suc}
 use native.Mathlib.Numerals.{add-one}
 use Rattle.words.specs.Bits.{pack}
 use Rattle.words.proofs.Laws.{pack_lt, pack_cong}
-use Rattle.switch.specs.Conduction.{Value, at0, at1, at_x}
+use Rattle.switch.specs.Conduction.{Value, at_x}
 use Rattle.switch.specs.Modules.{all_of}
 use Rattle.switch.specs.Promises.{is_at0, is_at1}
 use Rattle.circuit.specs.Limits.{most_vectors}
@@ -37,15 +38,13 @@ use Rattle.circuit.proofs.Verdicts.{first_passes}
 letters-snoc : (bs : List ℕ) (b : ℕ) → all_of is_letter (bs ++ (b ∷ [])) ≡ (all_of is_letter bs && is_letter b)
 unfolding all_of
 letters-snoc [] b = and-true (is_letter b)
-letters-snoc (a ∷ bs) b = rw (letters-snoc bs b) (go (is_letter a))
-  where
-    go : (x : Bool) → (x && (all_of is_letter bs && is_letter b)) ≡ ((x && all_of is_letter bs) && is_letter b)
-    go true = refl
-    go false = refl
+letters-snoc (a ∷ bs) b = grind (arith, letters-snoc bs b)
 
 pub letters-more : (body : List ℕ) (i : ℕ) → i < length body
     → all_of is_letter (take (i + 1) body) ≡ (all_of is_letter (take i body) && is_letter (get_or body i 0))
 letters-more body i h = rw (add-one i, take-suc body i 0 h) (letters-snoc (take i body) (get_or body i 0))
+
+pub ruleset letters = (letters-more)
 
 -- ---- the value of a letter
 
@@ -59,19 +58,11 @@ letter_0 b e = rw e
 
 pub letter_not_1 : (b : ℕ) → (b ≡ 49 → ⊥) → is_at1 (letter_of b) ≡ 0
 unfolding letter_of is_at1
-letter_not_1 b e = rw (ne_eqb b 49 e) (go (eqb b 48))
-  where
-    go : (x : Bool) → is_at1 (cond x at0 at_x) ≡ 0
-    go true = refl
-    go false = refl
+letter_not_1 b e = grind (arith, nat_tests)
 
 pub letter_not_0 : (b : ℕ) → (b ≡ 48 → ⊥) → is_at0 (letter_of b) ≡ 0
 unfolding letter_of is_at0
-letter_not_0 b e = rw (ne_eqb b 48 e) (go (eqb b 49))
-  where
-    go : (x : Bool) → is_at0 (cond x at1 at_x) ≡ 0
-    go true = refl
-    go false = refl
+letter_not_0 b e = grind (arith, nat_tests)
 
 -- ---- a plane of a vector, bit by bit
 
@@ -128,6 +119,8 @@ pub planes-whole : (body : List ℕ) (n : ℕ) → n ≡ length body
     → vector_record (vector_in body) ≡ record { ones = plane_to is_at1 body n; zeros = plane_to is_at0 body n }
 unfolding vector_record
 planes-whole body n e = rw (e, plane_whole is_at1 body, plane_whole is_at0 body)
+
+pub ruleset planes = (plane_none, planes-whole)
 
 -- ---- a vector that passed its tests
 

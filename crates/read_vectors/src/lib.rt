@@ -17,7 +17,7 @@ use read_fields::Field;
 use read_fields::gather::gather;
 
 // The vectors that were read, and where the stage ended, with the refusal if it ended at a vector that is refused.
-// No Result: what was read before a refusal is told too.
+// No Result, since what was read before a refusal is told too; and no struct that all stages share, since a generic one may hold no array of a type parameter.
 #[derive(Clone, Copy)]
 pub struct Vectors {
     pub refusal: Option<Refusal>,
@@ -35,6 +35,7 @@ fn is_letter(b: u8) -> bool
 }
 
 // Goes on past a byte that is no letter: without a way out of the loop the compiler takes many bytes at a time.
+#[tactic(auto, using(crate::proofs::VectorLaws::letters), unfolding(switch::specs::Modules::all_of))]
 fn letters_only(body: &[u8]) -> bool
     ensures { result ≡ all_of is_letter body.now }
 {
@@ -46,6 +47,7 @@ fn letters_only(body: &[u8]) -> bool
 }
 
 // The vector that letters tell.
+#[tactic(auto, using(crate::proofs::VectorLaws::planes))]
 fn vector_of(letters: &[u8]) -> Vector
     requires { length letters.now ≤ 64 }
     ensures { result ≡ vector_record (vector_in letters.now) }

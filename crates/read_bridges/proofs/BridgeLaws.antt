@@ -28,10 +28,12 @@ pub bridges_read : {file : List ℕ} {from : ℕ} {unused : BridgeRecord} {all :
     → JudgedAs (first_of (bridge_tests n f.at f.body.now)) (bridge_record (listed_in f.body.now)) (Ok item))
     → ((f : FieldRecord) (n : ℕ) (why : Refusal) → Refuses f n why
     → JudgedAs (first_of (bridge_tests n f.at f.body.now)) (bridge_record (listed_in f.body.now)) (Err why))
-    → from ≤ length file → unused ≡ unused_bridge → BridgesRead file from (record { refusal = r.refusal; at = r.at; count = r.count; all = all })
+    → from ≤ length file → unused ≡ unused_bridge
+    → BridgesRead file from (record { refusal = r.refusal; at = r.at; count = r.count; all = all })
 bridges_read {file} {from} {unused} {all} {r} {Keeps} {Refuses} gathered keeps refuses h none =
     let told = stage_told bridge_tag most_bridges bridge_tests listed_in bridge_record unused_bridge listed_good file from Keeps Refuses
-    (record { keeps = keeps; refuses = refuses; room = room; fits = λ n at body e. (bridge-pass n at body e).1.1 }) h (rw none at gathered) in
+    (record { keeps = keeps; refuses = refuses; room = room; fits = λ n at body e. (bridge-pass n at body e).1.1 })
+    h (rw none at gathered) in
     record {
       bridges = told.elements;
       stage = told.stage;

@@ -2,7 +2,7 @@
 -- Whether a list suits a type, and whether it is empty, can be told from its sums.
 use Prim.Native.Nat.{ℕ, suc, ◌+◌, ◌<◌, ◌≤◌, max}
 use mathlib.Core.Path.{◌≡◌, refl, sym, ap, ◌∙◌}
-use mathlib.Core.Bool.{Bool, true, false, cond, not, ◌&&◌, ◌||◌, and-true}
+use mathlib.Core.Bool.{Bool, cond, not, ◌&&◌, ◌||◌, and-true}
 use mathlib.Core.List.{List, [], ◌∷◌, ◌++◌, map}
 use native.Mathlib.Omega.{arith}
 use borrow.Author.Tests.{eq-eqb, ne_eqb}
@@ -57,7 +57,8 @@ module _ (t : ModuleType) where
       (leb (most labels_named bs) t.labels))
 
   -- some bridge does not suit the type exactly when they name a node above h or a label not below k
-  pub unsuited : (bs : List Bridge) → not (all_of (bridge_suits t) bs) ≡ (ltb t.highest (most top_node bs) || ltb t.labels (most labels_named bs))
+  pub unsuited : (bs : List Bridge)
+      → not (all_of (bridge_suits t) bs) ≡ (ltb t.highest (most top_node bs) || ltb t.labels (most labels_named bs))
   unsuited bs =
       rw
       (all_suit, not_and (leb (most top_node bs) t.highest), not_leb (most top_node bs) t.highest, not_leb (most labels_named bs) t.labels)
@@ -72,26 +73,14 @@ sum_at bs n d h = get_or-table 128 (λ (m : ℕ). sum_of (user_list m bs)) d n h
 pub length-list : (n : ℕ) (bs : List Listed) → length (user_list n bs) ≤ length bs
 unfolding user_list
 length-list n [] = omega arith
-length-list n (b ∷ bs) = go (eqb b.list n) (length-list n bs)
-  where
-    go : (own : Bool) → length (user_list n bs) ≤ length bs → length (cond own (b.bridge ∷ user_list n bs) (user_list n bs)) ≤ suc (length bs)
-    go true h = omega arith
-    go false h = omega arith
+length-list n (b ∷ bs) = grind (arith, length-list n bs)
 
 module _ (n : ℕ) where
   more : (bs : List Listed) (b : Listed)
       → user_list n (bs ++ (b ∷ [])) ≡ cond (eqb b.list n) (user_list n bs ++ (b.bridge ∷ [])) (user_list n bs)
   unfolding user_list
   more [] b = refl
-  more (a ∷ bs) b = rw (more bs b) (go (eqb a.list n) (eqb b.list n))
-    where
-      go : (x y : Bool)
-          → cond x (a.bridge ∷ cond y (user_list n bs ++ (b.bridge ∷ [])) (user_list n bs)) (cond y (user_list n bs ++ (b.bridge ∷ [])) (user_list n bs))
-          ≡ cond y (cond x (a.bridge ∷ user_list n bs) (user_list n bs) ++ (b.bridge ∷ [])) (cond x (a.bridge ∷ user_list n bs) (user_list n bs))
-      go true true = refl
-      go true false = refl
-      go false true = refl
-      go false false = refl
+  more (a ∷ bs) b = grind (arith, more bs b)
 
   pub more_own : (bs : List Listed) (b : Listed) → b.list ≡ n → user_list n (bs ++ (b ∷ [])) ≡ user_list n bs ++ (b.bridge ∷ [])
   more_own bs b e = more bs b ∙ rw (eq-eqb b.list n e)
@@ -195,14 +184,16 @@ abbrev pub with_record : ListSum → BridgeRecord → ListSum
 with_record s r = record { count = s.count + 1; nodes = max s.nodes (top_of_record r); labels = max s.labels (labels_of_record r) }
 
 sum_more : (bs : List Bridge) (b : Bridge)
-    → sum_of (bs ++ (b ∷ [])) ≡ record { count = length bs + 1; nodes = max (most top_node bs) (top_node b); labels = max (most labels_named bs) (labels_named b) }
+    → sum_of (bs ++ (b ∷ []))
+    ≡ record { count = length bs + 1; nodes = max (most top_node bs) (top_node b); labels = max (most labels_named bs) (labels_named b) }
 sum_more bs b = λ i. record {
   count = length-append bs (b ∷ []) i;
   nodes = most-more top_node bs b i;
   labels = most-more labels_named bs b i;
 }
 
-module _ (bs : List Listed) (lists : List ListSum) (are : lists ≡ lists_of bs) (b : Listed) (r : BridgeRecord) (at : BridgeAt r b) (d : ListSum) where
+module _ (bs : List Listed) (lists : List ListSum) (are : lists ≡ lists_of bs) (b : Listed) (r : BridgeRecord)
+    (at : BridgeAt r b) (d : ListSum) where
   sum_is : get_or lists r.list d ≡ sum_of (user_list b.list bs)
   sum_is = rw (are, at.list) (sum_at bs b.list d at.small)
 

@@ -46,4 +46,5 @@ pub record ListedBridges (records : List BridgeRecord) : Type 0 where
 -- their lists in sum
 abbrev pub SummedTo : List BridgeRecord → List ListSum → Type 0
 SummedTo records r =
-    (bridges : List Listed) → length bridges ≤ most_bridges → T (all_of listed_good bridges) → records ≡ map bridge_record bridges → r ≡ lists_of bridges
+    (bridges : List Listed) → length bridges ≤ most_bridges → T (all_of listed_good bridges)
+    → records ≡ map bridge_record bridges → r ≡ lists_of bridges

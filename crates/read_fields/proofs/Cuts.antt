@@ -83,7 +83,8 @@ module _ (file : List ℕ) (at : ℕ) where
       cut_step (omega arith)
       ∙ rw (ne_eqb at (length file) (omega arith), le-ltb (length file) (at + 3) (omega arith), le-ltb (length file) (behind file at) h)
 
-module _ {A : Type 0} (own : Tag → Bool) (tests : Tag → A → ℕ → List ℕ → List Test) (add : Tag → A → List ℕ → A) (sofar : A) (file : List ℕ) (at : ℕ) where
+module _ {A : Type 0} (own : Tag → Bool) (tests : Tag → A → ℕ → List ℕ → List Test) (add : Tag → A → List ℕ → A) (sofar : A)
+    (file : List ℕ) (at : ℕ) where
   -- a stage at a field of its own
   pub section_step : (f : FieldRecord) → FieldAt file at f → own (tag_of f.tag) ≡ true
       → section own tests add sofar (cut_from file at)

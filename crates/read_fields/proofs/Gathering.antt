@@ -18,13 +18,15 @@ use Rattle.read_fields.specs.declared.Field.{Field as FieldRecord}
 use Rattle.circuit.proofs.Padding.{padded_nil, padded_snoc}
 use Rattle.read_fields.proofs.Cuts.{section_step, section_stop}
 
-refused-here : {A : Type 0} (v : Verdict) (a : A) (cut : Cut) (more : Stage A) → is_refused v ≡ true → if_passes v a cut more ≡ stage_of v a cut
+refused-here : {A : Type 0} (v : Verdict) (a : A) (cut : Cut) (more : Stage A) → is_refused v ≡ true
+    → if_passes v a cut more ≡ stage_of v a cut
 unfolding is_refused if_passes
 refused-here passes a cut more e = cc
 refused-here (refused_at n p) a cut more e = refl
 
 -- fields of one kind, of whose bodies elements are made; `shown` is an element's record, and `none` stands in unused places
-module _ {A R : Type 0} (kind : Tag) (most : ℕ) (tests : List A → ℕ → List ℕ → List Test) (make : List ℕ → A) (shown : A → R) (none : R) where
+module _ {A R : Type 0} (kind : Tag) (most : ℕ) (tests : List A → ℕ → List ℕ → List Test) (make : List ℕ → A) (shown : A → R)
+    (none : R) where
   abbrev pub gather : List A → Cut → Stage (List A)
   gather = section_of kind tests (λ (as' : List A) (body : List ℕ). as' ++ (make body ∷ []))
 
@@ -36,7 +38,8 @@ module _ {A R : Type 0} (kind : Tag) (most : ℕ) (tests : List A → ℕ → Li
     pub counted : count ≡ length as'
     pub is : all ≡ padded most none (map shown as')
 
-  pub none_yet : (file : List ℕ) (from : ℕ) (unused : R) → from ≤ length file → unused ≡ none → SoFar file from [] (replicate most unused) 0 from
+  pub none_yet : (file : List ℕ) (from : ℕ) (unused : R) → from ≤ length file → unused ≡ none
+      → SoFar file from [] (replicate most unused) 0 from
   none_yet file from unused h e = record {
     stage = refl;
     place = h;
@@ -65,7 +68,8 @@ module _ {A R : Type 0} {kind : Tag} {most : ℕ} {tests : List A → ℕ → Li
         stepped ∙ refused-here v as' (cut_from file at) (section_of kind tests add (add as' f.body.now) (cut_from file (end_of f))) e
 
     pub one_more_lem : v ≡ passes → count < most
-        → SoFar kind most tests make shown none file from (add as' f.body.now) (set all count (shown (make f.body.now))) (count + 1) (end_of f)
+        → SoFar kind most tests make shown none file from (add as' f.body.now)
+        (set all count (shown (make f.body.now))) (count + 1) (end_of f)
     unfolding if_passes
     one_more_lem e room =
         let a : A = make f.body.now in

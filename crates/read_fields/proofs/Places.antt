@@ -1,4 +1,5 @@
--- The cut of a file from an offset tells that offset. So how a stage ended tells its verdict, what it has gathered, and the offset at which it stands.
+-- The cut of a file from an offset tells that offset. So how a stage ended tells its verdict, what it has gathered, and the offset at which
+-- it stands.
 use Prim.Native.Nat.{ℕ, ◌+◌, ◌≤◌}
 use mathlib.Core.Path.{◌≡◌, refl, sym, ap, ◌∙◌}
 use mathlib.Core.Bool.{Bool, true, false, cond}

@@ -112,7 +112,8 @@ module _ (is : Value → ℕ) (body : List ℕ) where
   unfolding plane_to
   plane_whole =
       ap (λ (n : ℕ). pack n (λ (i : ℕ). is (get_or (vector_in body) i at_x))) (vector-length body)
-      ∙ pack_cong (length body) (λ (i : ℕ). is (get_or (vector_in body) i at_x)) (λ (i : ℕ). is (letter_of (get_or body i 0))) (λ i h. ap is (letter_at_lem body i))
+      ∙ pack_cong (length body) (λ (i : ℕ). is (get_or (vector_in body) i at_x)) (λ (i : ℕ). is (letter_of (get_or body i 0)))
+      (λ i h. ap is (letter_at_lem body i))
 
 -- once each letter is in the planes, they are the vector's
 pub planes-whole : (body : List ℕ) (n : ℕ) → n ≡ length body
@@ -152,7 +153,8 @@ pub vectors_read : {file : List ℕ} {from : ℕ} (P : ℕ) {unused : VectorReco
     → JudgedAs (first_of (vector_tests P n f.at f.body.now)) (vector_record (vector_in f.body.now)) (Ok item))
     → ((f : FieldRecord) (n : ℕ) (why : Refusal) → Refuses f n why
     → JudgedAs (first_of (vector_tests P n f.at f.body.now)) (vector_record (vector_in f.body.now)) (Err why))
-    → from ≤ length file → unused ≡ unused_vector → VectorsRead file from P (record { refusal = r.refusal; at = r.at; count = r.count; all = all })
+    → from ≤ length file → unused ≡ unused_vector
+    → VectorsRead file from P (record { refusal = r.refusal; at = r.at; count = r.count; all = all })
 vectors_read {file} {from} P {unused} {all} {r} {Keeps} {Refuses} gathered keeps refuses h none =
     let told = stage_told vector_tag most_vectors (vector_tests P) vector_in vector_record unused_vector (λ v. true) file from Keeps Refuses
     (record { keeps = keeps; refuses = refuses; room = room P; fits = λ n at body e. tt }) h (rw none at gathered) in

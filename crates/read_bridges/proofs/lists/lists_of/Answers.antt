@@ -16,7 +16,9 @@ told : {records : _} (listed : ListedBridges records) → ToldBy records listed.
 told listed = record { within = listed.within; ranges = listed.ranges; are = listed.are }
 
 -- the bridge at hand
-at : (c : In-loop-b) → BridgeAt (get_or c.args.bridges.now c.loop-b.b-index unused_bridge) (bridge_at c.args.bridges.now c.requires.bridges (told c.requires) c.loop-b.b-index c.loop-b-test.true)
+at : (c : In-loop-b)
+    → BridgeAt (get_or c.args.bridges.now c.loop-b.b-index unused_bridge)
+    (bridge_at c.args.bridges.now c.requires.bridges (told c.requires) c.loop-b.b-index c.loop-b-test.true)
 at c = read_at c.args.bridges.now c.requires.bridges (told c.requires) c.loop-b.b-index c.loop-b-test.true unused_bridge
 
 pub loop-b-init : goal.loop-b-init
@@ -45,4 +47,5 @@ loop-b-preserved c bs t =
     let i : ℕ = c.loop-b.b-index in
     let taken = c.loop-b-test.true in
     rw (add-one i, taken_more records bs t i taken)
-    (next_sums (take i bs) c.loop-b.lists (c.loop-b.invariant bs t) _ _ (read_at records bs t i taken unused_bridge) _ c.with.result c.with.ensures)
+    (next_sums (take i bs) c.loop-b.lists (c.loop-b.invariant bs t) _ _ (read_at records bs t i taken unused_bridge) _
+    c.with.result c.with.ensures)

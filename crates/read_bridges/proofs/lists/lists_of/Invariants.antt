@@ -1,4 +1,5 @@
--- `read_bridges::lists::lists_of` meets its contract. The loop's invariant: the lists are summed as far as the bridges have been seen. Assumes nothing.
+-- `read_bridges::lists::lists_of` meets its contract. The loop's invariant: the lists are summed as far as the bridges have been seen.
+-- Assumes nothing.
 use mathlib.Core.Path.{◌≡◌}
 use mathlib.Core.List.{List}
 use lib.ListN.{take}

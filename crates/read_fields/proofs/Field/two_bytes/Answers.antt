@@ -20,5 +20,6 @@ pub returns : goal.returns
 unfolding two_bytes
 returns c =
     let body = c.args.self.body.now in
-    let low = c.byte-2.ensures ∙ ap (λ (n : ℕ). get_or body n 0) c.saturating_add.ensures ∙ next_byte body c.args.i (omega (arith, c.ranges.self)) in
+    let next = next_byte body c.args.i (omega (arith, c.ranges.self)) in
+    let low = c.byte-2.ensures ∙ ap (λ (n : ℕ). get_or body n 0) c.saturating_add.ensures ∙ next in
     omega arith

@@ -1,4 +1,5 @@
--- `read_fields::cursor::cut_at` meets its contract: what is left of the file decides between its end, no whole field, and a field. Assumes nothing.
+-- `read_fields::cursor::cut_at` meets its contract: what is left of the file decides between its end, no whole field, and a field.
+-- Assumes nothing.
 use Prim.Native.Nat.{ℕ, ◌+◌, ◌-◌, ◌*◌, ◌<◌, ◌≤◌}
 use mathlib.Core.Path.{◌≡◌, refl, sym, ap, ◌∙◌}
 use mathlib.Core.List.{List}
@@ -60,8 +61,9 @@ returns-in-None c =
     let e = len_is a.file.now a.at c.if-file-at.false in
     let left = length_left a.file.now a.at c.if-file-at.false in
     let rest = ap length (rest_is a.file.now a.at c.if-file-at.false) in
-    let none = c.in-None.ensures in
-    cut_broken a.file.now a.at c.if-file-at.false (omega (arith, c.in-len3-up.len_at_least, length-drop (a.at + 3) a.file.now, none.lookup.0))
+    let none = c.in-None.ensures.lookup.0 in
+    cut_broken a.file.now a.at c.if-file-at.false
+    (omega (arith, c.in-len3-up.len_at_least, length-drop (a.at + 3) a.file.now, none))
 
 pub returns-in-Some : goal.returns-in-Some
 unfolding StepIs

@@ -1,4 +1,5 @@
--- `read_fields::gather::gather` meets its contract: each turn finds one field more and keeps its item behind the others, or it ends the stage. Assumes nothing.
+-- `read_fields::gather::gather` meets its contract: each turn finds one field more and keeps its item behind the others, or ends the stage.
+-- Assumes nothing.
 use Prim.Native.Nat.{ℕ, suc, ◌<◌}
 use mathlib.Core.Path.{◌≡◌, refl, sym, ap, subst, ◌∙◌}
 use mathlib.Core.List.{List, [], ◌∷◌, ◌++◌}
@@ -45,7 +46,9 @@ returns-in-Err g c =
       kept = rw here.place inv.kept;
       count = inv.counted;
       all = inv.all;
-      ended = (c.in-Some.f, subst (λ (n : ℕ). FieldAt c.args.file.now n c.in-Some.f) (sym here.place) here, found_own turn, c.in-Err.ensures);
+      ended =
+          let at_its_place = subst (λ (n : ℕ). FieldAt c.args.file.now n c.in-Some.f) (sym here.place) here in
+          (c.in-Some.f, at_its_place, found_own turn, c.in-Err.ensures);
     }
 
 pub loop-f-smaller : goal.loop-f-smaller
@@ -65,7 +68,10 @@ loop-f-preserved g c =
     record {
       same_file = ap (λ b. b.now) turn.same_file ∙ inv.same_file;
       items = inv.items ++ (c.in-Ok.item ∷ []);
-      kept = rw (found_behind turn) (one_more inv.items c.loop-f.reader.at c.in-Some.f c.in-Ok.item inv.kept here (found_own turn) (rw inv.counted at c.in-Ok.ensures));
+      kept =
+          rw (found_behind turn)
+          (one_more inv.items c.loop-f.reader.at c.in-Some.f c.in-Ok.item inv.kept here (found_own turn)
+          (rw inv.counted at c.in-Ok.ensures));
       counted = omega (arith, length-append inv.items (c.in-Ok.item ∷ []));
       all = put_behind inv.items c.args.all.now c.loop-f.all c.loop-f.count c.in-Ok.item inv.all inv.counted room;
     }

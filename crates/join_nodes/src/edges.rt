@@ -5,7 +5,6 @@ ghost use Rattle.switch.specs.Records.{no_edge};
 ghost use Rattle.join_nodes.specs.Model.{parts_of, columns_of};
 
 use crate::Columns;
-use switch::edges::{first_of, gate_of, second_of};
 use switch::{Edge, MOST_EDGES};
 
 // The parts of one edge.
@@ -28,9 +27,9 @@ fn parts_of(e: Edge) -> Parts
     ensures { result ≡ parts_of e }
 {
     Parts {
-        first: first_of(e),
-        second: second_of(e),
-        gate: gate_of(e),
+        first: e.first(),
+        second: e.second(),
+        gate: e.gate(),
     }
 }
 

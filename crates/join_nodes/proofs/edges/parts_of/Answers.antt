@@ -2,4 +2,4 @@
 use Rattle.join_nodes.proofs.edges.parts_of.Goals as goal
 
 pub returns : goal.returns
-returns c = rw (c.first_of.ensures, c.second_of.ensures, c.gate_of.ensures)
+returns c = rw (c.first.ensures, c.second.ensures, c.gate.ensures)

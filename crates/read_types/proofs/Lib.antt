@@ -2,4 +2,3 @@
 pub mod ReadingTypes
 pub mod TypeStages
 pub mod TypesOnce
-mod TagTold

@@ -1,50 +1,19 @@
--- `read_types::edges::labels_below` meets its contract. The loop's invariant: all labels pass exactly when those from `i` on do. Assumes nothing.
-use Prim.Native.Nat.{ℕ, ◌≤◌, ◌<◌}
-use mathlib.Core.Path.{◌≡◌, refl, sym, ◌∙◌}
-use native.Mathlib.Omega.{arith}
-use borrow.Author.Tests.{lt-ltb, le-ltb}
-use mathlib.Core.List.{[]}
-use lib.Dec.{ltb}
-use lib.ListN.{length, get_or, drop, drop_of_length-le}
+-- `read_types::edges::labels_below` meets its contract. Assumes nothing.
+use mathlib.Core.Path.{◌≡◌, refl, ◌∙◌}
+use Rattle.std.proofs.Common.{ℕ, List, ltb, ◌&&◌, rules, tests}
+use Rattle.std.specs.List.{list_all}
+use Rattle.std.proofs.lemmas.Iterator.{YieldsList-from_slice}
+use Rattle.std.proofs.lemmas.Iterator.Search.{all_from_yields_List}
+use Rattle.std.proofs.lemmas.List.Recursion.{same_from_clauses}
 use Rattle.switch.specs.Modules.{all_of}
-use Rattle.read_fields.specs.Steps.{body_of}
-use Rattle.read_fields.proofs.Bodies.{length_body}
-use Rattle.circuit.proofs.TypeLaws.{all_from}
 use Rattle.read_types.proofs.edges.labels_below.Goals as goal
 
-pub loop-i-init : goal.loop-i-init
-loop-i-init c = (refl, length_body c.args.file.now c.args.f c.requires, refl)
-
-pub returns-then-k-byte : goal.returns-then-k-byte
-returns-then-k-byte c =
-    let a = c.args in
-    let body = body_of a.file.now a.f in
-    let turn = c.loop-i in
-    let big : a.k ≤ get_or body turn.i 0 = omega (arith, c.byte.ensures) in
-    let here : turn.i < length body = omega arith in
-    sym
-    (turn.invariant.2
-    ∙ all_from (λ (l : ℕ). ltb l a.k) body turn.i 0 here
-    ∙ rw (le-ltb (get_or body turn.i 0) a.k big))
-
-pub loop-i-preserved : goal.loop-i-preserved
-loop-i-preserved c =
-    let a = c.args in
-    let body = body_of a.file.now a.f in
-    let turn = c.loop-i in
-    let small : get_or body turn.i 0 < a.k = omega (arith, c.byte.ensures) in
-    let here : turn.i < length body = omega arith in (
-      turn.invariant.0,
-      turn.invariant.1,
-      turn.invariant.2
-          ∙ all_from (λ (l : ℕ). ltb l a.k) body turn.i 0 here
-          ∙ rw (lt-ltb (get_or body turn.i 0) a.k small),
-    )
+all-same : (k : ℕ) (ls : List ℕ) → list_all (λ l. ltb l k) ls ≡ all_of (λ l. ltb l k) ls
+unfolding all_of
+all-same k = same_from_clauses (list_all (λ l. ltb l k)) (all_of (λ l. ltb l k)) (λ l b. ltb l k && b) refl (λ l ls. refl) (λ l ls. refl)
 
 pub returns : goal.returns
-unfolding all_of
 returns c =
-    let a = c.args in
-    let body = body_of a.file.now a.f in
-    let none : drop c.loop-i.i body ≡ [] = drop_of_length-le body {i = c.loop-i.i} (omega arith) in
-    sym (c.loop-i.invariant.2 ∙ rw none)
+    let ls = c.args.labels.now in
+    all_from_yields_List (λ l. ltb l c.args.k) _ _ _ c.all.ensures.ran (YieldsList-from_slice ls cc) (λ x b q k. search (rules, tests))
+    ∙ all-same c.args.k ls

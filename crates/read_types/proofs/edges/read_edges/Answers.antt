@@ -1,59 +1,60 @@
--- `read_types::edges::read_edges` meets its contract: in each turn of the loop the reader steps; what stands there ends the stage, or its edges
--- stand in the list. Assumes nothing.
-use Prim.Native.Nat.{◌<◌}
-use mathlib.Core.Path.{sym, ap, ◌∙◌}
+-- `read_types::edges::read_edges` meets its contract: in each turn of the loop the reader finds an edge field, which is refused
+-- or whose edges then stand in the type; or it finds none. Assumes nothing.
+use mathlib.Core.Path.{refl, ap, ◌∙◌}
 use native.Mathlib.Omega.{arith}
-use Rattle.circuit.specs.Order.{is_edge}
-use Rattle.read_fields.proofs.Turns.{Turned, turned_by, next_in}
-use Rattle.read_types.proofs.ReadingTypes.{EdgesSoFar, edges-start, edges_few, edges_end, edges_next, edges_more}
-use Rattle.read_types.proofs.edges.read_edges.Goals.{After-own_field-found}
+use lib.ListN.{length}
+use Rattle.read_fields.specs.Steps.{FieldAt}
+use Rattle.read_fields.proofs.Turns.{found_at, found_own, found_behind, goes_on, stayed}
+use Rattle.read_types.proofs.ReadingTypes.{edges-start, has_room, edges_stop, edges_refused, edges_more}
+use Rattle.std.proofs.lemmas.Result.{err_from_is_err_and}
+use Rattle.read_types.proofs.edges.read_edges.Goals.{In-Some}
 use Rattle.read_types.proofs.edges.read_edges.Goals as goal
 
-pub loop-reader-init : goal.loop-reader-init
-loop-reader-init c =
-    let reader = c.reader_at-reader.ensures in
+pub loop-f-init : goal.loop-f-init
+loop-f-init c =
+    let r = c.args.reader.now in
     record {
-      same_file = ap (λ b. b.now) reader.0;
-      so_far = rw (c.no_edges-list.ensures, reader.1) (edges-start c.args.file.now c.args.from c.args.shape c.requires.0 c.requires.1);
+      same_file = refl;
+      so_far = edges-start r.file.now r.at c.args.shape c.requires.0 c.requires.1 c.bare-t.result c.bare-t.ensures;
     }
 
--- what a turn finds, and the reader's place behind it
-turn : (c : After-own_field-found) → Turned c.args.file.now c.loop-reader.reader.at is_edge c.own_field-found.result c.next.new.reader.at
-turn c =
-    let inv = c.loop-reader.invariant in
-    turned_by c.args.file.now is_edge c.loop-reader.reader c.next.new.reader c.next.result c.own_field-found.result
-    inv.same_file inv.so_far.place c.next.ensures c.own_field-found.ensures
+pub add_edges-requires : goal.add_edges-requires
+add_edges-requires c = has_room c.loop-f.invariant.so_far
 
-pub ends-requires : goal.ends-requires
-ends-requires c = (
-  next_in c.args.file.now c.loop-reader.reader.at is_edge c.own_field-found.result (turn c).own,
-  edges_few c.loop-reader.invariant.so_far,
-)
+-- the field that was found stands in the file that is read
+here : (c : In-Some) → FieldAt c.args.reader.now.file.now c.loop-f.reader.at c.in-Some.f
+here c = rw (ap (λ b. b.now) c.loop-f.invariant.same_file) at (found_at c.in-Some.ensures)
 
-pub ended-requires : goal.ended-requires
-ended-requires c = ends-requires (goal.at.ended-requires c).After-own_field-found
+pub returns-in_err-add_edges : goal.returns-in_err-add_edges
+returns-in_err-add_edges c =
+    let at = (goal.at.returns-in_err-add_edges c).In-Some in
+    let back = err_from_is_err_and c.from_residual.result c.from_residual.ensures.1 in
+    rw (back.1, back.2)
+    (edges_refused c.loop-f.invariant.so_far c.in-Some.f (here at) (found_own c.in-Some.ensures)
+    c.in_err-add_edges.field-0.0 c.in_err-add_edges.ensures)
 
-pub returns-then-ends : goal.returns-then-ends
-returns-then-ends c =
-    edges_end c.loop-reader.invariant.so_far (turn (goal.at.returns-then-ends c).After-own_field-found)
-    (sym c.ends.ensures ∙ c.if-ends.true) c.ended.result c.ended.ensures
+pub loop-f-smaller : goal.loop-f-smaller
+loop-f-smaller c =
+    let turn = c.in-Some.ensures in
+    let same = ap (λ b. length b.now) turn.same_file in
+    let stands = found_at turn in
+    omega (arith, goes_on turn, found_behind turn, stands.inside)
 
-pub with_found-list-requires : goal.with_found-list-requires
-with_found-list-requires c =
-    edges_next c.loop-reader.invariant.so_far (turn (goal.at.with_found-list-requires c).After-own_field-found)
-    (sym c.ends.ensures ∙ c.if-ends.false)
+pub loop-f-preserved : goal.loop-f-preserved
+loop-f-preserved c =
+    let at = (goal.at.loop-f-preserved c).In-Some in
+    let turn = c.in-Some.ensures in
+    record {
+      same_file = turn.same_file ∙ c.loop-f.invariant.same_file;
+      so_far =
+          rw (found_behind turn, c.in_ok-add_edges.ensures.1)
+          (edges_more c.loop-f.invariant.so_far c.in-Some.f (here at) (found_own turn) c.in_ok-add_edges.ensures.0);
+    }
 
--- the edges that are read with those that were found here, and the reader goes on
-more : (c : goal.After-with_found-list)
-    → EdgesSoFar c.args.file.now c.args.from c.args.shape c.with_found-list.result c.next.new.reader.at
-    × (c.loop-reader.reader.at < c.next.new.reader.at)
-more c =
-    rw c.with_found-list.ensures
-    (edges_more c.loop-reader.invariant.so_far (turn (goal.at.loop-reader-preserved c).After-own_field-found)
-    (sym c.ends.ensures ∙ c.if-ends.false))
-
-pub loop-reader-smaller : goal.loop-reader-smaller
-loop-reader-smaller c = omega (arith, (more c).1, (more c).0.place)
-
-pub loop-reader-preserved : goal.loop-reader-preserved
-loop-reader-preserved c = record { same_file = ap (λ b. b.now) c.next.ensures.same_file ∙ c.loop-reader.invariant.same_file; so_far = (more c).0 }
+pub returns : goal.returns
+returns c =
+    let inv = c.loop-f.invariant in
+    let turn = c.in_default.ensures in (
+      rw (stayed turn) (edges_stop inv.so_far (rw (ap (λ b. b.now) inv.same_file) at turn.stands)),
+      turn.same_file ∙ inv.same_file,
+    )

@@ -1,29 +1,36 @@
--- `read_types::types::failing_before` meets its contract: number 3 at a tag that no field has, 4 at the inputs field, else 9. Assumes nothing.
-use mathlib.Core.Path.{sym, ◌∙◌}
-use Rattle.circuit.specs.Order.{tag_of}
-use Rattle.circuit.specs.Refusals.{refusal_number, refusal_place, numbered_verdict, verdict_of}
+-- `read_types::types::failing_before` meets its contract: number 3 at a tag that no field has, 4 at the inputs field, else 9.
+-- Assumes nothing.
+use Prim.Native.Nat.{ℕ}
+use mathlib.Core.Path.{◌≡◌, sym, ◌∙◌}
+use native.Mathlib.Omega.{arith}
+use Rattle.switch.specs.Conduction.{between}
+use Rattle.circuit.specs.Kinds.{kind_of}
+use Rattle.circuit.specs.Order.{Tag, tag_of, is_kind, may_follow}
+use Rattle.circuit.specs.Table.{refused_at}
 use Rattle.circuit.specs.Stages.{failing_before}
-use Rattle.circuit.proofs.OrderLaws.{after-a-type}
+use Rattle.circuit.specs.declared.order.Kind.TheVariants.{Inputs, Unknown}
 use Rattle.read_types.proofs.types.failing_before.Goals as goal
 
-pub returns-then-is_kind : goal.returns-then-is_kind
-unfolding verdict_of refusal_number refusal_place numbered_verdict failing_before
-returns-then-is_kind c = rw (sym c.is_kind.ensures ∙ c.if-is_kind.true)
+module _ (at typeAt : ℕ) where
+  unknown : (tag : Tag) → Unknown ≡ kind_of tag → refused_at 3 at ≡ failing_before tag at typeAt
+  unfolding failing_before is_kind may_follow between
+  unknown tag e = grind arith
 
-pub returns-then-is_kind-2 : goal.returns-then-is_kind-2
-unfolding verdict_of refusal_number refusal_place numbered_verdict failing_before
-returns-then-is_kind-2 c =
-    rw (
-      sym c.is_kind.ensures ∙ c.if-is_kind.false,
-      after-a-type (tag_of c.args.tag),
-      sym c.is_kind-2.ensures ∙ c.if-is_kind-2.true,
-    )
+  misplaced : (tag : Tag) → Inputs ≡ kind_of tag → refused_at 4 at ≡ failing_before tag at typeAt
+  unfolding failing_before is_kind may_follow between
+  misplaced tag e = grind arith
 
-pub returns : goal.returns
-unfolding verdict_of refusal_number refusal_place numbered_verdict failing_before
-returns c =
-    rw (
-      sym c.is_kind.ensures ∙ c.if-is_kind.false,
-      after-a-type (tag_of c.args.tag),
-      sym c.is_kind-2.ensures ∙ c.if-is_kind-2.false,
-    )
+  other : (tag : Tag) → (Unknown ≡ kind_of tag → ⊥) → (Inputs ≡ kind_of tag → ⊥) → refused_at 9 typeAt ≡ failing_before tag at typeAt
+  unfolding failing_before is_kind may_follow between
+  other tag not_unknown not_inputs = grind arith
+
+pub returns-in-Unknown : goal.returns-in-Unknown
+returns-in-Unknown c = unknown c.args.at c.args.type_at (tag_of c.args.tag) c.in-Unknown.ensures
+
+pub returns-in-Inputs : goal.returns-in-Inputs
+returns-in-Inputs c = misplaced c.args.at c.args.type_at (tag_of c.args.tag) c.in-Inputs.ensures
+
+pub returns-in_default : goal.returns-in_default
+returns-in_default c =
+    other c.args.at c.args.type_at (tag_of c.args.tag) (λ e. c.in_default.not-Unknown (c.from.ensures ∙ sym e))
+    (λ e. c.in_default.not-Inputs (c.from.ensures ∙ sym e))

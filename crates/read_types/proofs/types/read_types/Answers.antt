@@ -1,59 +1,63 @@
--- `read_types::types::read_types` meets its contract: in each turn of the loop the reader steps; what stands there ends the stage, or one type more
--- stands in the array, and the reader behind its edges. Assumes nothing.
-use Prim.Native.Nat.{◌+◌, ◌<◌}
-use mathlib.Core.Path.{sym, ap, ◌∙◌}
+-- `read_types::types::read_types` meets its contract: in each turn of the loop the reader finds a type, which is refused or then stands in
+-- the array, and the reader behind its edges; or it finds none. Assumes nothing.
+use mathlib.Core.Path.{◌≡◌, ap, ◌∙◌}
 use native.Mathlib.Omega.{arith}
-use lib.ListN.{set}
-use Rattle.circuit.specs.Limits.{most_types}
-use Rattle.circuit.specs.Order.{type_tag, is_kind}
-use Rattle.read_fields.proofs.Turns.{Turned, turned_by}
-use Rattle.read_types.proofs.ReadingTypes.{TypesSoFar, types-start, found_whole, types_end, types_more}
-use Rattle.read_types.proofs.types.read_types.Goals.{After-own_field-found, Else-ends}
+use lib.ListN.{length}
+use Rattle.read_fields.specs.Steps.{FieldAt}
+use Rattle.read_fields.proofs.Turns.{found_at, found_own, found_behind, stayed}
+use Rattle.read_types.proofs.ReadingTypes.{types-start, types_stop, types_end, types_more}
+use Rattle.read_types.proofs.types.read_types.Goals.{In-Some}
 use Rattle.read_types.proofs.types.read_types.Goals as goal
 
-pub loop-reader-init : goal.loop-reader-init
-loop-reader-init c =
-    let reader = c.reader_at-reader.ensures in
+pub loop-f-init : goal.loop-f-init
+loop-f-init c =
+    let reader = c.new-reader.ensures in
     record {
       same_file = ap (λ b. b.now) reader.0;
-      so_far = rw reader.1 (types-start c.args.file.now c.args.from c.requires c.no_types-all.result c.no_types-all.ensures);
+      so_far = rw reader.1 (types-start c.args.file.now c.args.from c.default-all.result c.requires c.default-all.ensures);
     }
 
--- what a turn finds
-turn : (c : After-own_field-found) → Turned c.args.file.now c.loop-reader.reader.at (is_kind type_tag) c.own_field-found.result c.next.new.reader.at
-turn c =
-    let inv = c.loop-reader.invariant in
-    turned_by c.args.file.now (is_kind type_tag) c.loop-reader.reader c.next.new.reader c.next.result c.own_field-found.result
-    inv.same_file inv.so_far.place c.next.ensures c.own_field-found.ensures
+-- the field that was found stands in the file
+here : (c : In-Some) → FieldAt c.args.file.now c.loop-f.reader.at c.in-Some.f
+here c = rw c.loop-f.invariant.same_file at (found_at c.in-Some.ensures)
 
-pub type_of-one-requires : goal.type_of-one-requires
-type_of-one-requires c = found_whole c.loop-reader.invariant.so_far (turn c)
+pub read_type-requires : goal.read_type-requires
+read_type-requires c =
+    let turn = c.in-Some.ensures in
+    let stands = found_at turn in
+    omega (arith, found_behind turn, stands.inside, ap (λ b. length b.now) turn.same_file)
 
-pub returns-then-ends : goal.returns-then-ends
-returns-then-ends c =
-    rw c.ended.ensures
-    (types_end c.loop-reader.invariant.so_far (turn (goal.at.returns-then-ends c).After-own_field-found) c.type_of-one.result c.type_of-one.ensures
-    (sym c.ends.ensures ∙ c.if-ends.true))
+-- and so do its edges
+same : (c : In-Some) → c.next_of.new.self.file.now ≡ c.args.file.now
+same c = ap (λ b. b.now) c.in-Some.ensures.same_file ∙ c.loop-f.invariant.same_file
 
--- one type more, and room for it
-more : (c : Else-ends) → Turned c.args.file.now c.loop-reader.reader.at (is_kind type_tag) c.own_field-found.result c.next.new.reader.at
-    → TypesSoFar c.args.file.now c.args.from (set c.loop-reader.all c.loop-reader.count c.type_of-one.result.module_type) (c.loop-reader.count + 1) c.type_of-one.result.at
-    × (c.loop-reader.count < most_types)
-more c turned =
-    types_more c.loop-reader.invariant.so_far turned c.type_of-one.result c.type_of-one.ensures (sym c.ends.ensures ∙ c.if-ends.false)
+pub returns-in-Err : goal.returns-in-Err
+returns-in-Err c =
+    let at = (goal.at.returns-in-Err c).In-Some in
+    let turn = c.in-Some.ensures in
+    rw (here at).place
+    (types_end c.loop-f.invariant.so_far c.in-Some.f (here at) (found_own turn) c.in-Err.refusal
+    (rw (same at, found_behind turn) at c.in-Err.ensures))
+
+pub loop-f-preserved : goal.loop-f-preserved
+loop-f-preserved c =
+    let at = (goal.at.loop-f-preserved c).In-Some in
+    let turn = c.in-Some.ensures in
+    record {
+      same_file = ap (λ b. b.now) c.in-Ok.ensures.1 ∙ same at;
+      so_far =
+          types_more c.loop-f.invariant.so_far c.in-Some.f (here at) (found_own turn)
+          (rw (same at, found_behind turn) at c.in-Ok.ensures.0);
+    }
+
+pub loop-f-smaller : goal.loop-f-smaller
+loop-f-smaller c = let room = c.in-Ok.ensures.0.room in omega arith
 
 pub bounds-all-count : goal.bounds-all-count
-bounds-all-count c = let at = goal.at.bounds-all-count c in (more at.Else-ends (turn at.After-own_field-found)).1
+bounds-all-count c = c.in-Ok.ensures.0.room
 
-pub loop-reader-smaller : goal.loop-reader-smaller
-loop-reader-smaller c =
-    let at = goal.at.loop-reader-smaller c in
-    omega (arith, (more at.Else-ends (turn at.After-own_field-found)).1)
-
-pub loop-reader-preserved : goal.loop-reader-preserved
-loop-reader-preserved c =
-    let at = goal.at.loop-reader-preserved c in
-    record {
-      same_file = ap (λ b. b.now) c.next.ensures.same_file ∙ c.loop-reader.invariant.same_file;
-      so_far = (more at.Else-ends (turn at.After-own_field-found)).0;
-    }
+pub returns : goal.returns
+returns c =
+    let inv = c.loop-f.invariant in
+    let turn = c.in_default.ensures in
+    rw (stayed turn) (types_stop inv.so_far (rw inv.same_file at turn.stands))

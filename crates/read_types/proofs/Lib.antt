@@ -2,3 +2,4 @@
 pub mod ReadingTypes
 pub mod TypeStages
 pub mod TypesOnce
+mod EdgeBytes

@@ -24,6 +24,7 @@ pub struct Shape {
 
 impl Shape {
     // The type of this shape that has no edge yet.
+    #[tactic(auto, using(circuit::proofs::Padding::padded_nil), unfolding(circuit::specs::Records::type_record))]
     fn bare(self) -> ModuleType
         ensures { result ≡ type_record (bare_of self) }
     {
@@ -81,6 +82,7 @@ fn add_each(a: u8, b: u8, labels: &[u8], t: &mut ModuleType)
 }
 
 // A field with tag 3: each of its one to four labels is an edge of the type, behind those that it has; or the first test of the table that refuses it.
+#[tactic(auto, using(crate::proofs::EdgeBytes::rest_is, crate::proofs::EdgeBytes::rest_length), unfolding(circuit::specs::Table::edge_tests_of, circuit::specs::Table::first_of, circuit::specs::Table::edges_in_range, circuit::specs::Known::edges_told, circuit::specs::Known::edges_in, switch::specs::Conduction::between))]
 fn add_labelled(f: Field, t: &mut ModuleType) -> Result<(), Refusal>
     requires { HasRoom t.old }
     ensures { EdgesAdded by_position f.entry t.old t.new result }
@@ -105,6 +107,7 @@ fn add_labelled(f: Field, t: &mut ModuleType) -> Result<(), Refusal>
 }
 
 // A field with tag 7: one edge.
+#[tactic(auto, using(circuit::proofs::Verdicts::first_passes), unfolding(circuit::specs::Table::edge_tests_of, circuit::specs::Known::edges_told, circuit::specs::Known::edges_in, crate::specs::EdgeTurns::placed, crate::specs::EdgeTurns::with_placed))]
 fn add_pass(f: Field, t: &mut ModuleType) -> Result<(), Refusal>
     requires { HasRoom t.old }
     ensures { EdgesAdded stated f.entry t.old t.new result }

@@ -60,6 +60,7 @@ fn in_range(s: Shape) -> bool
 }
 
 // The refusal of a type that is not complementary, before a field with this tag.
+#[tactic(auto, unfolding(circuit::specs::Stages::failing_before, circuit::specs::Order::is_kind, circuit::specs::Order::may_follow, switch::specs::Conduction::between))]
 fn failing_before(tag: u8, at: usize, type_at: usize) -> Refusal
     ensures { verdict_of (Some result) ≡ failing_before (tag_of tag) at type_at }
 {
@@ -71,6 +72,7 @@ fn failing_before(tag: u8, at: usize, type_at: usize) -> Refusal
 }
 
 // The refusal of a type that is not complementary: 9 once the next field has passed 2, 3 and 4, or at the end of the file.
+#[tactic(auto, unfolding(circuit::specs::Stages::failing_verdict, read_fields::specs::Steps::StepIs, read_fields::specs::Steps::behind_step, read_fields::specs::Steps::field_in))]
 fn failing(mut reader: Reader, type_at: usize) -> Refusal
     ensures { verdict_of (Some result) ≡ failing_verdict type_at (cut_from reader.entry.file.now reader.entry.at) }
 {

@@ -7,7 +7,7 @@ use Rattle.switch.specs.Modules.{ModuleType}
 use Rattle.circuit.specs.Limits.{most_instances}
 use Rattle.circuit.specs.Circuit.{Instance, Listed, fault_count}
 use Rattle.circuit.specs.Records.{padded, unused_instance, instance_record}
-use Rattle.read_instances.specs.ReadInstances.{ShapesAndLists, HeldAt, InstancesRead}
+use Rattle.read_instances.specs.ReadInstances.{TypesAndLists, HeldAt, InstancesRead}
 use Rattle.read_instances.specs.declared.Held.{Held}
 use Rattle.read_instances.specs.declared.Instances.{Instances}
 use Rattle.circuit.proofs.AnswerLaws.{verdict-tells}
@@ -26,9 +26,9 @@ read_once file from P types bridges r s p q =
     λ i. record { refusal = refusal i; at = at i; count = count i; faults = faults i; all = all i }
 
 -- the arguments tell some, since they are asked to
-pub instances_once : (file : List ℕ) (from P type_count : ℕ) (held : Held) → HeldAt type_count held → (r s : Instances)
-    → ((ts : List ModuleType) (bs : List Listed) → ShapesAndLists ts bs type_count held.nodes held.labels held.lists → InstancesRead file from P ts bs r)
-    → ((ts : List ModuleType) (bs : List Listed) → ShapesAndLists ts bs type_count held.nodes held.labels held.lists → InstancesRead file from P ts bs s)
+pub instances_once : (file : List ℕ) (from : ℕ) (held : Held) → HeldAt held → (r s : Instances)
+    → ((ts : List ModuleType) (bs : List Listed) → TypesAndLists ts bs held → InstancesRead file from held.inputs ts bs r)
+    → ((ts : List ModuleType) (bs : List Listed) → TypesAndLists ts bs held → InstancesRead file from held.inputs ts bs s)
     → r ≡ s
-instances_once file from P type_count held h r s p q =
-    read_once file from P h.types h.bridges r s (p h.types h.bridges h.told) (q h.types h.bridges h.told)
+instances_once file from held h r s p q =
+    read_once file from held.inputs h.types h.bridges r s (p h.types h.bridges h.told) (q h.types h.bridges h.told)

@@ -1,5 +1,4 @@
 -- What the functions that read instances rest on.
-pub mod FieldGiven
 pub mod InstanceLaws
 pub mod InstanceSteps
 pub mod InstancesOnce

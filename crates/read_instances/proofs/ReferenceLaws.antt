@@ -9,6 +9,8 @@ use lib.Dec.{T, ltb, eqb→eq}
 use lib.Ieee.Bits.{is_true}
 use lib.ListN.{length, get_or, take, replicate, set, length-take, length-map}
 use lib.Seq.{take-suc, take_all}
+use Rattle.std.specs.Prelude.{Some, None}
+use Rattle.std.proofs.lemmas.Option.{none-some}
 use Rattle.words.proofs.Tables.{length-table, get_or-table}
 use Rattle.switch.specs.Modules.{all_of}
 use Rattle.switch.proofs.Deciding.{all_of_lem}
@@ -20,11 +22,10 @@ use Rattle.circuit.specs.Records.{padded, unused_reference, reference_record, ch
 use Rattle.circuit.specs.declared.Reference.{Reference as ReferenceRecord}
 use Rattle.circuit.proofs.Padding.{padded_nil, padded_snoc}
 
--- ---- bytes
-
-pub two-small : (body : List ℕ) → ((i : ℕ) → get_or body i 0 < 256) → (i : ℕ) → two_bytes body i < 65536
-unfolding two_bytes
-two-small body small i = omega (arith, small i, small (i + 1))
+-- what is given only where a test holds, and is not
+pub cond_none : {A : Type 0} (b : Bool) (a : A) → cond b (Some a) None ≡ None → b ≡ false
+cond_none true a e = absurd (none-some a (sym e))
+cond_none false a e = refl
 
 -- ---- references
 

@@ -1,51 +1,44 @@
--- A turn of the stage that reads instances: what a field asks of its type and its list, the verdict on it, and what is kept of it.
-use Rattle.std.specs.Prelude.{ℕ, ◌+◌, ◌≤◌, false, List, length, get_or}
-use Rattle.circuit.specs.Circuit.{numbered}
+-- A turn of the stage that reads instances: what a field asks of its type and its list, its tests, and what is kept of it.
+use Rattle.std.specs.Prelude.{ℕ, cond, List, map, length, get_or, Option, Some, None}
+use Rattle.switch.specs.Conduction.{between}
+use Rattle.switch.specs.Modules.{all_of}
+use Rattle.switch.specs.declared.ModuleType.{ModuleType as TypeRecord}
+use Rattle.circuit.specs.Circuit.{Reference, numbered}
+use Rattle.circuit.specs.Numbers.{reference_good}
 use Rattle.circuit.specs.Known.{instance_in}
-use Rattle.circuit.specs.Table.{Verdict, first_of}
-use Rattle.circuit.specs.Records.{instance_record}
-use Rattle.circuit.specs.declared.Instance.{Instance as InstanceRecord}
-use Rattle.read_fields.specs.Steps.{body_of, NextIn}
-use Rattle.read_fields.specs.declared.Field.{Field as FieldRecord}
-use Rattle.read_fields.specs.declared.Next.{Next}
-use Rattle.read_fields.specs.declared.Next.TheVariants.{Found, Other}
-use Rattle.read_instances.specs.Choices.{given_by}
-use Rattle.read_instances.specs.ReadInstances.{gathered_tests, InstanceFits}
-use Rattle.read_instances.specs.declared.Asked.{Asked}
+use Rattle.circuit.specs.Table.{Test, instance_tests_of}
+use Rattle.circuit.specs.Records.{padded, unused_type, unused_reference, reference_record, instance_record}
+use Rattle.circuit.specs.declared.Reference.{Reference as ReferenceRecord}
+use Rattle.read_instances.specs.Choices.{Chosen, given_by}
+use Rattle.read_instances.specs.declared.Accepted.{Accepted}
 use Rattle.read_instances.specs.declared.Held.{Held}
 
--- what a field asks, from the columns and sums
-unfoldable pub asked_of : List ℕ → Held → FieldRecord → Asked
-asked_of file held f = record {
-  k = numbered held.labels (get_or (body_of file f) 0 0) 0;
-  given =
-      given_by (numbered held.nodes (get_or (body_of file f) 0 0) 0) (numbered held.labels (get_or (body_of file f) 0 0) 0)
-      (get_or (body_of file f) 1 0) held.lists;
-}
+-- the type with a number, if there is one
+abbrev pub type_numbered : List TypeRecord → ℕ → Option TypeRecord
+type_numbered types n = cond (between 1 (length types) n) (Some (numbered types n unused_type)) None
 
--- what no field asks
-abbrev pub none_asked : Asked
-none_asked = record { k = 0; given = record { faults = 0; unsuited = false; empty = false } }
+-- the reference that is good, or the references that all are, as records
+abbrev pub good_record : ℕ → ℕ → Reference → Option ReferenceRecord
+good_record P before r = cond (reference_good P before r) (Some (reference_record r)) None
 
-unfoldable pub instance_verdict : List ℕ → ℕ → ℕ → Asked → ℕ → ℕ → FieldRecord → Verdict
-instance_verdict file P type_count asked count faults f =
-    first_of (gathered_tests (body_of file f) f.at P type_count asked.k asked.given count faults)
+abbrev pub good_records : ℕ → ℕ → List Reference → Option (List ReferenceRecord)
+good_records P before rs =
+    cond (all_of (reference_good P before) rs) (Some (padded 12 unused_reference (map reference_record rs))) None
 
--- so that the sum of faults fits a word
-pub record FieldGiven (file : List ℕ) (f : FieldRecord) (asked : Asked) (faults : ℕ) : Type 0 where
-  pub inside : f.body + f.len ≤ length file
-  pub few : faults ≤ 2048
-  pub small : asked.given.faults ≤ 65536
+-- the type that a body names
+abbrev pub type_named : Held → List ℕ → TypeRecord
+type_named held body = numbered held.types.now (get_or body 0 0) unused_type
 
-pub record TurnGiven (file : List ℕ) (found : Next) (asked : Asked) (faults : ℕ) : Type 0 where
-  pub inside : NextIn file found
-  pub few : faults ≤ 2048
-  pub small : asked.given.faults ≤ 65536
+-- what its choice gives in that type
+abbrev pub given_in : Held → List ℕ → Chosen
+given_in held body = given_by (type_named held body) (get_or body 1 0) held.lists.now
 
-unfoldable pub instance_kept : List ℕ → FieldRecord → InstanceRecord
-instance_kept file f = instance_record (instance_in (body_of file f))
+-- the tests of an instance field, from what the code is held to
+abbrev pub held_tests : Held → ℕ → ℕ → ℕ → List ℕ → List Test
+held_tests held count faults at body =
+    instance_tests_of held.inputs (length held.types.now) (type_named held body).labels count faults (given_in held body).unsuited
+    (given_in held body).empty (given_in held body).faults at body
 
--- the instance that was found has passed its tests
-unfoldable pub InstanceNext : List ℕ → Next → Type 0
-InstanceNext file (Found f) = (f.body + f.len ≤ length file) × InstanceFits (body_of file f)
-InstanceNext file Other = Unit {0}
+-- what is kept of a field that passes them
+abbrev pub accepted_in : Held → List ℕ → Accepted
+accepted_in held body = record { instance = instance_record (instance_in body); faults = (given_in held body).faults }

@@ -1,65 +1,45 @@
-// List choices: what a choice gives an instance, told from the lists in sum.
+// List choices: the faults that a choice gives an instance, told from the lists in sum.
 ghost use Rattle.std.specs.Prelude.{◌≡◌};
-ghost use Rattle.read_instances.specs.Choices.{list_named, chosen_of, given_by};
+ghost use Rattle.circuit.specs.Circuit.{exhaustive_size};
+ghost use Rattle.circuit.specs.Table.{first_of};
+ghost use Rattle.read_fields.specs.Gathers.{JudgedAs};
+ghost use Rattle.read_instances.specs.Choices.{Chosen, given_by, list_tests};
 
-use read_bridges::lists::Lists;
+use circuit::refusal::Refusal;
+use read_bridges::lists::ListSum;
+use switch::ModuleType;
 
-// The faults that a list choice gives an instance: how many, whether one does not suit its type, and whether a user list was chosen that is empty.
-#[derive(Clone, Copy)]
-pub struct Chosen {
-    pub faults: usize,
-    pub unsuited: bool,
-    pub empty: bool,
+// The number of faults of the exhaustive list, in a type with h and k.
+#[tactic(auto, unfolding(circuit::specs::Circuit::exhaustive_size))]
+fn exhaustive_size(h: u8, k: u8) -> usize
+    ensures { result ≡ exhaustive_size h k }
+{
+    let nodes = h as usize + 1;
+    nodes * h as usize / 2 + nodes * k as usize
 }
 
-// The number of the user list that a choice names, 0 where it names none.
-fn list_named(choice: u8) -> usize
-    ensures { result ≡ list_named choice }
+// How many faults a choice that is in range gives an instance of a type; or the test that refuses it, before a field at an offset: the list does not suit the type, or is empty.
+#[tactic(auto, unfolding(crate::specs::Choices::chosen_of, circuit::specs::Table::first_of))]
+pub fn faults_chosen(
+    t: &ModuleType,
+    choice: u8,
+    lists: &[ListSum; 128],
+    at: usize,
+) -> Result<usize, Refusal>
+    ensures { let given : Chosen = given_by t.now choice lists.now in JudgedAs (first_of (list_tests given at)) given.faults result }
 {
-    if choice < 128 {
-        return choice as usize;
-    }
-    0
-}
-
-// What a choice gives in a type with h and k, where the list that it names has `count` bridges, which name nodes up to `node` and labels below `label`.
-fn faults_chosen(h: u8, k: u8, choice: u8, count: u16, node: u8, label: u8) -> Chosen
-    ensures { result ≡ chosen_of h k choice count node label }
-{
-    if 128 <= choice {
-        let nodes = h as usize;
-        let labels = k as usize;
-        return Chosen {
-            faults: (nodes + 1) * nodes / 2 + (nodes + 1) * labels,
-            unsuited: false,
-            empty: false,
-        };
-    }
     if choice == 0 {
-        return Chosen {
-            faults: 0,
-            unsuited: false,
-            empty: false,
-        };
+        return Ok(0);
     }
-    Chosen {
-        faults: count as usize,
-        unsuited: h < node || k < label,
-        empty: count == 0,
+    if 128 <= choice {
+        return Ok(exhaustive_size(t.highest, t.labels));
     }
-}
-
-// What a choice gives in a type with h and k, by the lists in sum.
-pub fn given_by(h: u8, k: u8, choice: u8, lists: Lists) -> Chosen
-    ensures { result ≡ given_by h k choice lists }
-{
-    let n = list_named(choice);
-    faults_chosen(
-        h,
-        k,
-        choice,
-        lists.counts[n],
-        lists.nodes[n],
-        lists.labels[n],
-    )
+    let list = lists[choice as usize];
+    if t.highest < list.nodes || t.labels < list.labels {
+        return Err(Refusal::BridgeUnsuited(at));
+    }
+    if list.count == 0 {
+        return Err(Refusal::EmptyList(at));
+    }
+    Ok(list.count as usize)
 }

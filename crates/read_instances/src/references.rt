@@ -1,62 +1,46 @@
-// References: how many a field has, whether they are good, and the record of each.
-ghost use Rattle.std.specs.Prelude.{◌≡◌, ◌+◌, ◌-◌, ◌/◌, ◌≤◌, ◌<◌, T, length};
-ghost use Rattle.switch.specs.Modules.{all_of};
-ghost use Rattle.circuit.specs.Numbers.{signed, reference_of, reference_good};
+// References: what each two bytes of an instance field say, and whether it is good.
+ghost use Rattle.std.specs.Prelude.{◌≡◌, ◌≤◌, length};
+ghost use Rattle.circuit.specs.Numbers.{signed, reference_of};
 ghost use Rattle.circuit.specs.Known.{references_in};
-ghost use Rattle.circuit.specs.Records.{reference_record};
-ghost use Rattle.read_fields.specs.Steps.{body_of};
+ghost use Rattle.read_instances.specs.Turns.{good_record, good_records};
 
 use circuit::Reference;
-use read_fields::{Field, two_bytes};
+use read_fields::Field;
+use switch::MOST_LABELS;
 
-// The number of references in a field of this length.
-pub fn reference_count(len: usize) -> usize
-    ensures { result ≡ (len - 2) / 2 }
-{
-    if len < 2 {
-        return 0;
-    }
-    (len - 2) / 2
-}
-
-fn reference_good(n: usize, inputs: usize, before: usize) -> bool
-    requires { n < 65536 }
-    ensures { result ≡ reference_good inputs before (reference_of (signed 32768 n)) }
+// The reference in two bytes, where it is good: a primary input, or below zero the output of an earlier instance, of which there are so many.
+#[tactic(auto, unfolding(circuit::specs::Numbers::signed, circuit::specs::Numbers::reference_of, circuit::specs::Numbers::reference_good, circuit::specs::Records::reference_record, switch::specs::Conduction::between))]
+fn reference_in(n: usize, inputs: usize, before: usize) -> Option<Reference>
+    requires { (inputs ≤ 64) × (before ≤ 128) }
+    ensures { result ≡ good_record inputs before (reference_of (signed 32768 n)) }
 {
     if n < 32768 {
-        return 1 <= n && n <= inputs;
-    }
-    65536 - n <= before
-}
-
-pub fn references_good(file: &[u8], f: Field, inputs: usize, before: usize) -> bool
-    requires { f.body + f.len ≤ length file.now }
-    ensures { result ≡ all_of (reference_good inputs before) (references_in (body_of file.now f)) }
-{
-    let count = reference_count(f.len);
-    let mut i: usize = 0;
-    while i < count {
-        if !reference_good(two_bytes(file, f, 2 + 2 * i), inputs, before) {
-            return false;
+        if !(1..=inputs).contains(&n) {
+            return None;
         }
-        i += 1;
+        return Some(Reference::Input(n as u8));
     }
-    true
+    let i = 65536usize.saturating_sub(n);
+    if !(1..=before).contains(&i) {
+        return None;
+    }
+    Some(Reference::Earlier(i as u8))
 }
 
-// The reference in two bytes that is good.
-pub fn reference_in(n: usize) -> Reference
-    requires { T (reference_good 64 128 (reference_of (signed 32768 n))) }
-    ensures { result ≡ reference_record (reference_of (signed 32768 n)) }
+// The references of a field that has k of them, if all are good; the places behind them are unused.
+pub fn references_in(
+    f: Field,
+    k: usize,
+    inputs: usize,
+    before: usize,
+) -> Option<[Reference; MOST_LABELS]>
+    requires many { (k ≡ length (references_in f.body.now)) × (k ≤ 12) }
+    requires few { (inputs ≤ 64) × (before ≤ 128) }
+    ensures { result ≡ good_records inputs before (references_in f.entry.body.now) }
 {
-    if n < 32768 {
-        return Reference {
-            earlier: false,
-            number: n as u8,
-        };
+    let mut references = [Reference::default(); MOST_LABELS];
+    for i in 0..k {
+        references[i] = reference_in(f.two_bytes(2 + 2 * i), inputs, before)?;
     }
-    Reference {
-        earlier: true,
-        number: (65536 - n) as u8,
-    }
+    Some(references)
 }

@@ -2,12 +2,13 @@
 -- are the function's over the vectors. And what one word of any row adds to the number of marks and to the first mark. Assumes nothing.
 use mathlib.Core.Path.{◌≡◌, refl, sym, ap, ◌∙◌}
 use mathlib.Core.Bool.{Bool, true, false, cond}
-use mathlib.Core.List.{List}
+use mathlib.Core.List.{List, [], ◌∷◌}
 use Prim.Native.Nat.{ℕ, zero, suc, ◌+◌, ◌-◌, ◌*◌, ◌/◌, ◌%◌, ◌^◌, ◌≤◌, ◌<◌}
 use native.Mathlib.Omega.{arith}
-use lib.Count.{ones, count_trailing_zeros}
+use lib.Count.{ones, ones-le, count_trailing_zeros}
 use lib.Dec.{ltb}
-use lib.ListN.{get_or}
+use lib.ListN.{get_or, length}
+use Rattle.std.specs.Prelude.{sum_by}
 use Rattle.words.specs.Bits.{bit, word, sum_to, first_to}
 use Rattle.words.specs.Tables.{up_to}
 use Rattle.words.specs.Rows.{mark_at, row_of, marks_of, first_mark_of}
@@ -91,6 +92,34 @@ marks-more row w h =
     ∙ ap (λ (n : ℕ). sum_to (64 * w) (mark_at row) + n)
     (sum_cong 64 (λ (v : ℕ). mark_at row (64 * w + v)) (bit (get_or row w 0)) (word-marks row w) ∙ sym (ones-sum 64 (get_or row w 0) h))
 
+-- so the ones of all words are the marks of the row
+pub ones-marks : (row : List ℕ) → length row ≡ 4 → ((w : ℕ) → get_or row w 0 < 2 ^ 64) → (sum_by ones row ≡ marks_of row) × (sum_by ones row ≤ 256)
+unfolding marks_of sum_to
+ones-marks (a ∷ b ∷ c ∷ d ∷ []) size fit = (sym up_to_4, few)
+  where
+    row : List ℕ
+    row = a ∷ b ∷ c ∷ d ∷ []
+
+    up_to_1 : sum_to 64 (mark_at row) ≡ 0 + ones a
+    up_to_1 = marks-more row 0 (fit 0)
+
+    up_to_2 : sum_to 128 (mark_at row) ≡ 0 + ones a + ones b
+    up_to_2 = marks-more row 1 (fit 1) ∙ ap (λ (n : ℕ). n + ones b) up_to_1
+
+    up_to_3 : sum_to 192 (mark_at row) ≡ 0 + ones a + ones b + ones c
+    up_to_3 = marks-more row 2 (fit 2) ∙ ap (λ (n : ℕ). n + ones c) up_to_2
+
+    up_to_4 : sum_to 256 (mark_at row) ≡ 0 + ones a + ones b + ones c + ones d
+    up_to_4 = marks-more row 3 (fit 3) ∙ ap (λ (n : ℕ). n + ones d) up_to_3
+
+    few : 0 + ones a + ones b + ones c + ones d ≤ 256
+    few = omega (arith, ones-le 64 a (fit 0), ones-le 64 b (fit 1), ones-le 64 c (fit 2), ones-le 64 d (fit 3))
+ones-marks [] size fit = absurd (omega arith)
+ones-marks (a ∷ []) size fit = absurd (omega arith)
+ones-marks (a ∷ b ∷ []) size fit = absurd (omega arith)
+ones-marks (a ∷ b ∷ c ∷ []) size fit = absurd (omega arith)
+ones-marks (a ∷ b ∷ c ∷ d ∷ e ∷ more) size fit = absurd (omega arith)
+
 -- where no word before w has a mark: the first mark within w is that of its bits
 word_first : (row : List ℕ) (w : ℕ) → first_to (64 * w) (mark_at row) ≡ 0
     → first_to (64 * w + 64) (mark_at row) ≡ first_from (64 * w) (first_to 64 (bit (get_or row w 0)))
@@ -101,6 +130,14 @@ word_first row w none =
 -- a word that is 0 has none
 pub first_more : (row : List ℕ) (w : ℕ) → first_to (64 * w) (mark_at row) ≡ 0 → get_or row w 0 ≡ 0 → first_to (64 * w + 64) (mark_at row) ≡ 0
 first_more row w none e = word_first row w none ∙ rw (e, (first_mark_meets 64 (bit 0)).none.1 (λ v l. bit-zero v))
+
+-- so words that are 0 have none
+pub first-none : (row : List ℕ) (w : ℕ) → ((u : ℕ) → u < w → get_or row u 0 ≡ 0) → first_to (64 * w) (mark_at row) ≡ 0
+unfolding first_to
+first-none row zero e = refl
+first-none row (suc w) e =
+    let next : 64 * suc w ≡ 64 * w + 64 = omega arith in
+    rw next (first_more row w (first-none row w (λ u l. e u (omega arith))) (e w (omega arith)))
 
 -- any other has its lowest set bit
 pub first_found : (row : List ℕ) (w : ℕ) → w < 4 → first_to (64 * w) (mark_at row) ≡ 0 → get_or row w 0 < 2 ^ 64 → (get_or row w 0 ≡ 0 → ⊥)

@@ -1,7 +1,7 @@
-// Words of 64 vectors: how many marks a row of four has, which vector marks first, and a word of ones for some vectors. And the greater of two counts.
+// Words of 64 vectors: how many marks a row of four has, which vector marks first, and a word of ones for some vectors.
 #![tactic(auto)]
 
-ghost use Rattle.std.specs.Prelude.{max, ◌≡◌};
+ghost use Rattle.std.specs.Prelude.{◌≡◌};
 ghost use Rattle.words.specs.Bits.{first_ones};
 ghost use Rattle.words.specs.Rows.{marks_of, first_mark_of};
 
@@ -9,29 +9,17 @@ ghost use Rattle.words.specs.Rows.{marks_of, first_mark_of};
 pub fn marks(row: [u64; 4]) -> u32
     ensures { result ≡ marks_of row }
 {
-    let mut found: u32 = 0;
-    let mut word: usize = 0;
-    while word < 4 {
-        found += u64::count_ones(row[word]);
-        word += 1;
-    }
-    found
+    row.iter().map(|w| w.count_ones()).sum()
 }
 
-// The first marking vector of a row, from 1, or 0 where no vector marks.
+// The first marking vector of a row, from 1, or 0 where no vector marks: a number in either case, since the report prints it.
 pub fn first_mark(row: [u64; 4]) -> u32
     ensures { result ≡ first_mark_of row }
 {
-    let mut before: u32 = 0;
-    let mut w: usize = 0;
-    while w < 4 {
-        if row[w] != 0 {
-            return before + u64::trailing_zeros(row[w]) + 1;
-        }
-        before += 64;
-        w += 1;
+    match row.iter().position(|word| *word != 0) {
+        Some(w) => 64 * w as u32 + row[w].trailing_zeros() + 1,
+        None => 0,
     }
-    0
 }
 
 // Ones at the first n places of a word, at all where n is 64 or more.
@@ -42,14 +30,4 @@ pub fn first_ones(n: usize) -> u64
         return !0u64;
     }
     (1u64 << n) - 1
-}
-
-// The greater of two numbers.
-pub fn greater(a: usize, b: usize) -> usize
-    ensures { result ≡ max a b }
-{
-    if a < b {
-        return b;
-    }
-    a
 }

@@ -1,11 +1,12 @@
 -- The complementary check, 64 settings at a time: a word with a bit for each setting of a block that joins the output to exactly one rail, what comparing it
 -- with the counted places tells of the block, and what the blocks tell of the type. Assumes nothing.
-use Prim.Native.Nat.{ℕ, ◌+◌, ◌-◌, ◌*◌, ◌/◌, ◌%◌, ◌^◌, ◌<◌, min, max}
+use Prim.Native.Nat.{ℕ, zero, suc, ◌+◌, ◌-◌, ◌*◌, ◌/◌, ◌%◌, ◌^◌, ◌<◌, min, max}
 use native.Mathlib.Nat.{lt_of_le_of_lt}
+use native.Mathlib.Numerals.{add-one}
 use native.Mathlib.Omega.{arith}
-use mathlib.Core.Path.{◌≡◌, refl, ap, subst, ◌∙◌}
-use mathlib.Core.Bool.{Bool, true, false, not, beq}
-use mathlib.Core.List.{List}
+use mathlib.Core.Path.{◌≡◌, refl, sym, ap, subst, ◌∙◌}
+use mathlib.Core.Bool.{Bool, true, false, ◌&&◌, not, beq, and-true}
+use mathlib.Core.List.{List, [], ◌∷◌, ◌++◌, map}
 use lib.Bits.{bit_and, bit_or, and_le_l, and_le_r}
 use lib.Dec.{T, ltb, eqb, eqb→eq, eqb_refl}
 use lib.ListN.{get_or}
@@ -17,8 +18,12 @@ use Rattle.words.proofs.EachLaws.{one_each}
 use Rattle.words.proofs.FirstOnes.{first_ones_lt, bit-first_ones}
 use Rattle.switch.specs.Conduction.{Value, channel_by, by_values, edge_on, Link, ground, supply}
 use Rattle.switch.specs.Modules.{ModuleType, links_of, setting_of}
-use Rattle.switch.specs.Deciding.{joins, one_rail}
-use Rattle.switch.specs.Blocks.{block_holds}
+use Rattle.switch.specs.Deciding.{all_below, joins, one_rail}
+use Rattle.switch.specs.Blocks.{block_holds, blocks_of, running_verdict, by_blocks}
+use Rattle.std.specs.List.{list_all, range_with_len}
+use Rattle.std.proofs.lemmas.List.Folds.{list_all-map, list_all-append}
+use Rattle.std.proofs.lemmas.List.FromFn.{map-range_with_len_more}
+use Rattle.std.proofs.Math.Bool.{and_comm}
 use Rattle.switch.proofs.Deciding.{same_test}
 use Rattle.switch.proofs.Blocks.{block_each}
 use Rattle.join_nodes.specs.Model.{edge_in_columns, type_in_columns, ColumnsGiven, WidePlanes, gate_word, joined_words, OutputTold, setting_ones, setting_zeros}
@@ -96,6 +101,26 @@ module _ (t : ModuleType) (block one : ℕ) (bits : (v : ℕ) → v < 64 → bit
       same_test (eqb (bit_and one counted) counted) (block_holds t block)
       (λ e. (block_each t block).1 (each_passes (eqb→eq (bit_and one counted) counted e)))
       (λ b. let same = same_word ((block_each t block).0 b) in subst (λ (w : ℕ). T (eqb (bit_and one counted) w)) same (eqb_refl (bit_and one counted)))
+
+-- ---- all blocks
+
+all_numbers : (test : ℕ → Bool) (n : ℕ) → list_all test (range_with_len 0 n) ≡ all_below n test
+unfolding all_below
+all_numbers test zero = refl
+all_numbers test (suc n) =
+    let same : Bool → Bool = λ b. b in
+    let more : map test (range_with_len 0 (n + 1)) ≡ map test (range_with_len 0 n) ++ test n ∷ [] = map-range_with_len_more test 0 n n (omega arith) in
+    sym (list_all-map same test (range_with_len 0 (suc n)))
+    ∙ ap (list_all same) (rw add-one at more)
+    ∙ list_all-append same (map test (range_with_len 0 n)) (test n ∷ [])
+    ∙ and_comm (list_all same (map test (range_with_len 0 n))) (test n && true)
+    ∙ rw and-true (ap (λ (b : Bool). test n && b) (list_all-map same test (range_with_len 0 n) ∙ all_numbers test n))
+
+-- asked of each block, from the first on
+pub all_asked : (t : ModuleType) (blocks : ℕ) → blocks ≡ blocks_of t.labels → list_all (block_holds t) (range_with_len 0 blocks) ≡ by_blocks t
+unfolding by_blocks running_verdict
+all_asked t blocks is =
+    all_numbers (block_holds t) blocks ∙ rw is
 
 -- ---- a block
 

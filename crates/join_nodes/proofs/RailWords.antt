@@ -117,8 +117,8 @@ module _ (firsts seconds gates : List ℕ) (n : ℕ) where
         ∙ sym (greatest_of_both 4 (λ (w : ℕ). greatest_to 64 (from 1 w)) (λ (w : ℕ). greatest_to 64 (from 0 w)))
         ∙ greatest_cong 4 _ _ (λ w h. sym (greatest_of_both 64 (from 1 w) (from 0 w)))
 
-    pub rails_told : (to_supply to_ground : List ℕ) (supply_rounds ground_rounds : ℕ)
+    pub rails_told : (to_supply to_ground : List ℕ) (supply_rounds ground_rounds rounds : ℕ) → rounds ≡ max supply_rounds ground_rounds
         → WideJoined firsts seconds gates planes n 4 1 to_supply supply_rounds → WideJoined firsts seconds gates planes n 4 0 to_ground ground_rounds
-        → RailsTold edges ones zeros (record { supply = to_supply; ground = to_ground; rounds = max supply_rounds ground_rounds })
-    rails_told to_supply to_ground supply_rounds ground_rounds s g t e =
-        rw (four_words 1 to_supply supply_rounds s t e, four_words 0 to_ground ground_rounds g t e, four_rounds_lem to_supply to_ground supply_rounds ground_rounds s g t e)
+        → RailsTold edges ones zeros (record { supply = to_supply; ground = to_ground; rounds = rounds })
+    rails_told to_supply to_ground supply_rounds ground_rounds rounds greater s g t e =
+        rw (greater, four_words 1 to_supply supply_rounds s t e, four_words 0 to_ground ground_rounds g t e, four_rounds_lem to_supply to_ground supply_rounds ground_rounds s g t e)

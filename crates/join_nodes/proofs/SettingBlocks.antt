@@ -88,7 +88,7 @@ settings_of_planes block = refl
 abbrev pub zero_plane : ℕ → ℕ → ℕ
 zero_plane block l = word (λ (v : ℕ). 1 - bit (64 * block + v) l)
 
-plane-not : (block l : ℕ) → l < 12 → (2 ^ 64 - 1) - get_or (setting_ones block) l 0 ≡ zero_plane block l
+pub plane-not : (block l : ℕ) → l < 12 → (2 ^ 64 - 1) - get_or (setting_ones block) l 0 ≡ zero_plane block l
 unfolding setting_ones
 plane-not block l h =
     rw (get_or-table 12 (plane block) 0 l h)

@@ -87,18 +87,9 @@ fn complementary_of(c: Columns, highest: u8, output: u8, labels: u8) -> bool
     requires { ColumnsGiven highest output labels c.firsts c.seconds c.gates c.count }
     ensures { result ≡ by_blocks (type_in_columns highest output labels c.firsts c.seconds c.gates c.count) }
 {
-    let count = c.count;
-    let settings = settings_of(labels);
-    let mut block: usize = 0;
-    while 64 * block < settings {
-        if !block_holds(
-            &c.firsts, &c.seconds, &c.gates, count, highest, output, labels, block,
-        ) {
-            return false;
-        }
-        block += 1;
-    }
-    true
+    (0..settings_of(labels).div_ceil(64)).all(|block| block_holds(
+        &c.firsts, &c.seconds, &c.gates, c.count, highest, output, labels, block,
+    ))
 }
 
 // The same, on a lent slice of edges and the type's three numbers.

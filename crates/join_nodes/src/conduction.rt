@@ -13,10 +13,8 @@ pub fn gate_planes(ones: &[u64], zeros: &[u64], width: usize, planes: &mut [u64]
 {
     let words = width * MOST_LABELS;
     let p_channel = width * 16;
-    let mut j: usize = 0;
-    while j < words {
+    for j in 0..words {
         planes[j] = ones[j];
         planes[p_channel + j] = zeros[j];
-        j += 1;
     }
 }

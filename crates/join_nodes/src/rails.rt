@@ -10,7 +10,6 @@ use crate::conduction::gate_planes;
 use crate::edges::spread;
 use crate::rounds::{begin, joined_to};
 use switch::{Edge, MOST_EDGES, ModuleType, Planes, Rails};
-use words::greater;
 
 // The nodes joined to a rail, under 256 vectors, in words that were 0: how many rounds added a node.
 fn join_rail<'a>(
@@ -65,9 +64,8 @@ fn joining_of(c: Columns, highest: u8, ones: &[u64; 48], zeros: &[u64; 48]) -> R
         0,
         &mut ground,
     );
-    let rounds = greater(to_supply, to_ground);
     Rails {
-        rounds,
+        rounds: to_supply.max(to_ground),
         supply,
         ground,
     }

@@ -18,10 +18,8 @@ fn hand_on(
     requires { (at + width ≤ length planes.now) × (from + width ≤ length joined.now) × (to + width ≤ length next.old) }
     ensures { next.new ≡ handed_to planes.now at joined.now from next.old to width }
 {
-    let mut w: usize = 0;
-    while w < width {
-        next[to + w] = next[to + w] | (joined[from + w] & planes[at + w]);
-        w += 1;
+    for w in 0..width {
+        next[to + w] |= joined[from + w] & planes[at + w];
     }
 }
 
@@ -57,13 +55,10 @@ fn settle(joined: &mut [u64], next: &[u64], places: usize) -> u64
     requires { (places ≤ length joined.old) × (places ≤ length next.now) }
     ensures { RoundTaken joined.old next.now places joined.new result }
 {
-    let mut added: u64 = 0;
-    let mut p: usize = 0;
-    while p < places {
-        let word = next[p];
-        added = added | (word ^ joined[p]);
-        joined[p] = word;
-        p += 1;
+    let mut added = 0;
+    for p in 0..places {
+        added |= next[p] ^ joined[p];
+        joined[p] = next[p];
     }
     added
 }
@@ -73,10 +68,8 @@ pub fn begin(words: &mut [u64], width: usize, rail: usize)
     requires { width * rail + width ≤ length words.old }
     ensures { words.new ≡ ones_to words.old (width * rail) width }
 {
-    let mut w: usize = 0;
-    while w < width {
-        words[width * rail + w] = !0u64;
-        w += 1;
+    for w in 0..width {
+        words[width * rail + w] = u64::MAX;
     }
 }
 

@@ -22,12 +22,10 @@ pub fn setting_ones(block: usize) -> [u64; MOST_LABELS]
         0,
         0,
     ];
-    let mut l: usize = 6;
-    while l < MOST_LABELS {
+    for l in 6..MOST_LABELS {
         if (block >> (l - 6)) % 2 == 1 {
-            ones[l] = !0u64;
+            ones[l] = u64::MAX;
         }
-        l += 1;
     }
     ones
 }
@@ -36,12 +34,5 @@ pub fn setting_ones(block: usize) -> [u64; MOST_LABELS]
 pub fn setting_zeros(block: usize) -> [u64; MOST_LABELS]
     ensures { result ≡ setting_zeros block }
 {
-    let ones = setting_ones(block);
-    let mut zeros = [0u64; MOST_LABELS];
-    let mut l: usize = 0;
-    while l < MOST_LABELS {
-        zeros[l] = !ones[l];
-        l += 1;
-    }
-    zeros
+    setting_ones(block).map(|ones| !ones)
 }

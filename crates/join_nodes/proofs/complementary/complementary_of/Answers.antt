@@ -1,55 +1,17 @@
--- `join_nodes::complementary::complementary_of` meets its contract. The loop's invariant: the running verdict after `block` blocks is that all hold. Assumes nothing.
-use mathlib.Core.Path.{sym, ◌∙◌}
-use native.Mathlib.Omega.{arith}
-use Rattle.switch.proofs.Blocks.{none_yet, one_block_more, block_fails, after_the_last}
+-- `join_nodes::complementary::complementary_of` meets its contract: all blocks are asked. Assumes nothing.
+use Rattle.std.proofs.Common.{ℕ, refl, rules, tests, arith, ◌∙◌}
+use Rattle.std.proofs.lemmas.Iterator.{YieldsList-from_range}
+use Rattle.std.proofs.lemmas.Iterator.Search.{all_from_yields_List}
+use Rattle.switch.specs.Blocks.{block_holds}
 use Rattle.join_nodes.specs.Model.{type_in_columns}
+use Rattle.join_nodes.proofs.Check.{all_asked}
 use Rattle.join_nodes.proofs.complementary.complementary_of.Goals as goal
-
-pub settings_of-settings-requires : goal.settings_of-settings-requires
-settings_of-settings-requires c = c.requires.labels
-
-pub loop-block-init : goal.loop-block-init
-loop-block-init c =
-    let a = c.args in
-    let t = type_in_columns a.highest a.output a.labels a.c.firsts a.c.seconds a.c.gates a.c.count in
-    (c.settings_of-settings.ensures.0, c.settings_of-settings.ensures.1, omega arith, none_yet t)
-
-pub block_holds-requires : goal.block_holds-requires
-block_holds-requires c = record { columns_given = c.requires; block_bound = omega (arith, c.loop-block.invariant.0) }
-
-pub returns-then-not-block_holds : goal.returns-then-not-block_holds
-unfolding type_in_columns
-returns-then-not-block_holds c =
-    let a = c.args in
-    let t = type_in_columns a.highest a.output a.labels a.c.firsts a.c.seconds a.c.gates a.c.count in
-    block_fails
-    t
-    c.loop-block.block
-    (omega (arith, c.loop-block.invariant.0))
-    (sym c.block_holds.ensures ∙ c.if-not-block_holds.true)
-
-pub loop-block-preserved : goal.loop-block-preserved
-loop-block-preserved c =
-    let a = c.args in
-    let t = type_in_columns a.highest a.output a.labels a.c.firsts a.c.seconds a.c.gates a.c.count in (
-      c.loop-block.invariant.0,
-      c.loop-block.invariant.1,
-      omega arith,
-      one_block_more
-          t
-          c.loop-block.block
-          c.loop-block.invariant.3
-          (sym c.block_holds.ensures ∙ c.if-not-block_holds.false),
-    )
 
 pub returns : goal.returns
 unfolding type_in_columns
 returns c =
     let a = c.args in
     let t = type_in_columns a.highest a.output a.labels a.c.firsts a.c.seconds a.c.gates a.c.count in
-    after_the_last
-    t
-    c.loop-block.block
-    (omega (arith, c.loop-block.invariant.0, c.loop-block-test.false))
-    (omega (arith, c.loop-block.invariant.0))
-    c.loop-block.invariant.3
+    let blocks : ℕ = c.div_ceil.result in
+    let all = all_from_yields_List (block_holds t) _ _ c.all.result c.all.ensures.ran (YieldsList-from_range 0 blocks blocks refl (omega arith)) (λ x b q k. search (rules, tests)) in
+    all ∙ all_asked t blocks (omega (arith, c.div_ceil.ensures, c.settings_of.ensures.0))

@@ -1,11 +1,12 @@
 -- Keys and found classes as lists: a row's key, keys in the place of codes, and the count of the found classes.
 -- What a count has left is a function of its place (`found_left`), which a loop keeps.
-use mathlib.Core.Path.{◌≡◌, sym, ap, ◌∙◌}
+use mathlib.Core.Path.{◌≡◌, refl, sym, ap, ◌∙◌}
 use mathlib.Core.List.{List, ◌++◌}
-use Prim.Native.Nat.{ℕ, suc, ◌+◌, ◌-◌, ◌*◌, ◌≤◌, ◌<◌, max}
+use Prim.Native.Nat.{ℕ, zero, suc, ◌+◌, ◌-◌, ◌≤◌, ◌<◌, max}
 use native.Mathlib.Nat.{max-eq_left, sub-zero}
 use native.Mathlib.Omega.{arith}
 use lib.ListN.{length, get_or, set, take}
+use lib.Seq.{get_or-take}
 use borrow.Author.Tests.{eq-eqb, ne_eqb, lt-ltb, le-ltb}
 use Rattle.words.specs.Tables.{table, up_to}
 use Rattle.words.specs.Written.{written}
@@ -51,6 +52,17 @@ module _ (matrix classes : List ℕ) (to : ℕ) where
       found_unmarked h =
           let e : to - r ≡ suc (to - suc r) = omega arith in rw (e, lt-ltb last (get_or classes r 0) new, top, eq-eqb (row_marked matrix r) 0 h)
 
+-- only the classes of those rows are looked at
+pub found_front : (matrix classes : List ℕ) (n from left count : ℕ) → from + left ≤ n
+    → found_from matrix (take n classes) from left count ≡ found_from matrix classes from left count
+unfolding found_from
+found_front matrix classes n from zero count h = refl
+found_front matrix classes n from (suc left) count h =
+    rw (
+      get_or-take n classes from 0 (omega arith),
+      found_front matrix classes n (suc from) left (max count (get_or classes from 0)) (omega arith),
+    )
+
 -- ---- the wires of the labels
 
 pub labels-all : (references : List ReferenceRecord) (n : ℕ) → 12 ≤ n
@@ -59,15 +71,6 @@ unfolding label_numbers
 labels-all references n h = table_cong 12 _ _ (λ l q. up-below n _ l (omega arith))
 
 -- ---- a row's key
-
-module _ (a b : ℕ) where
-  pub key_rising : a < b → 8192 * a + b ≡ pair_key a b
-  unfolding pair_key
-  key_rising h = omega arith
-
-  pub key_falling : b ≤ a → 8192 * b + a ≡ pair_key a b
-  unfolding pair_key
-  key_falling h = omega arith
 
 module _ (n output : ℕ) (labels : List ℕ) (code a b kind : ℕ) (a-is : a ≡ first_in code) (b-is : b ≡ second_in code)
     (kind_is : kind ≡ kind_in code) where

@@ -2,7 +2,7 @@
 // the class of each row; and the found classes.
 #![tactic(auto)]
 
-ghost use Rattle.std.specs.Prelude.{◌≡◌, ◌+◌, ◌*◌, ◌<◌, ◌≤◌, eqb, length, take};
+ghost use Rattle.std.specs.Prelude.{◌≡◌, ◌+◌, ◌*◌, ◌<◌, ◌≤◌, eqb, length};
 ghost use Rattle.words.specs.Written.{written};
 ghost use Rattle.grading.specs.Classes.{largest, classes_by};
 ghost use Rattle.grading.specs.Codes.{CodeFits, CodesFit};
@@ -41,25 +41,20 @@ fn reference_wire(reference: Reference) -> u16
 fn label_wires(one: Instance) -> [u16; 12]
     ensures { result ≡ label_numbers one.references }
 {
-    let references = one.references;
     let mut wires = [0u16; 12];
-    let mut l: usize = 0;
-    while l < 12 {
-        wires[l] = reference_wire(references[l]);
-        l += 1;
+    for (l, reference) in one.references.iter().enumerate() {
+        wires[l] = reference_wire(*reference);
     }
     wires
 }
 
 // One number for two wires, whichever comes first.
+#[tactic(auto, unfolding(crate::specs::Model::pair_key))]
 fn pair_key(a: u32, b: u32) -> u32
     requires { (a < 65536) × (b < 65536) }
     ensures { result ≡ pair_key a b }
 {
-    if a < b {
-        return 8192 * a + b;
-    }
-    8192 * b + a
+    8192 * a.min(b) + a.max(b)
 }
 
 // The key of a row of the instance with this number: the two wires that its bridge joins. `labels` has the wires of the instance's labels.
@@ -86,16 +81,13 @@ pub fn write_keys(
     output: u8,
 )
     requires from_le_to { (from ≤ to) × (to ≤ 2048) × (i < 128) }
-    requires codes_len { length codes.old ≡ 2048 }
     requires codes_fit { CodesFit codes.old from to }
     ensures { codes.new ≡ written codes.old from (keys_of codes.old (i + 1) output (label_numbers one.references) from to) }
 {
     let labels = label_wires(one);
     let instance = (i as u32) + 1;
-    let mut r = from;
-    while r < to {
-        codes[r] = key_of(codes[r], instance, output as u32, labels);
-        r += 1;
+    for code in &mut codes[from..to] {
+        *code = key_of(*code, instance, output as u32, labels);
     }
 }
 
@@ -108,19 +100,18 @@ fn bucket_of(key: u32) -> usize
 
 // Numbers the rows: each takes the class of the first earlier row with its key, or else the next new number. The search looks at first rows of classes
 // alone, those of the key's bucket from the last to the first: `heads` has a bucket's last one and `nexts` the one before a row, each as the row's place
-// plus 1, with 0 for none.
-fn number_rows(keys: &[u32; MOST_FAULTS], rows: usize, classes: &mut [u16]) -> u16
-    requires { (rows ≤ 2048) × (rows ≤ length classes.old) × (length keys.now ≡ 2048) }
-    ensures { (result ≡ largest (classes_by eqb (take rows keys.now))) × (classes.new ≡ written classes.old 0 (classes_by eqb (take rows keys.now))) }
+// plus 1, with 0 for none: as an `Option` each takes four bytes, and the function 4 KB more of stack.
+fn number_rows(keys: &[u32], classes: &mut [u16]) -> u16
+    requires { (length keys.now ≤ 2048) × (length keys.now ≤ length classes.old) }
+    ensures { (result ≡ largest (classes_by eqb keys.now)) × (classes.new ≡ written classes.old 0 (classes_by eqb keys.now)) }
 {
     let mut heads = [0u16; 251];
     let mut nexts = [0u16; MOST_FAULTS];
     let mut count: u16 = 0;
-    let mut r: usize = 0;
-    while r < rows {
-        let key = keys[r];
+    for (r, &key) in keys.iter().enumerate() {
         let bucket = bucket_of(key);
         let mut next = heads[bucket];
+        // a loop and no iterator, which would have to tell 0 from a place at each step
         let class = loop {
             if next == 0 {
                 break count + 1;
@@ -137,28 +128,24 @@ fn number_rows(keys: &[u32; MOST_FAULTS], rows: usize, classes: &mut [u16]) -> u
             heads[bucket] = (r as u16) + 1;
         }
         classes[r] = class;
-        r += 1;
     }
     count
 }
 
 // How many classes are found: rows of one class have equal marks, so the first row tells.
-fn found_in(matrix: &[u64], classes: &[u16], rows: usize) -> usize
-    requires rows_bound { rows ≤ 2048 }
-    requires rows_in_bounds { (4 * rows ≤ length matrix.now) × (rows ≤ length classes.now) }
-    ensures { result ≡ found_from matrix.now classes.now 0 rows 0 }
+fn found_in(matrix: &[u64], classes: &[u16]) -> usize
+    requires { 4 * length classes.now ≤ length matrix.now }
+    ensures { result ≡ found_from matrix.now classes.now 0 (length classes.now) 0 }
 {
     let mut found: usize = 0;
     let mut last: u16 = 0;
-    let mut r: usize = 0;
-    while r < rows {
-        if last < classes[r] {
-            last = classes[r];
+    for (r, &class) in classes.iter().enumerate() {
+        if last < class {
+            last = class;
             if (matrix[4 * r] | matrix[4 * r + 1] | matrix[4 * r + 2] | matrix[4 * r + 3]) != 0 {
                 found += 1;
             }
         }
-        r += 1;
     }
     found
 }
@@ -171,17 +158,12 @@ pub struct Classed {
 }
 
 // The classes of all rows, by their keys, and how many of them the matrix finds.
-pub fn class_rows(
-    keys: &[u32; MOST_FAULTS],
-    rows: usize,
-    matrix: &[u64],
-    classes: &mut [u16],
-) -> Classed
-    requires rows_bound { (rows ≤ 2048) × (length keys.now ≡ 2048) }
-    requires rows_in_bounds { (4 * rows ≤ length matrix.now) × (rows ≤ length classes.old) }
-    ensures { RowsClassed (take rows keys.now) matrix.now classes.old result classes.new }
+pub fn class_rows(keys: &[u32], matrix: &[u64], classes: &mut [u16]) -> Classed
+    requires rows_bound { length keys.now ≤ 2048 }
+    requires rows_in_bounds { (4 * length keys.now ≤ length matrix.now) × (length keys.now ≤ length classes.old) }
+    ensures { RowsClassed keys.now matrix.now classes.old result classes.new }
 {
-    let count = number_rows(keys, rows, classes);
-    let found = found_in(matrix, classes, rows);
+    let count = number_rows(keys, classes);
+    let found = found_in(matrix, &classes[..keys.len()]);
     Classed { count, found }
 }

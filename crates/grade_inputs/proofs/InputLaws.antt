@@ -12,7 +12,7 @@ use lib.ListN.{length, get_or, set, replicate, length-replicate, get_or-replicat
 use Rattle.words.specs.Bits.{bit, word}
 use Rattle.words.specs.Tables.{table, up_to}
 use Rattle.words.proofs.Laws.{pack_cong}
-use Rattle.words.proofs.Tables.{length-table, get_or-table, is-table, table_cong, set-table, up-below, up-past}
+use Rattle.words.proofs.Tables.{get_or-table, is-table, table_cong, set-table, up-below, up-past}
 use Rattle.circuit.specs.Records.{unused_vector}
 use Rattle.circuit.specs.declared.Vector.{Vector as VectorRecord}
 use Rattle.grade_inputs.specs.Inputs.{input_word, input_words, words_from, inputs_put}
@@ -21,12 +21,11 @@ use Rattle.grade_inputs.specs.Turning.{transposed}
 -- ---- 64 vectors' words
 
 pub column-is : (f : VectorRecord → ℕ) (vectors : List VectorRecord) (w : ℕ) → f unused_vector ≡ 0
-    → table 64 (up_to 64 (λ (v : ℕ). f (get_or vectors (64 * w + v) unused_vector))) ≡ words_from (map f vectors) w
+    → table 64 (λ (v : ℕ). f (get_or vectors (64 * w + v) unused_vector)) ≡ words_from (map f vectors) w
 unfolding words_from
 column-is f vectors w none =
-    table_cong 64 (up_to 64 (λ (v : ℕ). f (get_or vectors (64 * w + v) unused_vector))) (λ (v : ℕ). get_or (map f vectors) (64 * w + v) 0) (λ v h.
-    up-below 64 (λ (u : ℕ). f (get_or vectors (64 * w + u) unused_vector)) v h
-    ∙ sym (ap (get_or (map f vectors) (64 * w + v)) (sym none) ∙ get_or-map f vectors (64 * w + v) unused_vector))
+    table_cong 64 (λ (v : ℕ). f (get_or vectors (64 * w + v) unused_vector)) (λ (v : ℕ). get_or (map f vectors) (64 * w + v) 0) (λ v h.
+    sym (ap (get_or (map f vectors) (64 * w + v)) (sym none) ∙ get_or-map f vectors (64 * w + v) unused_vector))
 
 -- ---- word w of each input
 
@@ -123,11 +122,3 @@ module _ (column : List ℕ) where
   pub inputs_turn : (w : ℕ) → w < 4 → {block turned before after : List ℕ} → block ≡ words_from column w → turned ≡ transposed block
       → before ≡ input_words column w → after ≡ inputs_put 64 turned w before → after ≡ input_words column (suc w)
   inputs_turn w k e₁ e₂ e₃ e₄ = rw (e₄, e₂, e₁, e₃) (inputs_more w k)
-
-pub length-inputs : (column : List ℕ) (words : ℕ) → length (input_words column words) ≡ 768
-unfolding input_words
-length-inputs column words = length-table 768 _
-
-pub length-block : (column : List ℕ) (w : ℕ) → length (words_from column w) ≡ 64
-unfolding words_from
-length-block column w = length-table 64 _

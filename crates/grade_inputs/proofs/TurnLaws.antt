@@ -77,10 +77,6 @@ turns_to by block i = table 64 (turned by block i)
 
 -- ---- the steps of values 32 to m
 
-pub length-stepped : (by : ℕ) (block : List ℕ) → length (stepped by block) ≡ 64
-unfolding stepped
-length-stepped by block = length-table 64 _
-
 -- a with what is below m taken from b
 abbrev mixed : ℕ → ℕ → ℕ → ℕ
 mixed m a b = a / m * m + b % m

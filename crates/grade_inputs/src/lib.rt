@@ -1,12 +1,20 @@
 // The signals of primary inputs, 64 vectors to a word, four words each, in the first 256 of 768 places; the outputs of instances come after them.
 #![tactic(auto)]
 
-ghost use Rattle.std.specs.Prelude.{◌≡◌, ◌<◌, ◌≤◌, length, replicate};
+ghost use Rattle.std.specs.Prelude.{◌≡◌, ◌<◌, ◌≤◌, replicate};
 ghost use Rattle.grade_inputs.specs.Inputs.{block_of, inputs_put, ones_of, zeros_of, input_words};
 ghost use Rattle.grade_inputs.specs.Turning.{Step, stepped, transposed};
 
 use circuit::Vector;
 use circuit::limits::MOST_VECTORS;
+use std::array;
+
+// The signals, four words each in both planes: where they are 1, and where they are 0. Inputs come first, then the outputs of instances.
+#[derive(Clone, Copy)]
+pub struct Signals {
+    pub ones: [u64; 768],
+    pub zeros: [u64; 768],
+}
 
 // The words of 64 vectors: the inputs that are 1, and those that are 0.
 #[derive(Clone, Copy)]
@@ -15,43 +23,33 @@ struct Block {
     zeros: [u64; 64],
 }
 
-fn block_of(vectors: [Vector; MOST_VECTORS], w: usize) -> Block
+fn block_of(vectors: &[Vector; MOST_VECTORS], w: usize) -> Block
     requires { w < 4 }
-    ensures { result ≡ block_of vectors w }
+    ensures { result ≡ block_of vectors.now w }
 {
-    let mut ones = [0u64; 64];
-    let mut zeros = [0u64; 64];
-    let mut v: usize = 0;
-    while v < 64 {
-        let one = vectors[64 * w + v];
-        ones[v] = one.ones;
-        zeros[v] = one.zeros;
-        v += 1;
+    Block {
+        ones: array::from_fn(|v| vectors[64 * w + v].ones),
+        zeros: array::from_fn(|v| vectors[64 * w + v].zeros),
     }
-    Block { ones, zeros }
 }
 
 // One step of turning a square of bits over: of each two words that stand `by` apart, the part of the first that `low` does not name and the part of the second that it names change places.
 fn exchange(block: &mut [u64; 64], by: usize, low: u64)
-    requires block_len { length block.old ≡ 64 }
-    requires step { Step by low }
+    requires { Step by low }
     ensures { block.new ≡ stepped by block.old }
 {
-    let mut i: usize = 0;
-    while i < 32 {
+    for i in 0..32 {
         // the place after i others that do not have the bit of value `by` either
         let k = i + (i & (64 - by));
         let first = block[k];
         let second = block[k + by];
         block[k] = (first & low) | ((second & low) << by);
         block[k + by] = ((first >> by) & low) | (second & !low);
-        i += 1;
     }
 }
 
 // Turns a square of bits over: bit v of word i becomes bit i of word v.
 fn transpose(block: &mut [u64; 64])
-    requires { length block.old ≡ 64 }
     ensures { block.new ≡ transposed block.old }
 {
     exchange(block, 32, 0x0000_0000_ffff_ffff);
@@ -64,35 +62,25 @@ fn transpose(block: &mut [u64; 64])
 
 // Word w of each input.
 fn put_inputs(block: &[u64; 64], w: usize, signals: &mut [u64; 768])
-    requires w_bound { w < 4 }
-    requires signals_len { length signals.old ≡ 768 }
+    requires { w < 4 }
     ensures { signals.new ≡ inputs_put 64 block.now w signals.old }
 {
-    let mut i: usize = 0;
-    while i < 64 {
-        signals[4 * i + w] = block[i];
-        i += 1;
+    for (i, word) in block.iter().enumerate() {
+        signals[4 * i + w] = *word;
     }
 }
 
-// The first `words` words of each input, in both planes, into lists of zeros.
-pub fn put_signals(
-    vectors: [Vector; MOST_VECTORS],
-    words: usize,
-    ones: &mut [u64; 768],
-    zeros: &mut [u64; 768],
-)
+// The first `words` words of each input, in both planes, where all signals are 0.
+pub fn put_signals(vectors: &[Vector; MOST_VECTORS], words: usize, signals: &mut Signals)
     requires words_bound { words ≤ 4 }
-    requires ones_value { (ones.old ≡ replicate 768 0) × (zeros.old ≡ replicate 768 0) }
-    ensures { (ones.new ≡ input_words (ones_of vectors) words) × (zeros.new ≡ input_words (zeros_of vectors) words) }
+    requires signals_value { (signals.old.ones ≡ replicate 768 0) × (signals.old.zeros ≡ replicate 768 0) }
+    ensures { (signals.new.ones ≡ input_words (ones_of vectors.now) words) × (signals.new.zeros ≡ input_words (zeros_of vectors.now) words) }
 {
-    let mut w: usize = 0;
-    while w < words {
+    for w in 0..words {
         let mut block = block_of(vectors, w);
         transpose(&mut block.ones);
         transpose(&mut block.zeros);
-        put_inputs(&block.ones, w, ones);
-        put_inputs(&block.zeros, w, zeros);
-        w += 1;
+        put_inputs(&block.ones, w, &mut signals.ones);
+        put_inputs(&block.zeros, w, &mut signals.zeros);
     }
 }

@@ -9,11 +9,11 @@ use native.Mathlib.Nat.{sub-zero}
 use native.Mathlib.Omega.{arith}
 use lib.Dec.{eqb}
 use lib.ListN.{length, get_or, set, take, drop, length-append, take-append-drop, length-map}
-use lib.Seq.{take-suc, take-take, take_all}
+use lib.Seq.{take-suc, take_all}
 use borrow.Author.Tests.{eq-eqb, ne_eqb}
 use Rattle.words.specs.Written.{written}
 use Rattle.words.specs.Tables.{table}
-use Rattle.words.proofs.Tables.{table_cong, table_more, length-table, get_or-table, map-table}
+use Rattle.words.proofs.Tables.{table_cong, length-table, get_or-table, map-table}
 use Rattle.words.proofs.WrittenLaws.{written_nothing, written_written, set_written, length_written}
 use Rattle.switch.specs.Bridges.{nodes, input, Bridge}
 use Rattle.circuit.specs.Circuit.{join_lists}
@@ -55,19 +55,6 @@ module _ {buffer : List ℕ} {at : ℕ} where
 pub length_from : (n kind first from to : ℕ) → length (codes_from n kind first from to) ≡ to - from
 unfolding codes_from
 length_from n kind first from to = length-table (to - from) _
-
--- one second more
-pub from_more : (n kind first from second to : ℕ) (buffer : List ℕ) (at : ℕ) (rows : List ℕ) (next code : ℕ)
-    → Wrote buffer at (codes_from n kind first from second) rows next → from ≤ second → second < to → at + length (codes_from n kind first from to) ≤ length buffer
-    → code ≡ packed n kind first second → Wrote buffer at (codes_from n kind first from (second + 1)) (set rows next code) (next + 1)
-unfolding codes_from
-from_more n kind first from second to buffer at rows next code w low high fits e =
-    let f : ℕ → ℕ = λ (j : ℕ). packed n kind first (from + j) in
-    let size : second + 1 - from ≡ suc (second - from) = omega arith in
-    let last : code ≡ f (second - from) = omega (arith, e) in
-    let more : table (second + 1 - from) f ≡ table (second - from) f ++ (code ∷ []) = rw (size, last) (table_more (second - from) f) in
-    let all : length (table (second + 1 - from) f) ≡ second + 1 - from = length-table (second + 1 - from) f in
-    rw more (wrote_one w code (rw (← more, all) (omega (arith, length-table (to - from) f))))
 
 -- kind 0 with first node a, and kind 1 with node m
 abbrev pub pairs_of : ℕ → ℕ → List Bridge
@@ -163,28 +150,24 @@ module _ (instance list : ℕ) where
   unfolding listed_codes
   listed_other b e = rw (ne_eqb b.list list e)
 
-  module _ (bs : List BridgeRecord) (count : ℕ) (buffer : List ℕ) (at : ℕ)
-      (fits : at + length (listed_codes instance list (take count bs)) ≤ length buffer) where
+  module _ (bs : List BridgeRecord) (buffer : List ℕ) (at : ℕ) (fits : at + length (listed_codes instance list bs) ≤ length buffer) where
     -- the codes of the first i bridges
     abbrev upto : ℕ → List ℕ
     upto i = listed_codes instance list (take i bs)
 
-    listed_room : (i : ℕ) → i ≤ count → at + length (upto i) ≤ length buffer
-    listed_room i h =
-        let rest = drop i (take count bs) in
-        let whole : upto count ≡ upto i ++ listed_codes instance list rest
-        = ap (listed_codes instance list) (sym (take-append-drop i (take count bs)))
-        ∙ listed_append (take i (take count bs)) rest
-        ∙ rw (take-take i count bs h) in
-        omega (arith, ap length whole, length-append (upto i) (listed_codes instance list rest))
+    listed_room : (i : ℕ) → at + length (upto i) ≤ length buffer
+    listed_room i =
+        let whole : listed_codes instance list bs ≡ upto i ++ listed_codes instance list (drop i bs)
+        = ap (listed_codes instance list) (sym (take-append-drop i bs)) ∙ listed_append (take i bs) (drop i bs) in
+        omega (arith, ap length whole, length-append (upto i) (listed_codes instance list (drop i bs)))
 
-    step_listed : (d : BridgeRecord) (i : ℕ) → i < length bs → upto (suc i) ≡ upto i ++ listed_codes instance list (get_or bs i d ∷ [])
-    step_listed d i h = ap (listed_codes instance list) (take-suc bs i d h) ∙ listed_append (take i bs) (get_or bs i d ∷ [])
+    module _ (d : BridgeRecord) (i : ℕ) (h : i < length bs) (rows : List ℕ) (next : ℕ) (w : Wrote buffer at (upto i) rows next) where
+      step_listed : upto (suc i) ≡ upto i ++ listed_codes instance list (get_or bs i d ∷ [])
+      step_listed = ap (listed_codes instance list) (take-suc bs i d h) ∙ listed_append (take i bs) (get_or bs i d ∷ [])
 
-    module _ (d : BridgeRecord) (i : ℕ) (h : i < length bs) (within : i < count) (rows : List ℕ) (next : ℕ) (w : Wrote buffer at (upto i) rows next) where
       module _ (own : (get_or bs i d).list ≡ list) where
         step_own : upto (suc i) ≡ upto i ++ (record_code instance (get_or bs i d) ∷ [])
-        step_own = step_listed d i h ∙ rw (listed_own (get_or bs i d) own)
+        step_own = step_listed ∙ rw (listed_own (get_or bs i d) own)
 
         -- there is a place for a bridge of the list
         pub listed_place : next < length buffer
@@ -194,15 +177,11 @@ module _ (instance list : ℕ) where
               w.next_is,
               ap length step_own,
               length-append (upto i) (record_code instance (get_or bs i d) ∷ []),
-              listed_room (suc i) within,
+              listed_room (suc i),
             )
 
         pub listed_more : Wrote buffer at (upto (suc i)) (set rows next (record_code instance (get_or bs i d))) (next + 1)
-        listed_more = rw step_own (wrote_one w (record_code instance (get_or bs i d)) (rw (← step_own) (listed_room (suc i) within)))
+        listed_more = rw step_own (wrote_one w (record_code instance (get_or bs i d)) (rw (← step_own) (listed_room (suc i))))
 
       pub listed_same : ((get_or bs i d).list ≡ list → ⊥) → Wrote buffer at (upto (suc i)) rows next
-      listed_same other = rw (step_listed d i h, listed_other (get_or bs i d) other, append-nil (upto i)) w
-
-    pub listed_end : (i : ℕ) → i ≡ count → (rows : List ℕ) (next : ℕ) → Wrote buffer at (upto i) rows next
-        → (next ≡ at + length (upto count)) × (rows ≡ written buffer at (upto count))
-    listed_end i e rows next w = (w.next_is ∙ rw e, w.rows_are ∙ rw e)
+      listed_same other = rw (step_listed, listed_other (get_or bs i d) other, append-nil (upto i)) w

@@ -1,7 +1,7 @@
 // The rows of a circuit, a number each.
 #![tactic(auto)]
 
-ghost use Rattle.std.specs.Prelude.{◌≡◌, map, ◌+◌, ◌<◌, ◌≤◌, length, take};
+ghost use Rattle.std.specs.Prelude.{◌≡◌, map, ◌+◌, ◌<◌, ◌≤◌, length};
 ghost use Rattle.words.specs.Written.{written};
 ghost use Rattle.circuit.specs.Circuit.{Circuit as CircuitMeant, node_pairs, node_inputs};
 ghost use Rattle.circuit.specs.Records.{padded, circuit_record};
@@ -11,7 +11,7 @@ ghost use Rattle.grading.specs.Rows.{rows_of};
 ghost use Rattle.grading.specs.Given.{CircuitGiven};
 ghost use Rattle.grade_rows.specs.Model.{codes_from, listed_codes, instance_codes, RowsListed};
 
-use circuit::limits::{MOST_BRIDGES, MOST_FAULTS};
+use circuit::limits::MOST_FAULTS;
 use circuit::{Bridge, Circuit, Instance};
 use grading::codes::pack;
 use switch::ModuleType;
@@ -30,14 +30,10 @@ fn put_codes(
     requires to_in_bounds { at + length (codes_from instance kind first from to) ≤ length rows.old }
     ensures { (result ≡ at + length (codes_from instance kind first from to)) × (rows.new ≡ written rows.old at (codes_from instance kind first from to)) }
 {
-    let mut next = at;
-    let mut second = from;
-    while second < to {
-        rows[next] = pack(instance, kind, first, second);
-        next += 1;
-        second += 1;
+    for second in from..to {
+        rows[at + (second - from) as usize] = pack(instance, kind, first, second);
     }
-    next
+    at + (to - from) as usize
 }
 
 // Kind 0, all pairs of nodes 0 to h.
@@ -47,10 +43,8 @@ fn all_pairs(rows: &mut [u32], at: usize, instance: u32, h: u32) -> usize
     ensures { (result ≡ at + length (node_pairs h)) × (rows.new ≡ written rows.old at (map (code_of instance) (node_pairs h))) }
 {
     let mut next = at;
-    let mut a: u32 = 0;
-    while a <= h {
+    for a in 0..h + 1 {
         next = put_codes(rows, next, instance, 0, a, a + 1, h + 1);
-        a += 1;
     }
     next
 }
@@ -62,36 +56,24 @@ fn all_inputs(rows: &mut [u32], at: usize, instance: u32, h: u32, k: u32) -> usi
     ensures { (result ≡ at + length (node_inputs h k)) × (rows.new ≡ written rows.old at (map (code_of instance) (node_inputs h k))) }
 {
     let mut next = at;
-    let mut m: u32 = 0;
-    while m <= h {
+    for m in 0..h + 1 {
         next = put_codes(rows, next, instance, 1, m, 0, k);
-        m += 1;
     }
     next
 }
 
 // The bridges of a user list, in file order.
-fn listed(
-    rows: &mut [u32],
-    at: usize,
-    instance: u32,
-    list: u8,
-    bridges: [Bridge; MOST_BRIDGES],
-    count: usize,
-) -> usize
-    requires instance_bound { (instance < 256) × (count ≤ 256) }
-    requires bridges_in_bounds { at + length (listed_codes instance list (take count bridges)) ≤ length rows.old }
-    ensures { (result ≡ at + length (listed_codes instance list (take count bridges))) × (rows.new ≡ written rows.old at (listed_codes instance list (take count bridges))) }
+fn listed(rows: &mut [u32], at: usize, instance: u32, list: u8, bridges: &[Bridge]) -> usize
+    requires instance_bound { instance < 256 }
+    requires bridges_in_bounds { at + length (listed_codes instance list bridges.now) ≤ length rows.old }
+    ensures { (result ≡ at + length (listed_codes instance list bridges.now)) × (rows.new ≡ written rows.old at (listed_codes instance list bridges.now)) }
 {
     let mut next = at;
-    let mut i: usize = 0;
-    while i < count {
-        let b = bridges[i];
+    for b in bridges {
         if b.list == list {
             rows[next] = pack(instance, b.kind as u32, b.first as u32, b.second as u32);
             next += 1;
         }
-        i += 1;
     }
     next
 }
@@ -100,26 +82,25 @@ fn listed(
 pub fn list_rows(
     one: Instance,
     t: ModuleType,
-    bridges: [Bridge; MOST_BRIDGES],
-    bridge_count: usize,
+    bridges: &[Bridge],
     place: usize,
     codes: &mut [u32; MOST_FAULTS],
     from: usize,
 ) -> usize
-    requires place_bound { (place < 128) × (t.highest < 32) × (t.labels ≤ 12) × (bridge_count ≤ 256) }
-    requires bridges_in_bounds { from + length (instance_codes place one.choice t.highest t.labels (take bridge_count bridges)) ≤ length codes.old }
-    ensures { RowsListed codes.old from (instance_codes place one.choice t.highest t.labels (take bridge_count bridges)) result codes.new }
+    requires place_bound { (place < 128) × (t.highest < 32) × (t.labels ≤ 12) }
+    requires bridges_in_bounds { from + length (instance_codes place one.choice t.highest t.labels bridges.now) ≤ length codes.old }
+    ensures { RowsListed codes.old from (instance_codes place one.choice t.highest t.labels bridges.now) result codes.new }
 {
     let number = (place as u32) + 1;
     let h = t.highest as u32;
-    if one.choice == 255 {
-        let at = all_pairs(codes, from, number, h);
-        return all_inputs(codes, at, number, h, t.labels as u32);
+    match one.choice {
+        255 => {
+            let at = all_pairs(codes, from, number, h);
+            all_inputs(codes, at, number, h, t.labels as u32)
+        }
+        0 => from,
+        list => listed(codes, from, number, list, bridges),
     }
-    if one.choice == 0 {
-        return from;
-    }
-    listed(codes, from, number, one.choice, bridges, bridge_count)
 }
 
 // The rows of a circuit, in instance order. The arrays are taken out of the circuit, so that the compiler does not copy it whole.
@@ -130,15 +111,12 @@ pub fn rows_of(c: Circuit) -> [u32; MOST_FAULTS]
     let types = c.types;
     let bridges = c.bridges;
     let instances = c.instances;
-    let count = c.instance_count;
+    let used = &bridges[..c.bridge_count];
     let mut codes = [0u32; MOST_FAULTS];
     let mut at: usize = 0;
-    let mut i: usize = 0;
-    while i < count {
-        let one = instances[i];
+    for (i, one) in instances[..c.instance_count].iter().enumerate() {
         let t = types[(one.type_number as usize) - 1];
-        at = list_rows(one, t, bridges, c.bridge_count, i, &mut codes, at);
-        i += 1;
+        at = list_rows(*one, t, used, i, &mut codes, at);
     }
     codes
 }

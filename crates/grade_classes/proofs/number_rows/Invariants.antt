@@ -1,6 +1,5 @@
--- `grade_classes::number_rows` meets its contract. The outer loop's invariant: the rows so far are numbered, and their first rows chained (`Numbered`).
--- The inner loop's: every first row with the key is below the pointer (`Seeks`), which falls. Assumes nothing.
-use Prim.Native.Nat.{◌-◌, ◌≤◌}
+-- `grade_classes::number_rows` meets its contract. The outer loop's invariant: the rows so far are numbered, and their first rows chained
+-- (`Numbered`). The inner loop's: every first row with the key is below the pointer (`Seeks`), which falls. Assumes nothing.
 use Rattle.grade_classes.proofs.Chains.{Seeks, Numbered}
 use Rattle.grade_classes.proofs.number_rows.Given as goal
 
@@ -11,7 +10,4 @@ abbrev pub decreases-loop-next : goal.decreases-loop-next
 decreases-loop-next l = l.next
 
 abbrev pub invariant-loop-r : goal.invariant-loop-r
-invariant-loop-r l = (l.r ≤ l.rows) × Numbered l.keys l.initial.classes l.heads l.nexts l.classes l.count l.r
-
-abbrev pub decreases-loop-r : goal.decreases-loop-r
-decreases-loop-r l = l.rows - l.r
+invariant-loop-r l = Numbered l.keys l.initial.classes l.heads l.nexts l.classes l.count l.r

@@ -1,32 +1,20 @@
--- `grade_inputs::block_of` meets its contract. The loop's invariant: the first `v` places of both columns are filled. Assumes nothing.
-use mathlib.Core.Path.{◌≡◌, refl}
-use Prim.Native.Nat.{◌<◌}
-use native.Mathlib.Numerals.{add-one}
-use native.Mathlib.Omega.{arith}
-use Rattle.words.proofs.Tables.{fill_none, fill_more}
+-- `grade_inputs::block_of` meets its contract: each column is what its closure answers. Assumes nothing.
+use Rattle.std.proofs.Common.{refl, ◌+◌, ◌*◌, get_or, rules}
+use Rattle.circuit.specs.Records.{unused_vector}
 use Rattle.circuit.specs.declared.Vector.{Vector}
 use Rattle.grade_inputs.specs.Inputs.{ones_of, zeros_of}
 use Rattle.grade_inputs.proofs.InputLaws.{column-is}
+use Rattle.grade_inputs.proofs.Made.{table_made}
 use Rattle.grade_inputs.proofs.block_of.Goals as goal
-
-pub loop-v-init : goal.loop-v-init
-loop-v-init c = (omega arith, fill_none 64 _, fill_none 64 _)
-
-pub loop-v-preserved : goal.loop-v-preserved
-loop-v-preserved c =
-    let loop = c.loop-v in
-    let place : loop.v < 64 = omega arith in
-    (omega arith, rw (add-one, loop.invariant.1) (fill_more 64 _ loop.v place), rw (add-one, loop.invariant.2) (fill_more 64 _ loop.v place))
 
 pub returns : goal.returns
 unfolding ones_of zeros_of
 returns c =
-    let args = c.args in
-    let done : c.loop-v.v ≡ 64 = omega arith in
+    let vectors = c.args.vectors.now in
+    let w = c.args.w in
     rw (
-      c.loop-v.invariant.1,
-      c.loop-v.invariant.2,
-      done,
-      column-is (λ (x : Vector). x.ones) args.vectors args.w refl,
-      column-is (λ (x : Vector). x.zeros) args.vectors args.w refl,
+      table_made _ _ (λ v. (get_or vectors (64 * w + v) unused_vector).ones) (λ i y q k. search rules) 0 64 _ c.from_fn.ensures.items,
+      table_made _ _ (λ v. (get_or vectors (64 * w + v) unused_vector).zeros) (λ i y q k. search rules) 0 64 _ c.from_fn-2.ensures.items,
+      column-is (λ (x : Vector). x.ones) vectors w refl,
+      column-is (λ (x : Vector). x.zeros) vectors w refl,
     )

@@ -1,12 +1,12 @@
 -- `grade_rows::all_pairs` meets its contract. The loop's invariant: the codes of the nodes below `a` are written. Assumes nothing.
-use native.Mathlib.Omega.{arith}
+use Rattle.std.proofs.Common.{arith}
 use Rattle.circuit.specs.Circuit.{join_lists, node_pairs}
 use Rattle.grade_rows.proofs.RowWriting.{wrote_nothing, pairs_of, pair_codes, node_place, node_more, node_end}
 use Rattle.grade_rows.proofs.all_pairs.Goals as goal
 
 pub loop-a-init : goal.loop-a-init
 unfolding join_lists
-loop-a-init c = (omega arith, wrote_nothing)
+loop-a-init c = wrote_nothing
 
 pub put_codes-next-requires : goal.put_codes-next-requires
 unfolding node_pairs
@@ -15,26 +15,21 @@ put_codes-next-requires c =
     let l = c.loop-a in record {
       instance_bound = omega arith;
       to_in_bounds =
-          node_place a.instance a.h (pairs_of a.h) a.rows.now a.at c.requires.h_in_bounds l.a (omega (arith, c.loop-a-test.true))
-          l.rows l.next l.invariant.1 _ (pair_codes a.instance a.h l.a);
+          node_place a.instance a.h (pairs_of a.h) a.rows.now a.at c.requires.h_in_bounds l.a (omega arith)
+          l.rows l.next l.invariant _ (pair_codes a.instance a.h l.a);
     }
 
 pub loop-a-preserved : goal.loop-a-preserved
 unfolding node_pairs
 loop-a-preserved c =
     let a = c.args in
-    let l = c.loop-a in (
-      omega arith,
-      node_more a.instance a.h (pairs_of a.h) a.rows.now a.at c.requires.h_in_bounds l.a (omega (arith, c.loop-a-test.true))
-          l.rows l.next l.invariant.1 _ (pair_codes a.instance a.h l.a) _ _ c.put_codes-next.ensures.1 c.put_codes-next.ensures.0,
-    )
-
-pub shape_of-rows : goal.shape_of-rows
-shape_of-rows c = c.loop-a.invariant.1.long
+    let l = c.loop-a in
+    node_more a.instance a.h (pairs_of a.h) a.rows.now a.at c.requires.h_in_bounds l.a (omega arith)
+    l.rows l.next l.invariant _ (pair_codes a.instance a.h l.a) _ _ c.put_codes-next.ensures.1 c.put_codes-next.ensures.0
 
 pub returns : goal.returns
 unfolding node_pairs
 returns c =
     let a = c.args in
     let l = c.loop-a in
-    node_end a.instance a.h (pairs_of a.h) a.rows.now a.at c.requires.h_in_bounds l.a (omega (arith, c.loop-a-test.false)) l.rows l.next l.invariant.1
+    node_end a.instance a.h (pairs_of a.h) a.rows.now a.at c.requires.h_in_bounds l.a (omega arith) l.rows l.next l.invariant

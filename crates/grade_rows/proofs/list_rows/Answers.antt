@@ -1,9 +1,10 @@
--- `grade_rows::list_rows` meets its contract: each choice has its own codes, and the exhaustive list's are written in two pieces. Assumes nothing.
+-- `grade_rows::list_rows` meets its contract: each choice has its own codes, and the exhaustive list's are written in two pieces. Assumes
+-- nothing.
 use Prim.Native.Nat.{ℕ, ◌+◌}
 use mathlib.Core.Path.{◌≡◌, sym, ap, ◌∙◌}
 use mathlib.Core.List.{List, ◌++◌, map, map-append}
 use native.Mathlib.Omega.{arith}
-use lib.ListN.{length, take, length-append, length-map}
+use lib.ListN.{length, length-append, length-map}
 use Rattle.words.specs.Written.{written}
 use Rattle.words.proofs.WrittenLaws.{written_nothing, written_written}
 use Rattle.circuit.specs.Circuit.{node_pairs, node_inputs}
@@ -34,7 +35,7 @@ module _ (start : Start) where
   k = start.args.t.labels
 
   abbrev bridges : List BridgeRecord
-  bridges = take start.args.bridge_count start.args.bridges
+  bridges = start.args.bridges.now
 
   abbrev new : List ℕ
   new = instance_codes start.args.place choice h k bridges
@@ -79,27 +80,27 @@ module _ (start : Start) where
   own : (choice ≡ 255 → ⊥) → (choice ≡ 0 → ⊥) → new ≡ listed_codes number choice bridges
   own p q = codes_listed start.args.place choice h k bridges p q
 
-pub all_pairs-at-requires : goal.all_pairs-at-requires
-all_pairs-at-requires c =
-    record { instance_bound = (omega (arith, c.requires.place_bound), c.requires.place_bound.1); h_in_bounds = omega (arith, c.requires.bridges_in_bounds, size (goal.at.all_pairs-at-requires c).Start c.if-one-eq255.true) }
+pub all_pairs-at-requires-clause-h_in_bounds : goal.all_pairs-at-requires-clause-h_in_bounds
+all_pairs-at-requires-clause-h_in_bounds c =
+    omega (arith, c.requires.bridges_in_bounds, size (goal.at.all_pairs-at-requires-clause-h_in_bounds c).Start c.in-255.is)
 
-pub all_inputs-requires : goal.all_inputs-requires
-all_inputs-requires c =
-    record { instance_bound = (omega (arith, c.requires.place_bound), c.requires.place_bound.1, c.requires.place_bound.2); k_in_bounds = omega (arith, c.requires.bridges_in_bounds, size (goal.at.all_inputs-requires c).Start c.if-one-eq255.true, c.all_pairs-at.ensures.0, c.all_pairs-at.auto.rows) }
+pub all_inputs-requires-clause-k_in_bounds : goal.all_inputs-requires-clause-k_in_bounds
+all_inputs-requires-clause-k_in_bounds c =
+    let start = (goal.at.all_inputs-requires-clause-k_in_bounds c).Start in
+    omega (arith, c.requires.bridges_in_bounds, size start c.in-255.is, c.all_pairs-at.ensures.0, c.all_pairs-at.auto.rows)
 
-pub returns-then-one-eq255 : goal.returns-then-one-eq255
-returns-then-one-eq255 c =
-    all_listed (goal.at.returns-then-one-eq255 c).Start c.if-one-eq255.true _ _ _ _ c.all_pairs-at.ensures c.all_inputs.ensures
+pub returns-in-255 : goal.returns-in-255
+returns-in-255 c = all_listed (goal.at.returns-in-255 c).Start c.in-255.is _ _ _ _ c.all_pairs-at.ensures c.all_inputs.ensures
 
-pub returns-then-one-eq0 : goal.returns-then-one-eq0
-returns-then-one-eq0 c = none_listed (goal.at.returns-then-one-eq0 c).Start c.if-one-eq0.true
+pub returns-in-0 : goal.returns-in-0
+returns-in-0 c = none_listed (goal.at.returns-in-0 c).Start c.in-0.is
 
-pub listed-requires : goal.listed-requires
-listed-requires c =
-    let e = own (goal.at.listed-requires c).Start c.if-one-eq255.false c.if-one-eq0.false in
-    record { instance_bound = (omega (arith, c.requires.place_bound), c.requires.place_bound.3); bridges_in_bounds = rw (← e) c.requires.bridges_in_bounds }
+pub listed-requires-clause-bridges_in_bounds : goal.listed-requires-clause-bridges_in_bounds
+listed-requires-clause-bridges_in_bounds c =
+    let e = own (goal.at.listed-requires-clause-bridges_in_bounds c).Start (λ e. omega arith) (λ e. omega arith) in
+    rw (← e) c.requires.bridges_in_bounds
 
-pub returns : goal.returns
-returns c =
-    let e = own (goal.at.returns c).Start c.if-one-eq255.false c.if-one-eq0.false in
+pub returns-in_default : goal.returns-in_default
+returns-in_default c =
+    let e = own (goal.at.returns-in_default c).Start (λ e. omega arith) (λ e. omega arith) in
     rw e record { end = c.listed.ensures.0; listed = c.listed.ensures.1 }

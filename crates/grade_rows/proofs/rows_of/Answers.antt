@@ -1,10 +1,7 @@
--- `grade_rows::rows_of` meets its contract. The loop's invariant: whatever good circuit the record tells, the codes of its first `i` instances are written.
--- The measure is what is left of the instances. Assumes nothing.
-use Prim.Native.Nat.{ℕ, ◌≤◌, ◌<◌}
-use mathlib.Core.Path.{◌≡◌}
-use mathlib.Core.List.{List}
-use native.Mathlib.Omega.{arith}
-use lib.ListN.{length, get_or}
+-- `grade_rows::rows_of` meets its contract. The loop's invariant: whatever good circuit the record tells, the codes of its first `i`
+-- instances are written. Assumes nothing.
+use Rattle.std.proofs.Common.{◌≡◌, ℕ, ◌≤◌, ◌<◌, List, length, get_or, take, sym, arith, rules}
+use Rattle.std.proofs.lemmas.List.{get_or-take, length-take-le}
 use Rattle.circuit.specs.Circuit.{Circuit}
 use Rattle.circuit.specs.Records.{circuit_record}
 use Rattle.circuit.specs.Laws.{CircuitGood}
@@ -32,51 +29,71 @@ module _ (c : In-loop-i) where
   abbrev rows : List ℕ
   rows = c.loop-i.codes
 
-  here : (meant : Circuit) → told ≡ circuit_record meant → CircuitGood meant → index < length meant.instances
-  here meant is good = omega (arith, count_is meant good told is, c.loop-i-test.true)
-
   -- for the circuit that it is known to tell
   abbrev known : CircuitGiven told
   known = c.requires
 
+  -- the slice has as many instances as the count says
+  count : length (take told.instance_count told.instances) ≡ told.instance_count
+  count =
+      let long : length told.instances ≡ 128 = search rules in
+      length-take-le _ told.instances (omega (arith, count_few known.circuit known.good told known.is))
+
+  here : (meant : Circuit) → told ≡ circuit_record meant → CircuitGood meant → index < length meant.instances
+  here meant is good = omega (arith, count, count_is meant good told is)
+
   there : index < length known.circuit.instances
   there = here known.circuit known.is known.good
 
-  small : index < 128
-  small = omega (arith, count_few known.circuit known.good told known.is, c.loop-i-test.true)
+  read : get_or (take told.instance_count told.instances) index past_instance ≡ get_or told.instances index past_instance
+  read = get_or-take told.instance_count told.instances index past_instance (omega (arith, count))
 
   place : (1 ≤ (get_or told.instances index past_instance).type_number) × ((get_or told.instances index past_instance).type_number ≤ 16)
   place = type_place known.circuit known.good told known.is index no_instance there past_instance
 
+pub slice_bounds-bridges-end : goal.slice_bounds-bridges-end
+slice_bounds-bridges-end c =
+    let long : length c.args.c.bridges ≡ 256 = search rules in
+    omega (arith, bridges_few c.requires.circuit c.requires.good c.args.c c.requires.is)
+
+pub slice_bounds-used-end : goal.slice_bounds-used-end
+slice_bounds-used-end c =
+    let long : length c.args.c.bridges ≡ 256 = search rules in
+    sym (length-take-le _ c.args.c.bridges (omega (arith, bridges_few c.requires.circuit c.requires.good c.args.c c.requires.is)))
+
+pub slice_bounds-instances-end : goal.slice_bounds-instances-end
+slice_bounds-instances-end c =
+    let long : length c.args.c.instances ≡ 128 = search rules in
+    omega (arith, count_few c.requires.circuit c.requires.good c.args.c c.requires.is)
+
+pub slice_bounds-one-items-end : goal.slice_bounds-one-items-end
+slice_bounds-one-items-end c =
+    let long : length c.args.c.instances ≡ 128 = search rules in
+    sym (length-take-le _ c.args.c.instances (omega (arith, count_few c.requires.circuit c.requires.good c.args.c c.requires.is)))
+
 pub loop-i-init : goal.loop-i-init
 loop-i-init c = λ meant is good. rowed_none meant
 
-pub offset_bounds-instances-i : goal.offset_bounds-instances-i
-offset_bounds-instances-i c = omega (arith, small (goal.at.offset_bounds-instances-i c).In-loop-i)
-
-pub bounds-instances-i : goal.bounds-instances-i
-bounds-instances-i c = small (goal.at.bounds-instances-i c).In-loop-i
-
-pub overflow_cast-t : goal.overflow_cast-t
-overflow_cast-t c = omega (arith, place (goal.at.overflow_cast-t c).In-loop-i)
-
 pub overflow_sub-t : goal.overflow_sub-t
-overflow_sub-t c = (place (goal.at.overflow_sub-t c).In-loop-i).0
-
-pub offset_bounds-types-one : goal.offset_bounds-types-one
-offset_bounds-types-one c = omega (arith, place (goal.at.offset_bounds-types-one c).In-loop-i)
+overflow_sub-t c =
+    let turn = (goal.at.overflow_sub-t c).In-loop-i in
+    rw (read turn) (place turn).0
 
 pub bounds-types-one : goal.bounds-types-one
-bounds-types-one c = omega (arith, place (goal.at.bounds-types-one c).In-loop-i)
+bounds-types-one c =
+    let turn = (goal.at.bounds-types-one c).In-loop-i in
+    rw (read turn) (omega (arith, place turn))
 
 pub list_rows-at-requires : goal.list_rows-at-requires
 list_rows-at-requires c =
     let turn = (goal.at.list_rows-at-requires c).In-loop-i in
     let p = known turn in
     let at = there turn in
+    let so_far = turn.loop-i.invariant p.circuit p.is p.good in
     let few = type_few p.circuit p.good (told turn) p.is (index turn) no_instance at past_instance past_type in
-    let so_far = turn.loop-i.invariant p.circuit p.is p.good in record {
-      place_bound = (small turn, few.0, few.1, bridges_few p.circuit p.good (told turn) p.is);
+    let small : index turn < 128 = omega (arith, count turn, count_few p.circuit p.good (told turn) p.is) in
+    rw (read turn) record {
+      place_bound = (small, few.0, few.1);
       bridges_in_bounds = omega (
         arith,
         codes_long p.circuit p.good (told turn) p.is (index turn) no_instance at past_instance past_type,
@@ -85,23 +102,19 @@ list_rows-at-requires c =
       );
     }
 
-pub overflow_add-i : goal.overflow_add-i
-overflow_add-i c = omega (arith, small (goal.at.overflow_add-i c).In-loop-i)
-
-pub loop-i-smaller : goal.loop-i-smaller
-loop-i-smaller c = omega (arith, c.loop-i-test.true)
-
 pub loop-i-preserved : goal.loop-i-preserved
 loop-i-preserved c =
     λ meant is good.
     let turn = (goal.at.loop-i-preserved c).In-loop-i in
     let at = here turn meant is good in
     rowed_more meant good (rows turn) (next turn) (index turn) no_instance at (turn.loop-i.invariant meant is good) _ _ _
-    (instance_codes_lem meant good (told turn) is (index turn) no_instance at past_instance past_type) c.list_rows-at.ensures
+    (instance_codes_lem meant good (told turn) is (index turn) no_instance at past_instance past_type)
+    (rw (read turn) at c.list_rows-at.ensures)
 
 pub returns : goal.returns
 returns c =
     λ meant is good.
     let l = c.loop-i in
-    rowed_end meant good l.codes l.at l.i
-    (omega (arith, count_is meant good c.args.c is, c.loop-i-test.false)) (l.invariant meant is good)
+    let long : length c.args.c.instances ≡ 128 = search rules in
+    let count = length-take-le c.args.c.instance_count c.args.c.instances (omega (arith, count_few meant good c.args.c is)) in
+    rowed_end meant good l.codes l.at l.i (omega (arith, count_is meant good c.args.c is)) (l.invariant meant is good)

@@ -6,9 +6,12 @@ use mathlib.Core.List.{List, ◌++◌, map, map-append}
 use native.Mathlib.Nat.{zero-add}
 use native.Mathlib.Numerals.{add-one}
 use native.Mathlib.Omega.{arith}
+use borrow.Rule.Slice.PartMut.{put_mid}
 use lib.Dec.{T, eqb}
 use lib.ListN.{length, get_or, take, length-append, length-map}
-use lib.Seq.{length-take-le, take-append-le, take-take}
+use lib.Seq.{get_or-take, length-take-le, take-append-le, take-take}
+use Rattle.std.specs.List.{between}
+use Rattle.std.proofs.lemmas.List.Edits.{length-between, get_or-between}
 use Rattle.words.specs.Bits.{greatest_to}
 use Rattle.words.specs.Written.{written}
 use Rattle.words.proofs.Greatest.{greatest-more}
@@ -16,17 +19,16 @@ use Rattle.words.proofs.Tables.{length-table}
 use Rattle.words.proofs.WrittenLaws.{written_nothing, length_written, written_written}
 use Rattle.switch.specs.Modules.{ModuleType}
 use Rattle.switch.specs.Bridges.{Bridge, nodes}
-use Rattle.switch.specs.Promises.{is_at0, is_at1}
 use Rattle.switch.specs.Records.{TypeGiven, type_of}
 use Rattle.switch.specs.declared.ModuleType.{ModuleType as TypeRecord}
 use Rattle.switch.proofs.Deciding.{all_of_lem}
 use Rattle.circuit.specs.Circuit.{Circuit, Instance, Reference, primary, output_of, type_of_instance, join_lists}
 use Rattle.circuit.specs.Numbers.{reference_good}
-use Rattle.circuit.specs.Records.{type_record, instance_record, reference_record, unused_reference, circuit_record}
+use Rattle.circuit.specs.Records.{type_record, instance_record, reference_record, unused_reference, padded, circuit_record}
 use Rattle.circuit.specs.Laws.{TypeSound, CircuitGood}
 use Rattle.circuit.specs.declared.Circuit.{Circuit as CircuitRecord}
+use Rattle.circuit.specs.declared.Vector.{Vector as VectorRecord}
 use Rattle.circuit.specs.declared.Instance.{Instance as InstanceRecord}
-use Rattle.circuit.proofs.Padding.{get_or-padded}
 use Rattle.switch.proofs.Channels.{in_between}
 use Rattle.circuit.proofs.TypeLaws.{type_back, type_given}
 use Rattle.grading.specs.Given.{CircuitGiven}
@@ -34,19 +36,19 @@ use Rattle.grading.specs.Rows.{Row, no_instance, rows_of_instance, rows_from, ro
 use Rattle.grading.specs.Classes.{largest, classes_by, classes_of, found_count}
 use Rattle.grading.specs.Rounds.{instance_rounds, rounds_of}
 use Rattle.grading.specs.Grading.{over, counts_of_circuit}
-use Rattle.grading.specs.Codes.{code_of}
+use Rattle.grading.specs.Codes.{code_of, CodesFit}
 use Rattle.grading.proofs.ValueLaws.{InstanceAt, good_at, type_at, type-ranges}
-use Rattle.grading.proofs.RecordReads.{references_of, instance_is, type_read_lem}
+use Rattle.grading.proofs.RecordReads.{bridges_few, references_of, reference_at_lem, instance_is, type_read_lem}
 use Rattle.grading.proofs.RowLaws.{rows_before, grown as rows_grown, rows_all, length_rows, rows_grow, rows_few, rows_within, few_rows, faults_at}
-use Rattle.grading.proofs.Lists.{get_or-map_any}
 use Rattle.grading.proofs.FaultRanges.{faults-fit}
 use Rattle.grading.proofs.MatrixLaws.{length_matrix, matrix_append}
 use Rattle.grade_rows.specs.Model.{instance_codes, RowsListed}
 use Rattle.grade_rows.proofs.InstanceCodes.{codes_long as length-codes, listed_to, listed_long, listed_at, listed_fit}
-use Rattle.grade_marks.specs.Model.{signal_words, ReferencesFit, InstanceWords, instance_words, output_ones, output_zeros, rows_words, InstanceMarked}
-use Rattle.grade_marks.specs.Model.{InstanceGiven}
+use Rattle.grade_marks.specs.Model.{ReferencesFit, InstanceWords, instance_words, with_output, rows_words, InstanceGiven, InstanceMarked}
+use Rattle.grade_marks.proofs.Parts.{part_is}
+use Rattle.grade_inputs.specs.declared.Signals.{Signals}
 use Rattle.grade_inputs.specs.Inputs.{ones_of, zeros_of, input_words}
-use Rattle.grade_marks.proofs.SignalMeaning.{words_of, signals_start, signals_more}
+use Rattle.grade_marks.proofs.SignalMeaning.{signals_at, words_of, references_long, signals_start, signals_more}
 use Rattle.grade_marks.proofs.RowMeaning.{rows_words_lem}
 use Rattle.grade_marks.proofs.RoundMeaning.{rounds_meant}
 use Rattle.grade_classes.specs.Model.{label_numbers, keys_of, found_from, RowsClassed}
@@ -62,8 +64,7 @@ use Rattle.grade_file.specs.Model.{RowsMarked, Graded}
 -- what the loop changes: signals, the matrix, codes with keys in the place of those that are marked, the most rounds so far, and where the next
 -- instance and its rows begin
 pub record State : Type 0 where
-  pub ones : List ℕ
-  pub zeros : List ℕ
+  pub signals : Signals
   pub matrix : List ℕ
   pub codes : List ℕ
   pub from : ℕ
@@ -75,8 +76,7 @@ matrix_to c i = join_lists (map (row_words c) (rows_before c i))
 
 pub record Turned (c : Circuit) (matrix₀ : List ℕ) (s : State) : Type 0 where
   pub inside : s.place ≤ length c.instances
-  pub ones_are : s.ones ≡ signal_words is_at1 c s.place
-  pub zeros_are : s.zeros ≡ signal_words is_at0 c s.place
+  pub signals_are : s.signals ≡ signals_at c s.place
   pub from_is : s.from ≡ length (rows_before c s.place)
   pub matrix_is : s.matrix ≡ written matrix₀ 0 (join_lists (map (row_words c) (rows_before c s.place)))
   pub codes_long : length s.codes ≡ 2048
@@ -97,6 +97,9 @@ take-kept buffer at text h =
     ∙ take-append-le at (take at buffer) text (omega (arith, front))
     ∙ take-take at at buffer (omega arith)
 
+abbrev signals_with : List ℕ → List ℕ → Signals
+signals_with ones zeros = record { ones = ones; zeros = zeros }
+
 module _ (c : Circuit) (m : CircuitRecord) (is : m ≡ circuit_record c) where
   pub vectors_are : m.vector_count ≡ length c.vectors
   unfolding circuit_record
@@ -111,21 +114,52 @@ module _ (c : Circuit) (m : CircuitRecord) (is : m ≡ circuit_record c) where
   unfolding circuit_record rows_of
   faults_are = ap (λ (x : CircuitRecord). x.faults) is ∙ sym (length_rows c.types c.bridges 1 c.instances)
 
-  pub turned_none : (matrix ones zeros codes : List ℕ) → length codes ≡ 2048
-      → ones ≡ input_words (ones_of m.vectors) ((m.vector_count + 63) / 64)
-      → zeros ≡ input_words (zeros_of m.vectors) ((m.vector_count + 63) / 64)
-      → Turned c matrix record { ones = ones; zeros = zeros; matrix = matrix; codes = codes; from = 0; rounds = 0; place = 0 }
+  pub turned_none : (matrix codes : List ℕ) (signals : Signals) → length codes ≡ 2048
+      → signals.ones ≡ input_words (ones_of m.vectors) ((m.vector_count + 63) / 64)
+      → signals.zeros ≡ input_words (zeros_of m.vectors) ((m.vector_count + 63) / 64)
+      → Turned c matrix record { signals = signals; matrix = matrix; codes = codes; from = 0; rounds = 0; place = 0 }
   unfolding circuit_record join_lists rows_from greatest_to
-  turned_none matrix ones zeros codes long e g = record {
+  turned_none matrix codes signals long e g = record {
     inside = omega arith;
-    ones_are = e ∙ ap (λ (x : CircuitRecord). input_words (ones_of x.vectors) ((x.vector_count + 63) / 64)) is ∙ (signals_start c).0;
-    zeros_are = g ∙ ap (λ (x : CircuitRecord). input_words (zeros_of x.vectors) ((x.vector_count + 63) / 64)) is ∙ (signals_start c).1;
+    signals_are =
+        let inputs : List VectorRecord → ℕ → Signals
+        = λ vectors n. signals_with (input_words (ones_of vectors) n) (input_words (zeros_of vectors) n) in
+        let start = signals_start c in
+        ap₂ signals_with e g
+        ∙ ap (λ (x : CircuitRecord). inputs x.vectors ((x.vector_count + 63) / 64)) is
+        ∙ ap₂ signals_with start.0 start.1;
     from_is = refl;
     matrix_is = sym (written_nothing matrix 0);
     codes_long = long;
     keys_are = refl;
     rounds_are = refl;
   }
+
+-- the counts of a circuit are within the places for them
+module _ (m : CircuitRecord) (told : CircuitGiven m) where
+  pub bridges_fit : m.bridge_count ≤ 256
+  bridges_fit = bridges_few told.circuit told.good m told.is
+
+  pub instances_fit : m.instance_count ≤ 128
+  instances_fit = omega (arith, instances_are told.circuit m told.is, told.good.few_instances)
+
+  pub bridges_long : length m.bridges ≡ 256
+  unfolding circuit_record padded
+  bridges_long = ap (λ (x : CircuitRecord). length x.bridges) told.is ∙ length-table 256 _
+
+  pub instances_long : length m.instances ≡ 128
+  unfolding circuit_record padded
+  instances_long = ap (λ (x : CircuitRecord). length x.instances) told.is ∙ length-table 128 _
+
+  -- those in use
+  pub bridges_used : length (take m.bridge_count m.bridges) ≡ m.bridge_count
+  bridges_used = length-take-le m.bridge_count m.bridges (omega (arith, bridges_fit, bridges_long))
+
+  pub instances_used : length (take m.instance_count m.instances) ≡ m.instance_count
+  instances_used = length-take-le m.instance_count m.instances (omega (arith, instances_fit, instances_long))
+
+  pub vectors_fit : m.vector_count ≤ 256
+  vectors_fit = omega (arith, vectors_are told.circuit m told.is, told.good.few_vectors)
 
 -- ---- at any turn
 
@@ -173,6 +207,10 @@ module _ (m : CircuitRecord) (told : CircuitGiven m) (matrix₀ matrix' codes' :
 
   pub faults_few : m.faults ≤ 2048
   faults_few = omega (arith, faults_are whole m told.is, few_rows whole told.good)
+
+  -- the keys of its rows are the codes in use
+  pub keys_used : length (take m.faults codes') ≡ m.faults
+  keys_used = length-take-le m.faults codes' (omega (arith, faults_few, marked.codes_long))
 
   matrix_here : matrix' ≡ written matrix₀ 0 (matrix_of whole)
   matrix_here = marked.matrix_is ∙ sym (over-is (matrix_of whole) matrix₀)
@@ -277,31 +315,37 @@ module _ (c : Circuit) (good : CircuitGood c) (m : CircuitRecord) (is : m ≡ ci
       unfolding type_record
       output_is = ap (λ (x : TypeRecord). x.output) t_is
 
-      references_fit : ReferencesFit one.references t.labels
+      references_fit : ReferencesFit (take t.labels one.references)
       references_fit =
           rw (references_are, labels_are)
-          record { few = few; some = λ l q. (range l q).0; most = λ l q. (range l q).1 }
+          record { few = omega (arith, few, kept); some = λ l q. (range l q).0; most = λ l q. (range l q).1 }
         where
           few : type.labels ≤ 12
           few = (type-ranges type sound).labels_high
 
-          range : (l : ℕ) → l < type.labels
-              → (1 ≤ (get_or (references_of inst) l unused_reference).number) × ((get_or (references_of inst) l unused_reference).number ≤ 64 + 64)
+          kept : length (take type.labels (references_of inst)) ≡ type.labels
+          kept = length-take-le type.labels (references_of inst) (omega (arith, few, references_long inst))
+
+          range : (l : ℕ) → l < length (take type.labels (references_of inst))
+              → (1 ≤ (get_or (take type.labels (references_of inst)) l unused_reference).number)
+              × ((get_or (take type.labels (references_of inst)) l unused_reference).number ≤ 64 + 64)
           range l q =
               let g = good_at c i inst at in
-              let here : l < length inst.references = omega (arith, g.count) in
-              let tied = (all_of_lem (reference_good c.inputs i) (primary 0) inst.references).0 g.references l here in
-              let is_at : get_or (references_of inst) l unused_reference ≡ reference_record (get_or inst.references l (primary 0))
-              = get_or-padded unused_reference 12 (map reference_record inst.references) unused_reference l (omega (arith, few))
-              ∙ get_or-map_any reference_record inst.references l (primary 0) unused_reference here in
-              rw is_at (number-range c.inputs i (get_or inst.references l (primary 0)) good.few_inputs place_few tied)
+              let label : l < type.labels = omega (arith, kept) in
+              let tied = (all_of_lem (reference_good c.inputs i) (primary 0) inst.references).0 g.references l (omega (arith, g.count)) in
+              rw (get_or-take type.labels (references_of inst) l unused_reference label, reference_at_lem inst l (omega (arith, few)))
+              (number-range c.inputs i (get_or inst.references l (primary 0)) good.few_inputs place_few tied)
 
 -- ---- one turn, with e and u what stands past the places for instances and types
 
 -- what the calls of a turn ask of an instance of type t whose codes are listed up to a place
 pub record TurnFits (t : TypeRecord) (one : InstanceRecord) (s : State) (codes : List ℕ) (to : ℕ) : Type 0 where
   pub codes_long : length codes ≡ 2048
-  pub marks : InstanceGiven t one.references s.place codes s.from to s.ones s.zeros s.matrix
+  pub order : s.from ≤ to
+  pub most : to ≤ 2048
+  pub room : 4 * to ≤ length s.matrix
+  pub codes_fit : CodesFit codes s.from to
+  pub marks : InstanceGiven t one.references s.place (between s.from to codes) (between (4 * s.from) (4 * to) s.matrix)
 
 module _ (m : CircuitRecord) (told : CircuitGiven m) (matrix₀ : List ℕ) (room : 4 * m.faults ≤ length matrix₀) (s : State)
     (so_far : Turned told.circuit matrix₀ s) (h : s.place < length told.circuit.instances) (e : InstanceRecord) (u : TypeRecord) where
@@ -350,46 +394,70 @@ module _ (m : CircuitRecord) (told : CircuitGiven m) (matrix₀ : List ℕ) (roo
     within : to ≤ length (rows_of d)
     within = omega (arith, to_is, rows_within d (suc i))
 
-    pub order : (s.from ≤ to) × (to ≤ 2048)
+    order : (s.from ≤ to) × (to ≤ 2048)
     order = (omega (arith, long), omega (arith, within, few_rows d good))
 
-    signals_long : (length s.ones ≡ 768) × (length s.zeros ≡ 768)
-    unfolding signal_words
-    signals_long = (ap length so_far.ones_are ∙ length-table 768 _, ap length so_far.zeros_are ∙ length-table 768 _)
+    matrix_room : 4 * to ≤ length s.matrix
+    matrix_room = omega (arith, matrix_long m told matrix₀ room s so_far, within, room, faults_are d m is)
+
+    codes_many : length codes ≡ 2048
+    codes_many = listed_long d good m is i no_instance h e u s.codes s.from to codes listed few_faults ∙ so_far.codes_long
+
+    codes_fit : CodesFit codes s.from to
+    codes_fit = listed_fit d good m is i no_instance h e u s.codes s.from to codes listed few_faults
+
+    -- its part of the codes, and of the matrix
+    abbrev its_codes : List ℕ
+    its_codes = between s.from to codes
+
+    abbrev its_part : List ℕ
+    its_part = between (4 * s.from) (4 * to) s.matrix
+
+    its_many : length its_codes ≡ to - s.from
+    its_many = length-between codes s.from to (omega (arith, order.1, codes_many))
+
+    its_code : (j : ℕ) → j < to - s.from → get_or its_codes j 0 ≡ get_or codes (s.from + j) 0
+    its_code j q = get_or-between codes s.from to j 0 (omega arith)
+
+    its_codes_fit : CodesFit its_codes 0 (length its_codes)
+    unfolding CodesFit
+    its_codes_fit j low high =
+        let inside : j < to - s.from = omega (arith, its_many) in
+        rw (its_code j inside) (codes_fit (s.from + j) (omega arith) (omega arith))
 
     -- what the calls of a turn ask
     pub turn_fits : TurnFits type' its s codes to
     turn_fits = record {
-      codes_long = listed_long d good m is i no_instance h e u s.codes s.from to codes listed few_faults ∙ so_far.codes_long;
+      codes_long = codes_many;
+      order = order.0;
+      most = order.1;
+      room = matrix_room;
+      codes_fit = codes_fit;
       marks = record {
         sound = type_there d good m is i h e u;
         tied = references_fit d good m is i h e u;
         placed = place_few d good m is i h;
-        ones_long = signals_long.0;
-        zeros_long = signals_long.1;
-        order = order.0;
-        most = order.1;
-        room = omega (arith, matrix_long m told matrix₀ room s so_far, within, room, faults_are d m is);
-        codes = listed_fit d good m is i no_instance h e u s.codes s.from to codes listed few_faults;
+        room = omega (arith, length-between s.matrix (4 * s.from) (4 * to) matrix_room, its_many);
+        codes = its_codes_fit;
       };
     }
 
     -- what the calls of a turn answer
-    module _ (ones' zeros' matrix' : List ℕ) (its-rounds : ℕ)
-        (marked : InstanceMarked type' its.references i m.vector_count codes s.from to s.ones s.zeros s.matrix ones' zeros' matrix' its-rounds)
+    module _ (signals' : Signals) (part' : List ℕ) (its-rounds : ℕ)
+        (marked : InstanceMarked type' its.references i m.vector_count its_codes s.signals signals' part' its-rounds)
         (codes' : List ℕ) (keyed : codes' ≡ written codes s.from (keys_of codes (i + 1) type'.output (label_numbers its.references) s.from to))
         (rounds' : ℕ) (greatest : rounds' ≡ max s.rounds its-rounds) where
       stand : Bridge
       stand = nodes 0 0
 
       abbrev read : InstanceWords
-      read = instance_words (type_of type') its.references s.ones s.zeros
+      read = instance_words (type_of type') its.references s.signals
 
       abbrev its_words : InstanceWords
       its_words = words_of d i (inst d good m is i h)
 
       words_here : read ≡ its_words
-      words_here = rw (type_meant d good m is i h e u, references_are d good m is i h e, so_far.ones_are, so_far.zeros_are)
+      words_here = rw (type_meant d good m is i h e u, references_are d good m is i h e, so_far.signals_are)
 
       codes_here : (j : ℕ) → j < to - s.from → get_or codes (s.from + j) 0 ≡ code_of (suc i) (get_or faults j stand)
       codes_here j q = listed_at d good m is i no_instance h e u s.codes s.from to codes listed few_faults j (omega (arith, long)) stand
@@ -398,14 +466,19 @@ module _ (m : CircuitRecord) (told : CircuitGiven m) (matrix₀ : List ℕ) (roo
       grown = rows_grown d i h no_instance (inst d good m is i h) refl
 
       -- the matrix
-      texts : rows_words codes read.supply read.ground read.ones read.zeros m.vector_count s.from to
-          ≡ join_lists (map (row_words d) new)
+      texts : part' ≡ join_lists (map (row_words d) new)
       texts =
-          ap (λ (r : InstanceWords). rows_words codes r.supply r.ground r.ones r.zeros m.vector_count s.from to) words_here
-          ∙ ap (λ (n : ℕ). rows_words codes its_words.supply its_words.ground its_words.ones its_words.zeros n s.from to) (vectors_are d m is)
-          ∙ rows_words_lem d i (inst d good m is i h) (at d good m is i h) codes s.from to stand (omega (arith, long)) codes_here
+          marked.rows_are
+          ∙ ap (λ (r : InstanceWords). rows_words its_codes r.rails r.labels m.vector_count) words_here
+          ∙ ap (rows_words its_codes its_words.rails its_words.labels) (vectors_are d m is)
+          ∙ rows_words_lem d i (inst d good m is i h) (at d good m is i h) its_codes stand (omega (arith, its_many, long))
+          (λ j q. let inside : j < to - s.from = omega (arith, its_many) in its_code j inside ∙ codes_here j inside)
 
-      matrix_next : matrix' ≡ written matrix₀ 0 (matrix_to d (suc i))
+      part_many : length part' ≡ 4 * to - 4 * s.from
+      unfolding rows_words
+      part_many = ap length marked.rows_are ∙ length-table (4 * length its_codes) _ ∙ omega (arith, its_many)
+
+      matrix_next : put_mid (4 * s.from) (4 * to - 4 * s.from) s.matrix part' ≡ written matrix₀ 0 (matrix_to d (suc i))
       matrix_next =
           let added : List ℕ = join_lists (map (row_words d) new) in
           let whole : matrix_to d (suc i) ≡ matrix_to d i ++ added
@@ -413,7 +486,7 @@ module _ (m : CircuitRecord) (told : CircuitGiven m) (matrix₀ : List ℕ) (roo
           let place : 4 * s.from ≡ 0 + length (matrix_to d i) = omega (arith, so_far.from_is, length_matrix d (rows_before d i)) in
           let fits : 0 + length (matrix_to d i ++ added) ≤ length matrix₀
           = rw (← whole) (omega (arith, length_matrix d (rows_before d (suc i)), rows_within d (suc i), room, faults_are d m is)) in
-          marked.rows_are
+          part_is s.matrix part' (4 * s.from) (4 * to - 4 * s.from) part_many
           ∙ rw (texts, so_far.matrix_is, place)
           (written_written matrix₀ 0 (matrix_to d i) added fits ∙ ap (written matrix₀ 0) (sym whole))
 
@@ -446,26 +519,32 @@ module _ (m : CircuitRecord) (told : CircuitGiven m) (matrix₀ : List ℕ) (roo
       rounds_next : rounds' ≡ greatest_to (suc i) (instance_rounds d)
       rounds_next =
           let its_own : its-rounds ≡ instance_rounds d i
-          = marked.rounds_are ∙ ap (λ (r : InstanceWords). r.rounds) words_here ∙ rounds_meant d good i h in
+          = marked.rounds_are ∙ ap (λ (r : InstanceWords). r.rails.rounds) words_here ∙ rounds_meant d good i h in
           greatest ∙ ap₂ max so_far.rounds_are its_own ∙ sym (greatest-more i (instance_rounds d))
 
-      turned : Turned d matrix₀ record { ones = ones'; zeros = zeros'; matrix = matrix'; codes = codes'; from = to; rounds = rounds'; place = suc i }
-      turned =
-          let signals = signals_more d i (inst d good m is i h) (at d good m is i h) in
+      -- the signals
+      signals_next : signals' ≡ signals_at d (suc i)
+      signals_next =
+          marked.signals_are
+          ∙ ap (λ (r : InstanceWords). with_output s.signals i r.rails type'.output) words_here
+          ∙ rw (so_far.signals_are, output_is d good m is i h e u) (signals_more d i (inst d good m is i h) (at d good m is i h))
+
+      pub turn : Turned d matrix₀ record {
+        signals = signals';
+        matrix = put_mid (4 * s.from) (4 * to - 4 * s.from) s.matrix part';
+        codes = codes';
+        from = to;
+        rounds = rounds';
+        place = i + 1;
+      }
+      turn =
+          rw (add-one i)
           record {
             inside = h;
-            ones_are = marked.ones_are
-                ∙ ap (λ (r : InstanceWords). written s.ones (4 * (64 + i)) (output_ones r.supply r.ground type'.output)) words_here
-                ∙ rw (so_far.ones_are, output_is d good m is i h e u) signals.0;
-            zeros_are = marked.zeros_are
-                ∙ ap (λ (r : InstanceWords). written s.zeros (4 * (64 + i)) (output_zeros r.supply r.ground type'.output)) words_here
-                ∙ rw (so_far.zeros_are, output_is d good m is i h e u) signals.1;
+            signals_are = signals_next;
             from_is = to_is;
             matrix_is = matrix_next;
             codes_long = ap length keyed ∙ keyed_long codes (i + 1) type'.output labels s.from to inside ∙ turn_fits.codes_long;
             keys_are = keys_next;
             rounds_are = rounds_next;
           }
-
-      pub turn : Turned d matrix₀ record { ones = ones'; zeros = zeros'; matrix = matrix'; codes = codes'; from = to; rounds = rounds'; place = i + 1 }
-      turn = rw (add-one i) turned

@@ -1,5 +1,6 @@
 // Grading a file or a circuit: reading, the refusals of the buffers, then the rows, instance by instance, and the classes of all of them.
-ghost use Rattle.std.specs.Prelude.{◌*◌, ◌≤◌, ◌≡◌, length};
+ghost use Rattle.std.specs.Prelude.{◌+◌, ◌*◌, ◌/◌, ◌≤◌, ◌≡◌, length, replicate};
+ghost use Rattle.grade_inputs.specs.Inputs.{ones_of, zeros_of, input_words};
 ghost use Rattle.circuit.specs.Circuit.{Circuit as CircuitMeant};
 ghost use Rattle.circuit.specs.Records.{circuit_record};
 ghost use Rattle.circuit.specs.Laws.{CircuitGood};
@@ -9,79 +10,79 @@ ghost use Rattle.grading.specs.CircuitPromise.{PromiseOfCircuit};
 ghost use Rattle.grading.specs.Promise.{Promise, PromiseOfRead};
 ghost use Rattle.grade_file.specs.Model.{Graded, RowsMarked};
 
-use circuit::limits::MOST_FAULTS;
+use circuit::limits::{MOST_FAULTS, MOST_VECTORS};
 use circuit::refusal::refuses;
-use circuit::{Circuit, Reading};
-use grade_classes::{Classed, class_rows, write_keys};
-use grade_inputs::put_signals;
+use circuit::{Circuit, Reading, Vector};
+use grade_classes::{class_rows, write_keys};
+use grade_inputs::{Signals, put_signals};
 use grade_marks::instance::mark_instance;
 use grade_rows::list_rows;
 use grading::{Answer, Counts};
 use read_file::read::read_stages;
-use words::greater;
 
-fn counted(vectors: usize, faults: usize, classed: Classed, rounds: usize) -> Counts
-    ensures { result ≡ record { vectors = vectors; faults = faults; classes = classed.count; found = classed.found; rounds = rounds } }
+// The signals of vectors, put into signals that are 0. The vectors are handed over whole, so that their copy is done with here: lent by the caller it takes 2 KB of stack more.
+fn put_inputs(vectors: [Vector; MOST_VECTORS], count: usize, signals: &mut Signals)
+    requires count_bound { count ≤ 256 }
+    requires signals_value { (signals.old.ones ≡ replicate 768 0) × (signals.old.zeros ≡ replicate 768 0) }
+    ensures { (signals.new.ones ≡ input_words (ones_of vectors) ((count + 63) / 64)) × (signals.new.zeros ≡ input_words (zeros_of vectors) ((count + 63) / 64)) }
 {
-    Counts {
-        vectors,
-        faults,
-        classes: classed.count as usize,
-        found: classed.found,
-        rounds,
-    }
+    put_signals(&vectors, count.div_ceil(64), signals);
 }
 
 // The rows of a circuit listed, marked and keyed, instance by instance; answers the rounds that joining took.
-// The arrays are taken out of the circuit, each once: one that is indexed inside it makes the compiler copy the circuit whole, and its bridges and vectors again.
+// The arrays are taken out of the circuit, each once: one that is indexed inside it makes the compiler copy the circuit whole, and its bridges and vectors again. So it does with a circuit that is lent, which takes 6,960 bytes of stack more.
 // The signals are put before types, bridges and instances are taken, so that the compiler lays these where the vectors were.
 fn mark_rows(c: Circuit, matrix: &mut [u64], codes: &mut [u32; MOST_FAULTS]) -> usize
-    requires { CircuitGiven c × (4 * c.faults ≤ length matrix.old) × (length codes.old ≡ 2048) }
+    requires circuit_given { CircuitGiven c }
+    requires matrix_len { 4 * c.faults ≤ length matrix.old }
     ensures { (meant : CircuitMeant) → c ≡ circuit_record meant → CircuitGood meant → RowsMarked meant matrix.old matrix.new codes.new result }
 {
-    let vectors = c.vectors;
-    let mut ones = [0u64; 768];
-    let mut zeros = [0u64; 768];
-    put_signals(vectors, (c.vector_count + 63) / 64, &mut ones, &mut zeros);
+    let mut signals = Signals {
+        ones: [0u64; 768],
+        zeros: [0u64; 768],
+    };
+    put_inputs(c.vectors, c.vector_count, &mut signals);
     let types = c.types;
     let bridges = c.bridges;
     let instances = c.instances;
     let mut from: usize = 0;
     let mut rounds: usize = 0;
-    let mut i: usize = 0;
-    while i < c.instance_count {
-        let one = instances[i];
+    for (i, one) in instances[..c.instance_count].iter().enumerate() {
         let t = types[(one.type_number as usize) - 1];
-        let to = list_rows(one, t, bridges, c.bridge_count, i, codes, from);
+        let to = list_rows(*one, t, &bridges[..c.bridge_count], i, codes, from);
         let its_rounds = mark_instance(
             t,
-            one,
+            *one,
             i,
             c.vector_count,
-            codes,
-            from,
-            to,
-            &mut ones,
-            &mut zeros,
-            matrix,
+            &codes[from..to],
+            &mut signals,
+            &mut matrix[4 * from..4 * to],
         );
-        write_keys(codes, from, to, i, one, t.output);
-        rounds = greater(rounds, its_rounds);
+        write_keys(codes, from, to, i, *one, t.output);
+        rounds = rounds.max(its_rounds);
         from = to;
-        i += 1;
     }
     rounds
 }
 
 // The counts of a circuit whose buffers are long enough, with its rows and classes written.
 fn fill_buffers(c: Circuit, matrix: &mut [u64], classes: &mut [u16]) -> Counts
-    requires { CircuitGiven c × (4 * c.faults ≤ length matrix.old) × (c.faults ≤ length classes.old) }
+    requires circuit_given { CircuitGiven c }
+    requires matrix_len { 4 * c.faults ≤ length matrix.old }
+    requires classes_len { c.faults ≤ length classes.old }
     ensures { (meant : CircuitMeant) → c ≡ circuit_record meant → CircuitGood meant → Graded meant result matrix.old classes.old matrix.new classes.new }
 {
     let mut codes = [0u32; MOST_FAULTS];
     let rounds = mark_rows(c, matrix, &mut codes);
-    let classed = class_rows(&codes, c.faults, matrix, classes);
-    counted(c.vector_count, c.faults, classed, rounds)
+    let classed = class_rows(&codes[..c.faults], matrix, classes);
+    Counts {
+        vectors: c.vector_count,
+        faults: c.faults,
+        classes: classed.count as usize,
+        found: classed.found,
+        rounds,
+    }
 }
 
 // A circuit that reading gives: the counts, with the matrix and the classes written, or the buffer that is too short, with both as they were.

@@ -25,7 +25,7 @@ module _ (c : Circuit) (good : CircuitGood c) (i : ℕ) (here : i < length c.ins
   at : InstanceAt c i inst
   at = record { good = good; within = here; none = no_instance; is = refl }
 
-  planes_at : PlanesAt c i (words_of c i inst).ones (words_of c i inst).zeros
+  planes_at : PlanesAt c i (words_of c i inst).labels.ones (words_of c i inst).labels.zeros
   unfolding values_at vector_at
   planes_at = record {
     hold = λ w v hw hv.
@@ -33,6 +33,6 @@ module _ (c : Circuit) (good : CircuitGood c) (i : ℕ) (here : i < length c.ins
         (labels_hold c i inst at w v hw hv);
   }
 
-  pub rounds_meant : (words_of c i inst).rounds ≡ instance_rounds c i
+  pub rounds_meant : (words_of c i inst).rails.rounds ≡ instance_rounds c i
   unfolding type_at
-  rounds_meant = step_counts c good i here (words_of c i inst).ones (words_of c i inst).zeros planes_at
+  rounds_meant = step_counts c good i here (words_of c i inst).labels.ones (words_of c i inst).labels.zeros planes_at

@@ -23,6 +23,7 @@ use Rattle.switch.specs.Modules.{ModuleType, all_of, links_of}
 use Rattle.switch.specs.Bridges.{Bridge, nodes, input, MarkedByEnds}
 use Rattle.switch.specs.Deciding.{joins, is_marked}
 use Rattle.switch.specs.Promises.{rail_words, is_at0, is_at1}
+use Rattle.switch.specs.declared.Rails.{Rails}
 use Rattle.switch.specs.Statements.{Accepted}
 use Rattle.switch.proofs.Paths.{both}
 use Rattle.switch.proofs.Deciding.{same_test, and_both, all_of_lem, joins_decides, mark_decides}
@@ -40,7 +41,9 @@ use Rattle.grading.proofs.MatrixLaws.{matrix_table}
 use Rattle.grading.proofs.OrTests.{in_first, in_second, or_cases}
 use Rattle.grading.proofs.Everywhere.{Every, every_append, every_at, every_table, every_join}
 use Rattle.grading.proofs.ValueLaws.{InstanceAt, type-ranges, type-accepted, good_at, type_at}
-use Rattle.grade_marks.specs.Model.{vector_at, outputs_at, InstanceWords, pair_word, input_mark_word, mark_word, vectors_in, rows_words}
+use Rattle.grade_marks.specs.declared.labels.LabelPlanes.{LabelPlanes}
+use Rattle.grade_marks.specs.Model.{vector_at, outputs_at, InstanceWords, pair_word}
+use Rattle.grade_marks.specs.Model.{input_mark_word, mark_word, vectors_in, rows_word, rows_words}
 use Rattle.grade_marks.proofs.OutputLaws.{label_sees}
 use Rattle.grade_marks.proofs.SignalMeaning.{labels_of, words_of, label_at, node_at, label_ones, label_zeros, labels_hold}
 
@@ -155,15 +158,14 @@ module _ (t : ModuleType) (accepted : Accepted t) (values : ℕ → Value) where
 
 -- ---- a code's word
 
-module _ (to_supply to_ground ones zeros : List ℕ) (w : ℕ) where
-  nodes_word : (n a b : ℕ) → a < 32 → b < 32
-      → mark_word to_supply to_ground ones zeros (code_of n (nodes a b)) w ≡ pair_word to_supply to_ground (4 * a + w) (4 * b + w)
+module _ (rails : Rails) (labels : LabelPlanes) (w : ℕ) where
+  nodes_word : (n a b : ℕ) → a < 32 → b < 32 → mark_word rails labels (code_of n (nodes a b)) w ≡ pair_word rails (4 * a + w) (4 * b + w)
   unfolding mark_word kind_of first_end second_end
   nodes_word n a b ha hb =
       let d : Bridge = nodes a b in rw (code_kind n d (ha, hb), code_first n d (ha, hb), code_second n d (ha, hb))
 
   input_word_lem : (n m l : ℕ) → m < 32 → l < 12
-      → mark_word to_supply to_ground ones zeros (code_of n (input m l)) w ≡ input_mark_word to_supply to_ground ones zeros (4 * m + w) (4 * l + w)
+      → mark_word rails labels (code_of n (input m l)) w ≡ input_mark_word rails labels (4 * m + w) (4 * l + w)
   unfolding mark_word kind_of first_end second_end
   input_word_lem n m l hm hl =
       let d : Bridge = input m l in rw (code_kind n d (hm, hl), code_first n d (hm, hl), code_second n d (hm, hl))
@@ -188,25 +190,27 @@ module _ (c : Circuit) (i : ℕ) (inst : Instance) (at : InstanceAt c i inst) wh
         bit_of_values t (labels_of is_at1 c i inst w) (labels_of is_at0 c i inst w) rail m v values h hv (labels_hold c i inst at w v hw hv)
 
     supply_bit : (m : ℕ) → m < 32
-        → bit (get_or (words_of c i inst).supply (4 * m + w) 0) v ≡ of_bool (joins (links_of (type_of_instance c.types inst) values) m supply)
+        → bit (get_or (words_of c i inst).rails.supply (4 * m + w) 0) v
+        ≡ of_bool (joins (links_of (type_of_instance c.types inst) values) m supply)
     supply_bit m h = rw (node_at c i inst supply m w h hw) (rail_bit supply m h)
 
     ground_bit : (m : ℕ) → m < 32
-        → bit (get_or (words_of c i inst).ground (4 * m + w) 0) v ≡ of_bool (joins (links_of (type_of_instance c.types inst) values) m ground)
+        → bit (get_or (words_of c i inst).rails.ground (4 * m + w) 0) v
+        ≡ of_bool (joins (links_of (type_of_instance c.types inst) values) m ground)
     ground_bit m h = rw (node_at c i inst ground m w h hw) (rail_bit ground m h)
 
-    ones_bit : (l : ℕ) → l < 12 → bit (get_or (words_of c i inst).ones (4 * l + w) 0) v ≡ is_at1 (values l)
+    ones_bit : (l : ℕ) → l < 12 → bit (get_or (words_of c i inst).labels.ones (4 * l + w) 0) v ≡ is_at1 (values l)
     ones_bit l h = rw (label_at c i inst is_at1 l w h hw) (label_ones c i inst at w v l hw hv)
 
-    zeros_bit : (l : ℕ) → l < 12 → bit (get_or (words_of c i inst).zeros (4 * l + w) 0) v ≡ is_at0 (values l)
+    zeros_bit : (l : ℕ) → l < 12 → bit (get_or (words_of c i inst).labels.zeros (4 * l + w) 0) v ≡ is_at0 (values l)
     zeros_bit l h = rw (label_at c i inst is_at0 l w h hw) (label_zeros c i inst at w v l hw hv)
 
     -- the bit of a row's code is its mark
     mark_bit : (b : Bridge) → T (bridge_suits (type_of_instance c.types inst) b)
         → let words = words_of c i inst in
-        bit (mark_word words.supply words.ground words.ones words.zeros (code_of (suc i) b) w) v
+        bit (mark_word words.rails words.labels (code_of (suc i) b) w) v
         ≡ of_bool (is_marked (type_of_instance c.types inst) values b)
-    unfolding bridge_suits pair_word input_mark_word
+    unfolding bridge_suits
     mark_bit (nodes a b) suits =
         let t : ModuleType = type_of_instance c.types inst in
         let words : InstanceWords = words_of c i inst in
@@ -215,7 +219,7 @@ module _ (c : Circuit) (i : ℕ) (inst : Instance) (at : InstanceAt c i inst) wh
         let ends = both (leb a t.highest) (leb b t.highest) suits in
         let ha : a < 32 = omega (arith, leb→le a t.highest ends.0) in
         let hb : b < 32 = omega (arith, leb→le b t.highest ends.1) in
-        rw (nodes_word words.supply words.ground words.ones words.zeros w (suc i) a b ha hb, bit_or_lem)
+        rw (nodes_word words.rails words.labels w (suc i) a b ha hb, bit_or_lem)
         (simp (bit_and_lem, supply_bit a ha, ground_bit b hb, ground_bit a ha, supply_bit b hb)
         (pair_mark t (type-accepted t tg) values a b))
     mark_bit (input m l) suits =
@@ -226,7 +230,7 @@ module _ (c : Circuit) (i : ℕ) (inst : Instance) (at : InstanceAt c i inst) wh
         let ends = both (leb m t.highest) (ltb l t.labels) suits in
         let hm : m < 32 = omega (arith, leb→le m t.highest ends.0, ranges.highest) in
         let hl : l < 12 = omega (arith, ltb→lt l t.labels ends.1, ranges.labels_high) in
-        rw (input_word_lem words.supply words.ground words.ones words.zeros w (suc i) m l hm hl, bit_or_lem)
+        rw (input_word_lem words.rails words.labels w (suc i) m l hm hl, bit_or_lem)
         (simp (bit_and_lem, supply_bit m hm, ground_bit m hm, ones_bit l hl, zeros_bit l hl)
         (input_mark t (type-accepted t tg) values m l (values l) refl))
 
@@ -241,9 +245,9 @@ module _ (c : Circuit) (i : ℕ) (inst : Instance) (at : InstanceAt c i inst) wh
 
   pub row_words_lem : (b : Bridge) → T (bridge_suits (type_of_instance c.types inst) b) → (w : ℕ) → w < 4
       → let words = words_of c i inst in
-      bit_and (mark_word words.supply words.ground words.ones words.zeros (code_of (suc i) b) w) (vectors_in (length c.vectors) w)
+      bit_and (mark_word words.rails words.labels (code_of (suc i) b) w) (vectors_in (length c.vectors) w)
       ≡ get_or (row_words c (row_at b)) w 0
-  unfolding vectors_in row_words
+  unfolding row_words
   row_words_lem b suits w hw =
       word_of_bits (bit_and mark ones) bits (omega (arith, and_le_r mark ones, first_ones_lt (count - 64 * w))) (λ v hv. same v hv (dec_lt (64 * w + v) count))
       ∙ sym (row_word count (mark_of c (row_at b)) w hw)
@@ -252,7 +256,7 @@ module _ (c : Circuit) (i : ℕ) (inst : Instance) (at : InstanceAt c i inst) wh
       count = length c.vectors
 
       mark : ℕ
-      mark = mark_word (words_of c i inst).supply (words_of c i inst).ground (words_of c i inst).ones (words_of c i inst).zeros (code_of (suc i) b) w
+      mark = mark_word (words_of c i inst).rails (words_of c i inst).labels (code_of (suc i) b) w
 
       ones : ℕ
       ones = first_ones (count - 64 * w)
@@ -270,32 +274,30 @@ module _ (c : Circuit) (i : ℕ) (inst : Instance) (at : InstanceAt c i inst) wh
           let here : ltb v (count - 64 * w) ≡ false = le-ltb v (count - 64 * w) (omega arith) in
           rw (bit_and_lem, bit-first_ones (count - 64 * w) v hv, here, up-past count (mark_of c (row_at b)) (64 * w + v) (omega arith)) (omega arith)
 
-  -- the codes of the instance's faults from a place on give its rows of the matrix
-  pub rows_words_lem : (codes : List ℕ) (from to : ℕ) (d : Bridge)
+  -- the codes of the instance's faults give its rows of the matrix
+  pub rows_words_lem : (codes : List ℕ) (d : Bridge)
       → let faults = faults_of c.types c.bridges inst in
-      to - from ≡ length faults → ((j : ℕ) → j < to - from → get_or codes (from + j) 0 ≡ code_of (suc i) (get_or faults j d))
+      length codes ≡ length faults → ((j : ℕ) → j < length codes → get_or codes j 0 ≡ code_of (suc i) (get_or faults j d))
       → let words = words_of c i inst in
-      rows_words codes words.supply words.ground words.ones words.zeros (length c.vectors) from to
+      rows_words codes words.rails words.labels (length c.vectors)
       ≡ join_lists (map (row_words c) (rows_of_instance c.types c.bridges (suc i) inst))
-  unfolding rows_words rows_of_instance
-  rows_words_lem codes from to d long are =
-      table_cong (4 * (to - from)) model meant each
+  unfolding rows_words rows_word rows_of_instance
+  rows_words_lem codes d long are =
+      table_cong (4 * length codes) (rows_word codes words.rails words.labels (length c.vectors)) meant each
       ∙ ap (λ (n : ℕ). table (4 * n) meant) (long ∙ sym (length-map faults (row_at)))
       ∙ sym (matrix_table c (row_at d) (map (row_at) faults))
     where
+      words : InstanceWords
+      words = words_of c i inst
+
       faults : List Bridge
       faults = faults_of c.types c.bridges inst
-
-      mark : ℕ → ℕ → ℕ
-      mark = mark_word (words_of c i inst).supply (words_of c i inst).ground (words_of c i inst).ones (words_of c i inst).zeros
-
-      model : ℕ → ℕ
-      model j = bit_and (mark (get_or codes (from + j / 4) 0) (j % 4)) (vectors_in (length c.vectors) (j % 4))
 
       meant : ℕ → ℕ
       meant j = get_or (row_words c (get_or (map (row_at) faults) (j / 4) (row_at d))) (j % 4) 0
 
-      each : (j : ℕ) → j < 4 * (to - from) → model j ≡ meant j
+      each : (j : ℕ) → j < 4 * length codes → rows_word codes words.rails words.labels (length c.vectors) j ≡ meant j
       each j h =
           let suits = faults_suit c.types c.bridges inst (good_at c i inst at).suited (j / 4) d (omega (arith, long)) in
-          rw (are (j / 4) (omega arith), get_or-map (row_at) faults (j / 4) d) (row_words_lem (get_or faults (j / 4) d) suits (j % 4) (omega arith))
+          rw (are (j / 4) (omega arith), get_or-map (row_at) faults (j / 4) d)
+          (row_words_lem (get_or faults (j / 4) d) suits (j % 4) (omega arith))

@@ -7,8 +7,8 @@ use native.Mathlib.Decide.{dec_lt}
 use native.Mathlib.Omega.{arith}
 use borrow.Author.Tests.{lt-ltb, le-ltb}
 use lib.Dec.{T}
-use lib.ListN.{length, get_or, length-append, get_or-append, get_or-eq_default, get_or-map}
-use lib.Seq.{get_or-append_seam}
+use lib.ListN.{length, get_or, take, length-append, get_or-append, get_or-eq_default, get_or-map}
+use lib.Seq.{get_or-append_seam, get_or-take, length-take-le}
 use Rattle.words.specs.Bits.{bit, pack, word}
 use Rattle.words.specs.Each.{word_of_each}
 use Rattle.words.specs.Tables.{table, up_to}
@@ -20,7 +20,7 @@ use Rattle.words.proofs.WrittenLaws.{length_written, written_before, written_her
 use Rattle.switch.specs.Conduction.{Value, at_x, supply, ground}
 use Rattle.switch.specs.Modules.{ModuleType}
 use Rattle.switch.specs.Deciding as deciding
-use Rattle.switch.specs.Promises.{rail_words, four_rail_words, is_at0, is_at1, PlanesHold, planes, planes_of}
+use Rattle.switch.specs.Promises.{rail_words, four_rail_words, is_at0, is_at1, PlanesHold, planes}
 use Rattle.switch.specs.declared.Planes.{Planes}
 use Rattle.switch.proofs.Channels.{in_between}
 use Rattle.switch.proofs.Deciding.{all_of_lem}
@@ -29,19 +29,29 @@ use Rattle.circuit.specs.Circuit.{Circuit, Reference, primary, output_of, Instan
 use Rattle.circuit.specs.Numbers.{reference_good}
 use Rattle.circuit.specs.Records.{padded, unused_reference, reference_record, unused_vector, vector_record}
 use Rattle.circuit.specs.Laws.{InstanceGood}
+use Rattle.circuit.specs.declared.Reference.{Reference as ReferenceRecord}
 use Rattle.circuit.specs.declared.Vector.{Vector as VectorRecord}
 use Rattle.circuit.proofs.Padding.{get_or-padded}
 use Rattle.grading.specs.Values.{value_at, label_values, outputs_of, outputs_after}
-use Rattle.grading.proofs.RecordReads.{references_of}
+use Rattle.grading.proofs.RecordReads.{references_of, reference_at_lem}
 use Rattle.grading.proofs.ValueLaws.{InstanceAt, type-ranges, good_at, type_at, label_value, label_past}
 use Rattle.grade_marks.specs.Model.{vector_at, outputs_at, signal_at, signal_word, signal_words, place_of_signal, signal_of}
+use Rattle.grade_inputs.specs.declared.Signals.{Signals}
 use Rattle.grade_inputs.specs.Inputs.{ones_of, zeros_of, input_word, input_words}
-use Rattle.grade_marks.specs.Model.{label_words, label_planes, InstanceWords, instance_words, output_ones, output_zeros}
+use Rattle.grade_marks.specs.Model.{label_words, label_plane, InstanceWords, instance_words, output_planes, with_output}
 use Rattle.grade_marks.proofs.OutputLaws.{new_output, length-outputs_at, outputs_more}
+
+-- the records of its references, one for each label
+abbrev pub label_references : Circuit → Instance → List ReferenceRecord
+label_references c inst = take (type_of_instance c.types inst).labels (references_of inst)
 
 -- word w of its labels, in a plane
 abbrev pub labels_of : (Value → ℕ) → Circuit → ℕ → Instance → ℕ → List ℕ
-labels_of plane c i inst = label_words (references_of inst) (type_of_instance c.types inst).labels (signal_words plane c i)
+labels_of plane c i inst = label_words (label_references c inst) (signal_words plane c i)
+
+-- the signals before the instance at i
+abbrev pub signals_at : Circuit → ℕ → Signals
+signals_at c i = record { ones = signal_words is_at1 c i; zeros = signal_words is_at0 c i }
 
 -- how many words the vectors fill
 abbrev pub word_count : Circuit → ℕ
@@ -49,7 +59,11 @@ word_count c = (length c.vectors + 63) / 64
 
 -- what the rows of the instance at i are read from
 abbrev pub words_of : Circuit → ℕ → Instance → InstanceWords
-words_of c i inst = instance_words (type_of_instance c.types inst) (references_of inst) (signal_words is_at1 c i) (signal_words is_at0 c i)
+words_of c i inst = instance_words (type_of_instance c.types inst) (references_of inst) (signals_at c i)
+
+pub references_long : (inst : Instance) → length (references_of inst) ≡ 12
+unfolding padded
+references_long inst = length-table 12 _
 
 -- ---- planes
 
@@ -154,19 +168,12 @@ module _ (plane : Value → ℕ) (small : (x : Value) → plane x ≤ 1) (off : 
       (bit_word (λ (m : ℕ). plane (signal_at c n (64 * w + m) s)) (λ m. small (signal_at c n (64 * w + m) s)) v hv)
 
   module _ (i : ℕ) (inst : Instance) (at : InstanceAt c i inst) where
-    -- the record of a reference
-    reference_at_lem : (l : ℕ) → l < 12 → get_or (references_of inst) l unused_reference ≡ reference_record (get_or inst.references l (primary 0))
-    unfolding reference_record
-    reference_at_lem l h =
-        get_or-padded unused_reference 12 (map reference_record inst.references) unused_reference l h
-        ∙ get_or-map reference_record inst.references l (primary 0)
-
     -- bit v of word w of a label
     label_bit : (w v l : ℕ) → w < 4 → v < 64
         → bit (get_or (labels_of plane c i inst w) l 0) v
         ≡ plane (label_values (vector_at c (64 * w + v)) (outputs_at c i (64 * w + v)) inst l)
     unfolding label_words
-    label_bit w v l hw hv = go (dec_lt l k)
+    label_bit w v l hw hv = rw kept (go (dec_lt l k))
       where
         g : InstanceGood c.inputs c.types c.bridges i inst
         g = good_at c i inst at
@@ -177,8 +184,11 @@ module _ (plane : Value → ℕ) (small : (x : Value) → plane x ≤ 1) (off : 
         few : k ≤ 12
         few = (type-ranges (type_of_instance c.types inst) (type_at c i inst at).sound).labels_high
 
+        kept : length (label_references c inst) ≡ k
+        kept = length-take-le k (references_of inst) (omega (arith, few, references_long inst))
+
         from : ℕ → ℕ
-        from m = get_or (signal_words plane c i) (4 * signal_of (get_or (references_of inst) m unused_reference) + w) 0
+        from m = get_or (signal_words plane c i) (4 * signal_of (get_or (label_references c inst) m unused_reference) + w) 0
 
         u : ℕ
         u = 64 * w + v
@@ -198,7 +208,13 @@ module _ (plane : Value → ℕ) (small : (x : Value) → plane x ≤ 1) (off : 
             let tied = (all_of_lem (reference_good c.inputs i) (primary 0) inst.references).0 g.references l (omega (arith, g.count)) in
             let inside = signal_place c.inputs i r at.good.few_inputs (omega (arith, at.within, at.good.few_instances)) tied in
             let place : l < 12 = omega (arith, few) in
-            rw (get_or-table 12 (up_to k from) 0 l place, up-below k from l h, reference_at_lem l place, signal_bit i (signal_of (reference_record r)) w v inside hw hv)
+            rw (
+              get_or-table 12 (up_to k from) 0 l place,
+              up-below k from l h,
+              get_or-take k (references_of inst) l unused_reference h,
+              reference_at_lem inst l place,
+              signal_bit i (signal_of (reference_record r)) w v inside hw hv,
+            )
             (ap plane (signal_value c.inputs i u r at.good.few_inputs tied ∙ sym (label_value (vector_at c u) (outputs_at c i u) inst l)))
         go (no h) =
             ap (λ (x : ℕ). bit x v) (past (omega arith))
@@ -290,14 +306,14 @@ module _ (plane : Value → ℕ) (small : (x : Value) → plane x ≤ 1) (off : 
 -- word w of a label, and of a node for a rail
 module _ (c : Circuit) (i : ℕ) (inst : Instance) where
   abbrev planes_of_labels : (Value → ℕ) → List ℕ
-  planes_of_labels plane = label_planes (references_of inst) (type_of_instance c.types inst).labels (signal_words plane c i)
+  planes_of_labels plane = label_plane (label_references c inst) (signal_words plane c i)
 
   pub label_at : (plane : Value → ℕ) (l w : ℕ) → l < 12 → w < 4 → get_or (planes_of_labels plane) (4 * l + w) 0 ≡ get_or (labels_of plane c i inst w) l 0
-  unfolding label_planes
+  unfolding label_plane
   label_at plane l w h k = four_at 12 (labels_of plane c i inst) l w h k
 
   pub labels_again : (plane : Value → ℕ) (w : ℕ) → w < 4 → word_of_each 4 w 12 (planes_of_labels plane) ≡ labels_of plane c i inst w
-  unfolding label_planes label_words
+  unfolding label_plane label_words
   labels_again plane w k = word_of_four 12 (labels_of plane c i inst) w k (length-table 12 _)
 
   pub node_at : (rail m w : ℕ) → m < 32 → w < 4
@@ -353,8 +369,8 @@ module _ (c : Circuit) where
     module _ (plane : Value → ℕ) (column : Planes → ℕ) (column-is : (f : ℕ → Value) → column (planes f) ≡ word (λ (v : ℕ). plane (f v))) where
       output_word : (w : ℕ) → w < 4
           → let output = (type_of_instance c.types inst).output in
-          column (planes_of (get_or (words_of c i inst).supply (4 * output + w) 0) (get_or (words_of c i inst).ground (4 * output + w) 0))
-          ≡ word (λ (v : ℕ). plane (new_output c i inst (64 * w + v)))
+          column (output_planes (words_of c i inst).rails output w) ≡ word (λ (v : ℕ). plane (new_output c i inst (64 * w + v)))
+      unfolding output_planes
       output_word w h =
           rw (node_at c i inst supply t.output w inside h, node_at c i inst ground t.output w inside h)
           (ap column (output-planes t (labels_of is_at1 c i inst w) (labels_of is_at0 c i inst w) values inside (λ v k. labels_hold w v h k))
@@ -369,24 +385,19 @@ module _ (c : Circuit) where
           inside : t.output < 32
           inside = let ranges = type-ranges t (type_at c i inst at).sound in omega (arith, ranges.output_high, ranges.highest)
 
-    pub signals_more : let supply = (words_of c i inst).supply in
-        let ground = (words_of c i inst).ground in
-        let output = (type_of_instance c.types inst).output in
-        (written (signal_words is_at1 c i) (4 * (64 + i)) (output_ones supply ground output) ≡ signal_words is_at1 c (suc i))
-        × (written (signal_words is_at0 c i) (4 * (64 + i)) (output_zeros supply ground output) ≡ signal_words is_at0 c (suc i))
-    unfolding output_ones output_zeros is_at1 is_at0
-    signals_more = (
-      more_plane is_at1 at1-small refl c i inst at (table 4 one) (length-table 4 one)
-          (λ w h. get_or-table 4 one 0 w h ∙ output_word is_at1 (λ (p : Planes). p.ones) (λ f. refl) w h),
-      more_plane is_at0 at0-small refl c i inst at (table 4 nought) (length-table 4 nought)
-          (λ w h. get_or-table 4 nought 0 w h ∙ output_word is_at0 (λ (p : Planes). p.zeros) (λ f. refl) w h),
-    )
+    pub signals_more : with_output (signals_at c i) i (words_of c i inst).rails (type_of_instance c.types inst).output
+        ≡ signals_at c (suc i)
+    unfolding is_at1 is_at0
+    signals_more =
+        cc (
+          more_plane is_at1 at1-small refl c i inst at (table 4 one) (length-table 4 one)
+              (λ w h. get_or-table 4 one 0 w h ∙ output_word is_at1 (λ (p : Planes). p.ones) (λ f. refl) w h),
+          more_plane is_at0 at0-small refl c i inst at (table 4 nought) (length-table 4 nought)
+              (λ w h. get_or-table 4 nought 0 w h ∙ output_word is_at0 (λ (p : Planes). p.zeros) (λ f. refl) w h),
+        )
       where
-        o : ℕ
-        o = (type_of_instance c.types inst).output
-
         both : ℕ → Planes
-        both w = planes_of (get_or (words_of c i inst).supply (4 * o + w) 0) (get_or (words_of c i inst).ground (4 * o + w) 0)
+        both = output_planes (words_of c i inst).rails (type_of_instance c.types inst).output
 
         one : ℕ → ℕ
         one w = (both w).ones

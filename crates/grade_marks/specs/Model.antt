@@ -6,16 +6,20 @@ use Rattle.words.specs.Bits.{word, first_ones}
 use Rattle.words.specs.Each.{four_each}
 use Rattle.words.specs.Tables.{table, up_to}
 use Rattle.words.specs.Written.{written}
-use Rattle.switch.specs.Conduction.{Value, at_x, supply, ground}
+use Rattle.switch.specs.Conduction.{Value, at_x}
 use Rattle.switch.specs.Modules.{ModuleType}
-use Rattle.switch.specs.Promises.{four_rail_words, four_rounds, planes_of}
+use Rattle.switch.specs.Promises.{rails_of, planes_of}
 use Rattle.switch.specs.Records.{TypeGiven, type_of}
 use Rattle.switch.specs.declared.ModuleType.{ModuleType as TypeRecord}
+use Rattle.switch.specs.declared.Planes.{Planes}
+use Rattle.switch.specs.declared.Rails.{Rails}
 use Rattle.circuit.specs.Circuit.{Circuit}
 use Rattle.circuit.specs.Records.{unused_reference}
 use Rattle.circuit.specs.declared.Reference.{Reference as ReferenceRecord}
 use Rattle.grading.specs.Codes.{kind_in, first_in, second_in, CodesFit}
 use Rattle.grading.specs.Values.{outputs_of}
+use Rattle.grade_inputs.specs.declared.Signals.{Signals}
+use Rattle.grade_marks.specs.declared.labels.LabelPlanes.{LabelPlanes}
 
 -- ---- signals: primary inputs at 0 to 63, the outputs of instances from 64 on
 
@@ -45,102 +49,89 @@ unfoldable pub signal_of : ReferenceRecord → ℕ
 signal_of r = place_of_signal r.earlier r.number
 
 -- references whose signals are there
-pub record ReferencesFit (references : List ReferenceRecord) (k : ℕ) : Type 0 where
-  pub few : k ≤ 12
-  pub some : (l : ℕ) → l < k → 1 ≤ (get_or references l unused_reference).number
-  pub most : (l : ℕ) → l < k → (get_or references l unused_reference).number ≤ 64 + 64
+pub record ReferencesFit (references : List ReferenceRecord) : Type 0 where
+  pub few : length references ≤ 12
+  pub some : (l : ℕ) → l < length references → 1 ≤ (get_or references l unused_reference).number
+  pub most : (l : ℕ) → l < length references → (get_or references l unused_reference).number ≤ 64 + 64
 
-unfoldable pub label_words : List ReferenceRecord → ℕ → List ℕ → ℕ → List ℕ
-label_words references k signals w =
-    table 12 (up_to k (λ (l : ℕ). get_or signals (4 * signal_of (get_or references l unused_reference) + w) 0))
+-- word w of each label, in a plane
+unfoldable pub label_words : List ReferenceRecord → List ℕ → ℕ → List ℕ
+label_words references signals w =
+    table 12 (up_to (length references) (λ (l : ℕ). get_or signals (4 * signal_of (get_or references l unused_reference) + w) 0))
 
-unfoldable pub label_planes : List ReferenceRecord → ℕ → List ℕ → List ℕ
-label_planes references k signals = four_each 12 (label_words references k signals)
+unfoldable pub label_plane : List ReferenceRecord → List ℕ → List ℕ
+label_plane references signals = four_each 12 (label_words references signals)
+
+abbrev pub label_planes : List ReferenceRecord → Signals → LabelPlanes
+label_planes references signals = record { ones = label_plane references signals.ones; zeros = label_plane references signals.zeros }
 
 -- ---- an instance's words, four for each node and each label
 
--- what the rows of an instance are read from: each node's words for each rail, and each label's planes; and the rounds of joining
+-- what the rows of an instance are read from: each node's words for each rail, with the rounds of joining, and each label's planes
 pub record InstanceWords : Type 0 where
-  pub supply : List ℕ
-  pub ground : List ℕ
-  pub ones : List ℕ
-  pub zeros : List ℕ
-  pub rounds : ℕ
+  pub rails : Rails
+  pub labels : LabelPlanes
 
-abbrev pub instance_words : ModuleType → List ReferenceRecord → List ℕ → List ℕ → InstanceWords
-instance_words t references signal_ones signal_zeros =
-    let ones = label_planes references t.labels signal_ones in
-    let zeros = label_planes references t.labels signal_zeros in
-    record {
-      supply = four_rail_words t ones zeros supply;
-      ground = four_rail_words t ones zeros ground;
-      ones = ones;
-      zeros = zeros;
-      rounds = four_rounds t ones zeros;
-    }
+abbrev pub instance_words : ModuleType → List ReferenceRecord → Signals → InstanceWords
+instance_words t references signals =
+    let labels = label_planes (take t.labels references) signals in record { rails = rails_of t labels.ones labels.zeros; labels = labels }
 
--- the output's planes, four words each
-unfoldable pub output_ones : List ℕ → List ℕ → ℕ → List ℕ
-output_ones to_supply to_ground node =
-    table 4 (λ (w : ℕ). (planes_of (get_or to_supply (4 * node + w) 0) (get_or to_ground (4 * node + w) 0)).ones)
+-- the output's planes under vectors 64 w to 64 w + 63
+unfoldable pub output_planes : Rails → ℕ → ℕ → Planes
+output_planes rails node w = planes_of (get_or rails.supply (4 * node + w) 0) (get_or rails.ground (4 * node + w) 0)
 
-unfoldable pub output_zeros : List ℕ → List ℕ → ℕ → List ℕ
-output_zeros to_supply to_ground node =
-    table 4 (λ (w : ℕ). (planes_of (get_or to_supply (4 * node + w) 0) (get_or to_ground (4 * node + w) 0)).zeros)
+-- signals with an output's planes put at a place behind the primary inputs, four words in each plane
+abbrev pub with_output : Signals → ℕ → Rails → ℕ → Signals
+with_output signals place rails node = record {
+  ones = written signals.ones (4 * (64 + place)) (table 4 (λ (w : ℕ). (output_planes rails node w).ones));
+  zeros = written signals.zeros (4 * (64 + place)) (table 4 (λ (w : ℕ). (output_planes rails node w).zeros));
+}
 
 -- ---- mark words
 
-unfoldable pub pair_word : List ℕ → List ℕ → ℕ → ℕ → ℕ
-pair_word to_supply to_ground a b =
-    bit_or (bit_and (get_or to_supply a 0) (get_or to_ground b 0)) (bit_and (get_or to_ground a 0) (get_or to_supply b 0))
+abbrev pub pair_word : Rails → ℕ → ℕ → ℕ
+pair_word rails a b =
+    bit_or (bit_and (get_or rails.supply a 0) (get_or rails.ground b 0)) (bit_and (get_or rails.ground a 0) (get_or rails.supply b 0))
 
-unfoldable pub input_mark_word : List ℕ → List ℕ → List ℕ → List ℕ → ℕ → ℕ → ℕ
-input_mark_word to_supply to_ground ones zeros m l =
-    bit_or (bit_and (get_or ones l 0) (get_or to_ground m 0)) (bit_and (get_or zeros l 0) (get_or to_supply m 0))
+abbrev pub input_mark_word : Rails → LabelPlanes → ℕ → ℕ → ℕ
+input_mark_word rails labels m l =
+    bit_or (bit_and (get_or labels.ones l 0) (get_or rails.ground m 0)) (bit_and (get_or labels.zeros l 0) (get_or rails.supply m 0))
 
 -- word w of a row, from its code
-unfoldable pub mark_word : List ℕ → List ℕ → List ℕ → List ℕ → ℕ → ℕ → ℕ
-mark_word to_supply to_ground ones zeros row w =
+unfoldable pub mark_word : Rails → LabelPlanes → ℕ → ℕ → ℕ
+mark_word rails labels row w =
     cond (eqb (kind_in row) 0)
-    (pair_word to_supply to_ground (4 * first_in row + w) (4 * second_in row + w))
-    (input_mark_word to_supply to_ground ones zeros (4 * first_in row + w) (4 * second_in row + w))
+    (pair_word rails (4 * first_in row + w) (4 * second_in row + w))
+    (input_mark_word rails labels (4 * first_in row + w) (4 * second_in row + w))
 
 -- the places of the vectors in word w
-unfoldable pub vectors_in : ℕ → ℕ → ℕ
+abbrev pub vectors_in : ℕ → ℕ → ℕ
 vectors_in vectors w = first_ones (vectors - 64 * w)
 
 -- the four words of a row, under masks
-unfoldable pub row_under_masks : List ℕ → List ℕ → List ℕ → List ℕ → List ℕ → ℕ → List ℕ
-row_under_masks to_supply to_ground ones zeros masks row =
-    table 4 (λ (w : ℕ). bit_and (mark_word to_supply to_ground ones zeros row w) (get_or masks w 0))
+unfoldable pub row_under_masks : Rails → LabelPlanes → List ℕ → ℕ → List ℕ
+row_under_masks rails labels masks row = table 4 (λ (w : ℕ). bit_and (mark_word rails labels row w) (get_or masks w 0))
 
--- the words of an instance's rows, from one place to another
-unfoldable pub rows_words : List ℕ → List ℕ → List ℕ → List ℕ → List ℕ → ℕ → ℕ → ℕ → List ℕ
-rows_words rows to_supply to_ground ones zeros vectors from to =
-    table (4 * (to - from)) (λ (i : ℕ).
-    bit_and (mark_word to_supply to_ground ones zeros (get_or rows (from + i / 4) 0) (i % 4)) (vectors_in vectors (i % 4)))
+-- word i of an instance's rows
+unfoldable pub rows_word : List ℕ → Rails → LabelPlanes → ℕ → ℕ → ℕ
+rows_word rows rails labels vectors i = bit_and (mark_word rails labels (get_or rows (i / 4) 0) (i % 4)) (vectors_in vectors (i % 4))
 
--- what marking an instance asks, with t its type's record: its type and references are in range, and there is room for its rows and its
--- output
-pub record InstanceGiven (t : TypeRecord) (references : List ReferenceRecord) (place : ℕ) (rows : List ℕ) (from to : ℕ)
-    (ones zeros matrix : List ℕ) : Type 0 where
+-- the words of an instance's rows
+unfoldable pub rows_words : List ℕ → Rails → LabelPlanes → ℕ → List ℕ
+rows_words rows rails labels vectors = table (4 * length rows) (rows_word rows rails labels vectors)
+
+-- what marking an instance asks, with t its type's record: its type and references are in range, the matrix has room for its rows and no
+-- more, and there is room for its output
+pub record InstanceGiven (t : TypeRecord) (references : List ReferenceRecord) (place : ℕ) (rows matrix : List ℕ) : Type 0 where
   pub sound : TypeGiven t
-  pub tied : ReferencesFit references t.labels
+  pub tied : ReferencesFit (take t.labels references)
   pub placed : place < 128
-  pub ones_long : length ones ≡ 768
-  pub zeros_long : length zeros ≡ 768
-  pub order : from ≤ to
-  pub most : to ≤ 2048
-  pub room : 4 * to ≤ length matrix
-  pub codes : CodesFit rows from to
+  pub room : length matrix ≡ 4 * length rows
+  pub codes : CodesFit rows 0 (length rows)
 
--- an instance marked, with t its type's record: its rows in the matrix, its output's planes put behind the signals, and its rounds
-pub record InstanceMarked (t : TypeRecord) (references : List ReferenceRecord) (place vectors : ℕ) (rows : List ℕ) (from to : ℕ)
-    (ones zeros matrix ones' zeros' matrix' : List ℕ) (rounds : ℕ) : Type 0 where
-  pub rows_are : let read = instance_words (type_of t) references ones zeros in
-      matrix' ≡ written matrix (4 * from) (rows_words rows read.supply read.ground read.ones read.zeros vectors from to)
-  pub ones_are : let read = instance_words (type_of t) references ones zeros in
-      ones' ≡ written ones (4 * (64 + place)) (output_ones read.supply read.ground t.output)
-  pub zeros_are : let read = instance_words (type_of t) references ones zeros in
-      zeros' ≡ written zeros (4 * (64 + place)) (output_zeros read.supply read.ground t.output)
-  pub rounds_are : rounds ≡ (instance_words (type_of t) references ones zeros).rounds
+-- an instance marked, with t its type's record: its rows are the matrix, its output's planes are put behind the signals, and its rounds
+pub record InstanceMarked (t : TypeRecord) (references : List ReferenceRecord) (place vectors : ℕ) (rows : List ℕ)
+    (signals signals' : Signals) (matrix' : List ℕ) (rounds : ℕ) : Type 0 where
+  pub rows_are : let read = instance_words (type_of t) references signals in matrix' ≡ rows_words rows read.rails read.labels vectors
+  pub signals_are : signals' ≡ with_output signals place (instance_words (type_of t) references signals).rails t.output
+  pub rounds_are : rounds ≡ (instance_words (type_of t) references signals).rails.rounds

@@ -2,4 +2,5 @@
 #![tactic(auto)]
 
 pub mod instance;
+mod labels;
 mod matrix;

@@ -1,113 +1,37 @@
--- `grade_marks::matrix::write_rows` meets its contract. The loop's invariant: the rows before the present one are written. Assumes nothing.
-use mathlib.Core.Path.{◌≡◌, refl, sym, ap, ◌∙◌}
-use mathlib.Core.List.{List, [], ◌∷◌, ◌++◌}
-use Prim.Native.Nat.{ℕ, zero, suc, ◌+◌, ◌-◌, ◌*◌, ◌/◌, ◌%◌, ◌≤◌, ◌<◌}
-use native.Mathlib.Nat.{zero-add, suc-add}
+-- `grade_marks::matrix::write_rows` meets its contract. Assumes nothing.
+use mathlib.Core.Path.{◌≡◌}
+use Prim.Native.Nat.{ℕ, ◌+◌, ◌-◌, ◌*◌, ◌/◌, ◌%◌, ◌<◌}
 use native.Mathlib.Omega.{arith}
-use lib.Bits.{bit_and}
-use lib.ListN.{length, get_or, length-append}
 use borrow.Author.Rules.{rules}
 use Rattle.words.specs.Tables.{table}
-use Rattle.words.specs.Written.{written}
-use Rattle.words.proofs.Tables.{length-table, table_cong}
-use Rattle.words.proofs.WrittenLaws.{written_nothing, written_written}
+use Rattle.words.proofs.Tables.{is-table, get_or-table}
 use Rattle.grading.specs.Codes.{CodesFit}
-use Rattle.grade_marks.specs.Model.{mark_word, vectors_in, row_under_masks, rows_words}
-use Rattle.grade_marks.proofs.matrix.write_rows.Invariants.{word_at}
+use Rattle.grade_inputs.proofs.Made.{table_made}
+use Rattle.grade_marks.specs.Model.{vectors_in, row_under_masks, rows_word, rows_words}
+use Rattle.grade_marks.proofs.Parts.{part_filled}
 use Rattle.grade_marks.proofs.matrix.write_rows.Goals as goal
 
--- the masks, one by one
-four : (f : ℕ → ℕ) {a b c d : ℕ} → a ≡ f 0 → b ≡ f 1 → c ≡ f 2 → d ≡ f 3 → (w : ℕ) → w < 4 → get_or (a ∷ b ∷ c ∷ d ∷ []) w 0 ≡ f w
-four f p q r s zero h = p
-four f p q r s (suc zero) h = q
-four f p q r s (suc (suc zero)) h = r
-four f p q r s (suc (suc (suc zero))) h = s
-four f p q r s (suc (suc (suc (suc w)))) h = absurd (omega arith)
-
--- some elements more
-table-append : (n k : ℕ) (f : ℕ → ℕ) → table (n + k) f ≡ table n f ++ table k (λ (i : ℕ). f (n + i))
-unfolding table
-table-append zero k f = rw (zero-add k) (table_cong k f (λ (i : ℕ). f (0 + i)) (λ i h. ap f (sym (zero-add i))))
-table-append (suc n) k f =
-    let later : ℕ → ℕ = λ (i : ℕ). f (suc i) in
-    rw (suc-add n k)
-    (ap (λ (l : List ℕ). f 0 ∷ l)
-    (table-append n k later
-    ∙ ap (λ (l : List ℕ). table n later ++ l) (table_cong k (λ (i : ℕ). later (n + i)) (λ (i : ℕ). f (suc n + i)) (λ i h. ap f (sym (suc-add n i))))))
-
--- no row yet
-no_row : (f : ℕ → ℕ) (from : ℕ) (matrix : List ℕ) → matrix ≡ written matrix (4 * from) (table (4 * (from - from)) f)
-unfolding table
-no_row f from matrix =
-    let none : 4 * (from - from) ≡ 0 = omega arith in
-    rw none (sym (written_nothing matrix (4 * from)))
-
--- one row more
-next_row : (rows supply ground ones zeros masks : List ℕ) (vectors from r : ℕ) (matrix₀ matrix : List ℕ)
-    → matrix ≡ written matrix₀ (4 * from) (table (4 * (r - from)) (word_at rows supply ground ones zeros vectors from))
-    → from ≤ r → 4 * r + 4 ≤ length matrix₀ → ((w : ℕ) → w < 4 → get_or masks w 0 ≡ vectors_in vectors w)
-    → written matrix (4 * r) (row_under_masks supply ground ones zeros masks (get_or rows r 0))
-    ≡ written matrix₀ (4 * from) (table (4 * (r + 1 - from)) (word_at rows supply ground ones zeros vectors from))
-unfolding row_under_masks
-next_row rows supply ground ones zeros masks vectors from r matrix₀ matrix before low room masks-are =
-    rw (before, text, place, next, table-append n 4 f)
-    (written_written matrix₀ (4 * from) (table n f) (table 4 new) (omega (arith, length-append (table n f) (table 4 new), length-table n f, length-table 4 new)))
-  where
-    f : ℕ → ℕ
-    f = word_at rows supply ground ones zeros vectors from
-
-    n : ℕ
-    n = 4 * (r - from)
-
-    new : ℕ → ℕ
-    new w = f (n + w)
-
-    place : 4 * r ≡ 4 * from + length (table n f)
-    place = omega (arith, length-table n f)
-
-    next : 4 * (r + 1 - from) ≡ n + 4
-    next = omega arith
-
-    old : ℕ → ℕ
-    old w = bit_and (mark_word supply ground ones zeros (get_or rows r 0) w) (get_or masks w 0)
-
-    text : table 4 old ≡ table 4 new
-    text = table_cong 4 old new (λ w h.
-        let row : from + (n + w) / 4 ≡ r = omega arith in
-        let word : (n + w) % 4 ≡ w = omega arith in
-        rw (row, word, masks-are w h))
-
-pub loop-r-init : goal.loop-r-init
-loop-r-init c =
-    let x = c.args in (
-      omega arith,
-      omega arith,
-      refl,
-      no_row _ x.from _,
-      four
-          (vectors_in x.vectors)
-          c.vectors_in.ensures
-          c.vectors_in-2.ensures
-          c.vectors_in-3.ensures
-          c.vectors_in-4.ensures,
-    )
-
-pub write_row-requires : goal.write_row-requires
+pub write_row-requires-clause-code_fits : goal.write_row-requires-clause-code_fits
 unfolding CodesFit
-write_row-requires c =
-    record { code_fits = c.requires.codes_fit c.loop-r.r (omega arith) (omega arith); at_in_bounds = search rules }
+write_row-requires-clause-code_fits c = c.requires.codes_fit c.loop-r.r (omega arith) (omega arith)
 
 pub loop-r-preserved : goal.loop-r-preserved
+unfolding rows_word row_under_masks
 loop-r-preserved c =
     let x = c.args in
-    let l = c.loop-r in
-    let wrote = c.write_row in
-    let next = next_row x.rows.now x.supply.now x.ground.now x.ones.now x.zeros.now _ x.vectors x.from l.r x.matrix.now l.matrix l.invariant.3 (omega arith) (omega arith) l.invariant.4 in
-    (omega arith, omega arith, omega (arith, wrote.auto.matrix, l.invariant.2), wrote.ensures ∙ next, l.invariant.4)
+    let r : ℕ = c.loop-r.r in
+    let masks : c.from_fn-masks.result ≡ table 4 (vectors_in x.vectors)
+    = table_made _ _ (vectors_in x.vectors) (λ i y q k. search rules) 0 4 _ c.from_fn-masks.ensures.items in
+    λ j h.
+    part_filled c.loop-r.matrix c.write_row.new.words (4 * r) (4 * r + 4 - 4 * r) (omega arith)
+    (rows_word x.rows.now x.rails.now x.labels.now x.vectors) (omega arith) c.loop-r.invariant
+    (λ w k.
+    let few : w < 4 = omega arith in
+    let row : (4 * r + w) / 4 ≡ r = omega arith in
+    let word : (4 * r + w) % 4 ≡ w = omega arith in
+    rw (c.write_row.ensures, row, word, get_or-table {A = ℕ} 4 _ 0 w few, masks, get_or-table {A = ℕ} 4 (vectors_in x.vectors) 0 w few))
+    j (omega arith)
 
 pub returns : goal.returns
 unfolding rows_words
-returns c =
-    let x = c.args in
-    let all : c.loop-r.r ≡ x.to = omega arith in
-    rw all at c.loop-r.invariant.3
+returns c = is-table 0 _ _ c.loop-r.matrix (omega arith) (λ j h. c.loop-r.invariant j (omega arith))

@@ -1,9 +1,8 @@
 -- What the program hands over of a file's report: lines one behind the other, each the report's, from the first to the last.
-use Rattle.std.specs.Prelude.{ℕ, ◌≡◌, ◌⊎◌, List, length, Option}
+use Rattle.std.specs.Prelude.{ℕ, ◌≡◌, List, length, Option}
 use Rattle.print_lines.specs.Handing.{TextHandsOn, TextHanded}
 use Rattle.print_lines.specs.declared.Piece.{Piece}
-use Rattle.program_io.specs.Outputs.{TextPut}
-use Rattle.program_io.specs.Inputs.{HeadingPut}
+use Rattle.program_io.specs.Telling.{FilePut, InputPut, AllPut}
 use Rattle.program_io.specs.declared.output.Output.{Output}
 use Rattle.circuit.specs.Circuit.{Circuit}
 use Rattle.circuit.specs.Records.{padded}
@@ -20,25 +19,36 @@ use Rattle.print_report.specs.Report.{report_line, line_count, report_of}
 abbrev pub grading_of_file : List ℕ → Grading
 grading_of_file file = grading_of file room_for_all
 
+-- the lines of a file's report by their numbers, and how many they are
+abbrev pub line_of_file : List ℕ → ℕ → List ℕ
+line_of_file file = report_line (grading_of_file file)
+
+abbrev pub lines_of_file : List ℕ → ℕ
+lines_of_file file = line_count (grading_of_file file)
+
 -- the front of a buffer is exactly the lines of a file's report from one on, up to the piece's end
 abbrev pub HandsOn : List ℕ → ℕ → Piece → List ℕ → Type 0
-HandsOn file lines piece out = TextHandsOn (report_line (grading_of_file file)) lines piece out
+HandsOn file lines piece out = TextHandsOn (line_of_file file) lines piece out
 
 -- so many lines are all of the report
 abbrev pub AllHanded : List ℕ → ℕ → Type 0
-AllHanded file lines = TextHanded (line_count (grading_of_file file)) lines
+AllHanded file lines = TextHanded (lines_of_file file) lines
+
+-- the report, byte by byte
+abbrev pub report_of_file : List ℕ → List ℕ
+report_of_file file = report_of (grading_of_file file)
 
 -- in a writer that says its bytes the report stands behind what stood
 abbrev pub ReportPut : List ℕ → Output → Output → Option (List ℕ) → Option (List ℕ) → Type 0
-ReportPut file before after old new = TextPut before after old new (report_of (grading_of_file file))
+ReportPut = FilePut report_of_file
 
--- and of an input nothing, or a heading and the report of some bytes. That there is nothing only where it could not be read, and that the
--- bytes are those that were read, is left to reading
+-- and of an input nothing, or a heading and the report of some bytes
 abbrev pub InputReported : Output → Output → Option (List ℕ) → Option (List ℕ) → Type 0
-InputReported before after old new =
-    ((after ≡ before) × (new ≡ old))
-    ⊎ ((headed : Output) × (mid : Option (List ℕ)) × (file : List ℕ)
-    × HeadingPut before headed old mid × ReportPut file headed after mid new)
+InputReported = InputPut report_of_file
+
+-- and of one input or more that of each, one behind the other
+abbrev pub InputsReported : Output → Output → Option (List ℕ) → Option (List ℕ) → Type 0
+InputsReported = AllPut report_of_file
 
 -- the rows, as numbers, of the circuit that was read
 pub record RowsRead (reading : ReadingRecord) (codes : List ℕ) : Type 0 where

@@ -1,2 +1,3 @@
--- What the program `grade` hands to standard output.
+-- What the program `grade` hands to standard output, and what it holds of a file.
 pub mod Handing
+pub mod Held

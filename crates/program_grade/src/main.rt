@@ -1,28 +1,29 @@
 // Grades circuit files: for each, the report of the scope paper, or its refusal.
 #![tactic(auto)]
 
-mod handing;
-
-ghost use Rattle.std.specs.Prelude.{◌≡◌, ◌≤◌, length};
 ghost use Rattle.grading.specs.Given.{Read};
-ghost use Rattle.program_io.specs.Inputs.{heading_room};
-ghost use Rattle.program_grade.specs.Handing.{AllHanded, ReportPut, InputReported, RowsRead};
+ghost use Rattle.program_grade.specs.Handing.{line_of_file, lines_of_file, InputsReported, RowsRead};
+ghost use Rattle.program_grade.specs.Held.{FileHeld};
 
-use crate::handing::{Handed, hand_out, none_handed};
 use circuit::Reading;
 use circuit::limits::{MOST_BYTES, MOST_FAULTS};
 use circuit::refusal::refuses;
 use grade_file::grade::grade_read;
 use grade_rows::rows_of;
+use grading::Answer;
+use print_lines::Piece;
 use print_report::report_piece;
-use program_io::inputs::{head_input, input_count, read_input};
-use program_io::output::{OUT_ROOM, Output, nothing};
+use program_io::output::Printer;
+use program_io::telling::{Telling, tell_inputs};
 use read_file::read::read_stages;
 use std::io::Write;
 use std::rt::{Env, Files};
 
 // One byte more than the limit is enough to know that a file is too long.
 const MOST_READ: usize = MOST_BYTES + 1;
+
+// A matrix has four words for each row.
+const MOST_WORDS: usize = 4 * MOST_FAULTS;
 
 // The rows of the circuit that was read, a number each; zeros where the file is refused.
 fn rows_read(reading: Reading) -> [u32; MOST_FAULTS]
@@ -37,82 +38,54 @@ fn rows_read(reading: Reading) -> [u32; MOST_FAULTS]
     rows_of(circuit)
 }
 
-// The report of one file, all of it, piece by piece.
-fn grade_file<R: Eprint, W: Write>(
-    rt: &R,
-    writer: &mut W,
-    out: &mut [u8],
-    output: Output,
-    file: &[u8],
-    matrix: &mut [u64],
-    classes: &mut [u16],
-) -> Handed
-    requires in_bounds { 512 ≤ length out.old }
-    requires matrix_len { (length matrix.old ≡ 8192) × (length classes.old ≡ 2048) }
-    ensures handed { AllHanded file.now result.lines }
-    ensures put { ReportPut file.now output result.output (W.contents writer.old) (W.contents writer.new) }
-{
-    let reading = read_stages(file, true);
-    let answer = grade_read(reading, matrix, classes);
-    let codes = rows_read(reading);
-    let mut handed = none_handed(output);
-    let mut next: usize = 0;
-    loop {
-        let piece = report_piece(answer, &codes, matrix, classes, next, out);
-        if piece.count == 0 {
-            break;
-        }
-        handed = hand_out(rt, writer, handed, file, piece, out);
-        next = piece.next;
-    }
-    handed
+// What grading left of a file: its answer, the rows as numbers, the matrix and the classes.
+#[derive(Drop)]
+struct Report {
+    answer: Answer,
+    codes: [u32; MOST_FAULTS],
+    matrix: [u64; MOST_WORDS],
+    classes: [u16; MOST_FAULTS],
 }
 
-// Reads an input and prints its report, under a heading where there are several; one that cannot be read has none.
-fn grade_input<R: Env + Files + Input + Eprint, W: Write>(
-    rt: &R,
-    writer: &mut W,
-    number: usize,
-    out: &mut [u8],
-    output: Output,
-    file: &mut [u8],
-    matrix: &mut [u64],
-    classes: &mut [u16],
-) -> Output
-    requires heading_room_in_bounds { heading_room ≤ length out.old }
-    requires matrix_len { (length matrix.old ≡ 8192) × (length classes.old ≡ 2048) }
-    ensures { InputReported output result (W.contents writer.old) (W.contents writer.new) }
-{
-    let input = read_input(rt, number, file);
-    if !input.is_read {
-        return output;
+impl Telling for Report {
+    ghost line = { line_of_file };
+
+    ghost total = { lines_of_file };
+
+    ghost is_of = { λ report file. FileHeld file report.answer report.codes report.matrix report.classes };
+
+    fn of(file: &[u8]) -> Report {
+        let reading = read_stages(file, true);
+        let mut matrix = [0u64; MOST_WORDS];
+        let mut classes = [0u16; MOST_FAULTS];
+        let answer = grade_read(reading, &mut matrix, &mut classes);
+        Report {
+            answer,
+            codes: rows_read(reading),
+            matrix,
+            classes,
+        }
     }
-    let headed = head_input(rt, writer, out, output, number);
-    let length = input.count;
-    let handed = grade_file(rt, writer, out, headed, &file[..length], matrix, classes);
-    handed.output
+
+    fn piece(&self, from: usize, out: &mut [u8]) -> Piece {
+        let Report {
+            answer,
+            codes,
+            matrix,
+            classes,
+        } = self;
+        report_piece(*answer, codes, matrix, classes, from, out)
+    }
+}
+
+// Prints the report of each input.
+fn grade<R: Env + Files + Input + Eprint, W: Write>(printer: &mut Printer<R, W>, file: &mut [u8])
+    ensures { InputsReported printer.old.output printer.new.output (W.contents printer.old.writer) (W.contents printer.new.writer) }
+{
+    tell_inputs::<Report, R, W>(printer, file);
 }
 
 fn main(rt: HostRuntime) {
-    let mut out = [0u8; OUT_ROOM];
     let mut file = [0u8; MOST_READ];
-    let mut matrix = [0u64; 4 * MOST_FAULTS];
-    let mut classes = [0u16; MOST_FAULTS];
-    let mut writer = rt.stdout();
-    let mut output = nothing();
-    let count = input_count(&rt);
-    let mut i: usize = 0;
-    while i < count {
-        i += 1;
-        output = grade_input(
-            &rt,
-            &mut writer,
-            i,
-            &mut out,
-            output,
-            &mut file,
-            &mut matrix,
-            &mut classes,
-        );
-    }
+    grade(&mut Printer::new(&rt, rt.stdout()), &mut file);
 }

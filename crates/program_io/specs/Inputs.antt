@@ -1,15 +1,13 @@
--- What reading leaves: how many bytes stand at the start of the buffer, none where the input could not be read. Bytes come from outside.
-use Rattle.std.specs.Prelude.{ℕ, ◌<◌, ◌≡◌, false, List, ◌⊎◌, length, take, Option}
+-- What reading leaves: how many bytes stand at the start of the buffer, or that the input could not be read. Bytes come from outside.
+use Rattle.std.specs.Prelude.{ℕ, ◌<◌, ◌≡◌, List, ◌⊎◌, length, take, Option, IfSome}
 use Rattle.std.specs.Counts.{IsPrefixLen}
 use Rattle.std.specs.Io.KnownBytes.{Consumes, IsAtEnd}
 use Rattle.program_io.specs.Outputs.{Headed, TextPut, heading_text}
-use Rattle.program_io.specs.declared.input.Input.{Input}
 use Rattle.program_io.specs.declared.output.Output.{Output}
 
-pub record InputRead (buffer : List ℕ) (input : Input) (buffer' : List ℕ) : Type 0 where
-  pub counted : IsPrefixLen input.count buffer'
+pub record InputRead (buffer : List ℕ) (input : Option ℕ) (buffer' : List ℕ) : Type 0 where
+  pub counted : IfSome input (λ count. IsPrefixLen count buffer')
   pub long : length buffer' ≡ length buffer
-  pub unread_none : input.is_read ≡ false → input.count ≡ 0
 
 -- of a reader that says its bytes, those that it had next, and all of them where room is left
 pub record BytesRead (old new : Option (List ℕ)) (count : ℕ) (buffer' : List ℕ) : Type 0 where

@@ -2,3 +2,4 @@
 -- failed.
 pub mod Inputs
 pub mod Outputs
+pub mod Telling

@@ -2,9 +2,9 @@
 ghost use Rattle.std.specs.Prelude.{◌≤◌, length};
 ghost use Rattle.program_io.specs.Inputs.{InputRead, heading_room, InputHeaded, HeadingPut};
 
-use crate::input::{Input, read_named, read_standard, unread};
+use crate::input::{read_named, read_standard};
 use crate::message::tell;
-use crate::output::{Output, heading};
+use crate::output::Printer;
 use std::env::FillError;
 use std::io;
 use std::io::Write;
@@ -25,22 +25,17 @@ fn has_argument<R: Env>(rt: &R, number: usize) -> bool {
 pub fn input_count<R: Env>(rt: &R) -> usize
     ensures { 1 ≤ result }
 {
-    let mut count: usize = 1;
-    for number in 2..usize::MAX {
-        if !has_argument(rt, number) {
-            break;
-        }
-        count = number;
-    }
-    count
+    (2..usize::MAX)
+        .find(|number| !has_argument(rt, *number))
+        .map_or(usize::MAX, |number| number - 1)
 }
 
-// Reads an input. One that cannot be read is told of on standard error, by its name and the reason.
+// Reads an input, and says how many bytes it has. One that cannot be read is told of on standard error, by its name and the reason.
 pub fn read_input<R: Env + Files + io::Input + Eprint>(
     rt: &R,
     number: usize,
     buf: &mut [u8],
-) -> Input
+) -> Option<usize>
     ensures { InputRead buf.old result buf.new }
 {
     if !has_argument(rt, 1) {
@@ -52,27 +47,25 @@ pub fn read_input<R: Env + Files + io::Input + Eprint>(
         Err(_) => {
             // the buffer holds the start of a name that is too long for it
             tell(rt, &name, &io::Error::from_raw_os_error(NAME_TOO_LONG));
-            unread()
+            None
         }
     }
 }
 
 // The heading of an input, where there are several, put into a buffer and written. The buffer has room for the longest name.
 pub fn head_input<R: Env + Eprint, W: Write>(
-    rt: &R,
-    writer: &mut W,
+    printer: &mut Printer<R, W>,
     out: &mut [u8],
-    output: Output,
     number: usize,
-) -> Output
+)
     requires { heading_room ≤ length out.old }
-    ensures headed { InputHeaded output out.old result out.new }
-    ensures put { HeadingPut output result (W.contents writer.old) (W.contents writer.new) }
+    ensures headed { InputHeaded printer.old.output out.old printer.new.output out.new }
+    ensures put { HeadingPut printer.old.output printer.new.output (W.contents printer.old.writer) (W.contents printer.new.writer) }
 {
-    if !has_argument(rt, 2) {
-        return output;
+    if !has_argument(printer.rt, 2) {
+        return;
     }
     let mut name = [0u8; NAME_ROOM];
-    let n = rt.arg(number, &mut name).unwrap_or(0);
-    heading(rt, writer, out, output, &name[..n])
+    let n = printer.rt.arg(number, &mut name).unwrap_or(0);
+    printer.heading(out, &name[..n]);
 }

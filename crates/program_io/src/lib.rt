@@ -5,3 +5,4 @@ pub mod input;
 pub mod inputs;
 mod message;
 pub mod output;
+pub mod telling;

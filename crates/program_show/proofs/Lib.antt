@@ -1,2 +1,0 @@
--- The laws of handing over.
-mod HandingLaws

@@ -1,14 +1,12 @@
 -- The rows of a file, listed or refused: each keeps the promise of `togyamiru_rows`, and no two outcomes keep it. Assumes nothing.
-use Prim.Native.Nat.{ℕ, suc, ◌+◌, ◌<◌, ◌≤◌}
+use Prim.Native.Nat.{ℕ, ◌<◌, ◌≤◌}
 use mathlib.Core.Path.{◌≡◌, refl, sym, ap, ◌∙◌}
 use mathlib.Core.Bool.{true, false}
-use mathlib.Core.List.{List, [], ◌∷◌}
-use native.Mathlib.Nat.{zero-add}
-use native.Mathlib.Numerals.{add-one}
+use mathlib.Core.List.{List, [], ◌∷◌, ◌++◌}
 use native.Mathlib.Omega.{arith}
 use borrow.Author.Tests.{lt-ltb, le-ltb}
-use lib.ListN.{length, get_or, set, take}
-use lib.Seq.{paste, paste-suc, length-take-le}
+use lib.ListN.{length, take, drop}
+use lib.Seq.{length-take-le}
 use Rattle.circuit.specs.Reading.{Reading, accepted, refusal}
 use Rattle.circuit.specs.Records.{padded}
 use Rattle.circuit.specs.Refusals.{verdict_of}
@@ -32,18 +30,11 @@ use Rattle.grading.specs.Codes.{codes_of}
 use Rattle.togyamiru.specs.RowsEntry.{rows_after_reading, three_numbers, rows_buffer_after, RowsMeets, RowsPromise}
 use Rattle.togyamiru.specs.RowsModel.{RowsAnswered, RowsAnswer}
 
--- ---- codes put at the front of the rows, one more, and the first n
+-- ---- values put at the front of a buffer
 
-pub one_more_lem : (rows codes : List ℕ) (i : ℕ) → i < length rows → i < length codes
-    → set (paste rows 0 codes i) i (get_or codes i 0) ≡ paste rows 0 codes (i + 1)
-one_more_lem rows codes i in_rows in-codes =
-    let step : set (paste rows 0 codes i) (0 + i) (get_or codes i 0) ≡ paste rows 0 codes (suc i)
-    = paste-suc rows 0 codes i 0 (omega arith) in-codes in
-    ap (λ (at : ℕ). set (paste rows 0 codes i) at (get_or codes i 0)) (sym (zero-add i)) ∙ step ∙ ap (paste rows 0 codes) (sym (add-one i))
-
-pub put_first : (rows codes : List ℕ) (n : ℕ) → n ≤ length codes → paste rows 0 codes n ≡ over (take n codes) rows
+pub put_front : (values buffer : List ℕ) (n : ℕ) → n ≤ length values → take n values ++ drop n buffer ≡ over (take n values) buffer
 unfolding over
-put_first rows codes n within = rw (length-take-le n codes within, zero-add n)
+put_front values buffer n within = ap (λ (k : ℕ). take n values ++ drop k buffer) (sym (length-take-le n values within))
 
 -- ---- the answer of the code
 

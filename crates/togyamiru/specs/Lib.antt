@@ -4,3 +4,4 @@ pub mod Entry
 pub mod NumbersEntry
 pub mod RowsEntry
 pub mod RowsModel
+pub mod Asked

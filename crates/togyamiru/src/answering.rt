@@ -11,8 +11,8 @@ ghost use Rattle.grading.specs.Rows.{rows_of};
 ghost use Rattle.grading.specs.Promise.{Promise};
 ghost use Rattle.togyamiru.specs.NumbersEntry.{numbers_of};
 ghost use Rattle.togyamiru.specs.RowsModel.{RowsAnswer, RowsAnswerOfRead};
+ghost use Rattle.togyamiru.specs.Asked.{AnswersAsked};
 
-use circuit::limits::MOST_FAULTS;
 use circuit::refusal::refuses;
 use circuit::{Circuit, Reading};
 use grade_file::grade::grade_read;
@@ -21,25 +21,14 @@ use grading::answers::{counts_of, number_of, place_of};
 use grading::{Answer, Counts};
 use read_file::read::read_stages;
 
-// The first codes, at the front of the rows.
-fn put_rows(codes: [u32; MOST_FAULTS], count: usize, rows: &mut [u32])
-    requires { (count ≤ 2048) × (count ≤ length rows.old) }
-    ensures { rows.new ≡ over (take count codes) rows.old }
-{
-    let mut i: usize = 0;
-    while i < count {
-        rows[i] = codes[i];
-        i += 1;
-    }
-}
-
 // The rows of a circuit, at the front of a buffer that has room for them.
 fn list_circuit(c: Circuit, rows: &mut [u32])
     requires given { CircuitGiven c }
     requires room { (c.faults ≤ 2048) × (c.faults ≤ length rows.old) }
     ensures { (meant : CircuitMeant) → c ≡ circuit_record meant → CircuitGood meant → rows.new ≡ over (take c.faults (padded 2048 0 (codes_of (rows_of meant)))) rows.old }
 {
-    put_rows(rows_of(c), c.faults, rows);
+    let codes = rows_of(c);
+    rows[..c.faults].copy_from_slice(&codes[..c.faults]);
 }
 
 // The rows of a file as it was read, with their count alone, or a refusal, with the row buffer as it was.
@@ -66,22 +55,26 @@ fn list_read(reading: Reading, rows: &mut [u32]) -> Answer
     })
 }
 
-// Any bytes, and then either their rows or their grading; the buffers of the other are not looked at.
+// What is asked of a file: its rows or its grading, each with what is lent for it.
+#[derive(Drop)]
+pub enum Asked<'a> {
+    Rows(&'a mut [u32]),
+    Grading {
+        matrix: &'a mut [u64],
+        classes: &'a mut [u16],
+    },
+}
+
+// Any bytes, and then what is asked of them.
 // All entries go through here, so that the compiler finds one call of `read_stages` and puts it into this frame: as a function of its own it takes 47 KB of stack more.
-pub fn answer_to(
-    file: &[u8],
-    lists: bool,
-    rows: &mut [u32],
-    matrix: &mut [u64],
-    classes: &mut [u16],
-) -> Answer
-    ensures { (lists ≡ true → RowsAnswer file.now rows.old result rows.new) × (lists ≡ false → Promise file.now (buffers_of matrix.old classes.old) result (buffers_of matrix.new classes.new)) }
+pub fn answer_to(file: &[u8], asked: Asked) -> Answer
+    ensures { AnswersAsked file.now asked.entry result asked.exit }
 {
     let reading = read_stages(file, true);
-    if lists {
-        return list_read(reading, rows);
+    match asked {
+        Asked::Rows(rows) => list_read(reading, rows),
+        Asked::Grading { matrix, classes } => grade_read(reading, matrix, classes),
     }
-    grade_read(reading, matrix, classes)
 }
 
 // The numbers of an answer: the refusal's number and its place, 0 and 0 where there is none, the counts of vectors, faults, classes and found, and the rounds.
@@ -104,13 +97,6 @@ pub fn numbers_of(answer: Answer) -> [u64; 7]
 pub fn put_numbers(all: [u64; 7], numbers: &mut [u64])
     ensures { numbers.new ≡ over (take (length numbers.old) all) numbers.old }
 {
-    let room = numbers.len();
-    let mut n: usize = 0;
-    while n < 7 {
-        if room <= n {
-            return;
-        }
-        numbers[n] = all[n];
-        n += 1;
-    }
+    let room = numbers.len().min(all.len());
+    numbers[..room].copy_from_slice(&all[..room]);
 }

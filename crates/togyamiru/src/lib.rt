@@ -8,7 +8,7 @@ ghost use Rattle.togyamiru.specs.Entry.{EntryPromise};
 ghost use Rattle.togyamiru.specs.NumbersEntry.{NumbersPromise};
 ghost use Rattle.togyamiru.specs.RowsEntry.{RowsPromise};
 
-use crate::answering::{answer_to, numbers_of, put_numbers};
+use crate::answering::{Asked, answer_to, numbers_of, put_numbers};
 use grading::answers::{counts_of, number_of, place_of};
 
 // Grades a file into lent buffers. The answer is six numbers: the refusal's number and its place, 0 and 0 where there is none, and the counts of vectors, faults, classes and found.
@@ -27,8 +27,7 @@ pub fn togyamiru_grade_numbers(
 )
     ensures { NumbersPromise file.now (buffers_of matrix.old classes.old) numbers.old numbers.new (buffers_of matrix.new classes.new) }
 {
-    let mut rows = [0u32; 1];
-    let all = numbers_of(answer_to(file, false, &mut rows, matrix, classes));
+    let all = numbers_of(answer_to(file, Asked::Grading { matrix, classes }));
     put_numbers(all, numbers);
 }
 
@@ -36,9 +35,7 @@ pub fn togyamiru_grade_numbers(
 pub fn togyamiru_rows(file: &[u8], rows: &mut [u32], answer: &mut [u64; 3])
     ensures { RowsPromise file.now rows.old answer.new rows.new }
 {
-    let mut matrix = [0u64; 1];
-    let mut classes = [0u16; 1];
-    let given = answer_to(file, true, rows, &mut matrix, &mut classes);
+    let given = answer_to(file, Asked::Rows(rows));
     let counts = counts_of(given);
     *answer = [
         number_of(given) as u64,

@@ -1,6 +1,5 @@
 -- `togyamiru::togyamiru_grade_numbers` meets its contract: the numbers of the answer in their order, as many as have room, and the buffers as grading
 -- leaves them. Assumes nothing.
-use mathlib.Core.Path.{refl}
 use Rattle.togyamiru.proofs.Numbers.{numbers_met}
 use Rattle.togyamiru.proofs.togyamiru_grade_numbers.Goals as goal
 
@@ -9,4 +8,4 @@ returns c =
     let put = c in
     let numbered = put in
     let answered = numbered in
-    numbers_met _ _ _ _ _ (answered.answer_to.ensures.1 refl) numbered.numbers_of-all.ensures _ _ put.put_numbers.ensures
+    numbers_met _ _ _ _ _ (answered.answer_to.ensures) numbered.numbers_of-all.ensures _ _ put.put_numbers.ensures

@@ -1,40 +1,22 @@
--- `togyamiru::answering::put_numbers` meets its contract. The loop's invariant: the numbers passed stand at the front, and all else there is as it was.
--- Assumes nothing.
-use mathlib.Core.Path.{◌≡◌, refl, sym, ap, ◌∙◌}
+-- `togyamiru::answering::put_numbers` meets its contract: as many numbers as have room. Assumes nothing.
+use mathlib.Core.Path.{◌≡◌, ap, ◌∙◌}
+use mathlib.Core.List.{List, ◌++◌}
 use native.Mathlib.Omega.{arith}
-use lib.ListN.{length, get_or, set, take, length-set}
-use lib.Seq.{take_all}
+use Prim.Native.Nat.{ℕ, min}
+use lib.ListN.{length, take, drop}
+use Rattle.std.proofs.lemmas.List.{take_min}
 use Rattle.grading.specs.Grading.{over}
-use Rattle.togyamiru.proofs.RowsLaws.{one_more_lem, put_first}
+use Rattle.togyamiru.proofs.RowsLaws.{put_front}
 use Rattle.togyamiru.proofs.answering.put_numbers.Goals as goal
-
-pub loop-n-init : goal.loop-n-init
-loop-n-init c = (omega arith, omega arith, refl, refl, c.well_formed.0.1.0.1)
-
-pub returns-then-room-n : goal.returns-then-room-n
-returns-then-room-n c =
-    let e = c.args in
-    let l = c.loop-n in
-    let all : l.n ≡ length e.numbers.now = omega arith in
-    l.invariant.2 ∙ put_first e.numbers.now e.all l.n (omega arith) ∙ ap (λ n. over (take n e.all) e.numbers.now) all
-
-pub loop-n-preserved : goal.loop-n-preserved
-loop-n-preserved c =
-    let e = c.args in
-    let l = c.loop-n in
-    let more = one_more_lem e.numbers.now e.all l.n (omega arith) (omega arith) in (
-      omega arith,
-      omega arith,
-      ap (λ numbers. set numbers l.n (get_or e.all l.n 0)) l.invariant.2 ∙ more,
-      length-set l.numbers _ _ ∙ l.invariant.3,
-      l.invariant.4,
-    )
 
 pub returns : goal.returns
 returns c =
-    let e = c.args in
-    let l = c.loop-n in
-    let all : l.n ≡ length e.all = omega arith in
-    l.invariant.2
-    ∙ put_first e.numbers.now e.all l.n (omega arith)
-    ∙ ap (λ text. over text e.numbers.now) (take_all l.n e.all (omega arith) ∙ sym (take_all (length e.numbers.now) e.all (omega arith)))
+    let numbers = c.args.numbers.now in
+    let all = c.args.all in
+    let room = c.min-room.result in
+    let seven : 7 ≡ length all = omega arith in
+    let few : take room all ≡ take (length numbers) all
+    = ap (λ (n : ℕ). take n all) (c.min-room.ensures ∙ ap (min (length numbers)) seven) ∙ take_min (length numbers) all in
+    ap (λ (front : List ℕ). front ++ drop room numbers) c.copy_from_slice.ensures.after
+    ∙ put_front all numbers room (omega arith)
+    ∙ ap (λ (values : List ℕ). over values numbers) few

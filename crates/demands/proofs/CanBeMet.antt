@@ -5,7 +5,7 @@ use mathlib.Core.Bool.{Bool, true, false}
 use mathlib.Core.List.{List, [], ◌∷◌}
 use native.Mathlib.Omega.{arith}
 use lib.Dec.{T}
-use lib.ListN.{length, get_or, replicate}
+use lib.ListN.{length, get_or, take, replicate}
 use denote.Ref.{Bor, MutBor}
 use Rattle.switch.specs.Modules.{in_range}
 use Rattle.switch.specs.Records.{no_edge, edges_of, type_of, type_with, TypeGiven, EdgesGiven}
@@ -114,11 +114,11 @@ codes_of_none h k bridges = refl
 abbrev pub first_input : List Reference
 first_input = replicate 12 (record { earlier = false; number = 1 })
 
-first-is-one : (l : ℕ) → l < 1 → (get_or first_input l unused_reference).number ≡ 1
+first-is-one : (l : ℕ) → l < length (take bare_type.labels first_input) → (get_or (take bare_type.labels first_input) l unused_reference).number ≡ 1
 first-is-one zero h = refl
 first-is-one (suc l) h = absurd (omega arith)
 
-pub instance-given : InstanceGiven bare_type first_input 0 (replicate 2048 0) 0 0 (replicate 768 0) (replicate 768 0) []
+pub instance-given : InstanceGiven bare_type first_input 0 [] []
 instance-given = record {
   sound = type_given;
   tied = record {
@@ -127,12 +127,8 @@ instance-given = record {
     most = λ l h. omega (arith, first-is-one l h);
   };
   placed = omega arith;
-  ones_long = refl;
-  zeros_long = refl;
-  order = omega arith;
-  most = omega arith;
-  room = omega arith;
-  codes = codes_fit (replicate 2048 0);
+  room = refl;
+  codes = codes_fit [];
 }
 
 -- a reading of the empty file, which ends too early

@@ -69,7 +69,6 @@ unique = record {
   words_marks = record { asks_nothing = λ κs a. tt; one_outcome = λ κs a asked one other p q. both (p ∙ sym q) refl };
   words_first_mark = record { asks_nothing = λ κs a. tt; one_outcome = λ κs a asked one other p q. both (p ∙ sym q) refl };
   words_first_ones = record { asks_nothing = λ κs a. tt; one_outcome = λ κs a asked one other p q. both (p ∙ sym q) refl };
-  words_greater = record { asks_nothing = λ κs a. tt; one_outcome = λ κs a asked one other p q. both (p ∙ sym q) refl };
   print_lines_put_byte = record { can_be_met = λ κs. ((lent_mut (0 ∷ []), (0, (0, tt))), omega arith); one_outcome = λ κs a asked one other p q. both (p.0 ∙ sym q.0) (ap (λ x. (x, (tt, (tt, tt)))) (p.1 ∙ sym q.1)) };
   print_lines_put_bytes = record { can_be_met = λ κs. ((lent_mut [], (0, (lent [], tt))), omega arith); one_outcome = λ κs a asked one other p q. both (p.0 ∙ sym q.0) (ap (λ x. (x, (tt, (tt, tt)))) (p.1 ∙ sym q.1)) };
   print_lines_put_number = record { can_be_met = λ κs. ((lent_mut (replicate 20 0), (0, (0, tt))), omega arith); one_outcome = λ κs a asked one other p q. both (p.0 ∙ sym q.0) (ap (λ x. (x, (tt, (tt, tt)))) (p.1 ∙ sym q.1)) };
@@ -167,45 +166,31 @@ unique = record {
   grading_kind_in = record { asks_nothing = λ κs a. tt; one_outcome = λ κs a asked one other p q. both (p ∙ sym q) refl };
   grading_first_in = record { asks_nothing = λ κs a. tt; one_outcome = λ κs a asked one other p q. both (p ∙ sym q) refl };
   grading_second_in = record { asks_nothing = λ κs a. tt; one_outcome = λ κs a asked one other p q. both (p ∙ sym q) refl };
-  grade_rows_list_rows = record { can_be_met = λ κs. ((unused_instance, (bare_type, (no_bridges, (0, (0, (lent_mut [], (0, tt))))))), ((omega arith, omega arith, omega arith, omega arith), omega (arith, codes_of_none 2 1 (take 0 no_bridges)))); one_outcome = λ κs a asked one other p q. both (p.end ∙ sym q.end) (ap (λ x. (tt, (tt, (tt, (tt, (tt, (x, (tt, tt)))))))) (p.listed ∙ sym q.listed)) };
+  grade_rows_list_rows = record {
+    can_be_met = λ κs. ((unused_instance, (bare_type, (lent [], (0, (lent_mut [], (0, tt)))))), ((omega arith, omega arith, omega arith), omega (arith, codes_of_none 2 1 [])));
+    one_outcome = λ κs a asked one other p q. both (p.end ∙ sym q.end) (ap (λ x. (tt, (tt, (tt, (tt, (x, (tt, tt))))))) (p.listed ∙ sym q.listed));
+  };
   grade_rows_rows_of = record { can_be_met = λ κs. ((circuit-given.0, tt), circuit-given.1); one_outcome = λ κs a given one other p q. both (p given.circuit given.is given.good ∙ sym (q given.circuit given.is given.good)) refl };
-  grade_inputs_put_signals = record { can_be_met = λ κs. ((replicate 256 unused_vector, (0, (lent_mut (replicate 768 0), (lent_mut (replicate 768 0), tt)))), (omega arith, (refl, refl))); one_outcome = λ κs a asked one other p q. both refl (λ i. (tt, (tt, ((p.0 ∙ sym q.0) i, ((p.1 ∙ sym q.1) i, tt))))) };
+  grade_inputs_put_signals = record {
+    can_be_met = λ κs. ((lent (replicate 256 unused_vector), (0, (lent_mut (record { ones = replicate 768 0; zeros = replicate 768 0 }), tt))), (omega arith, (refl, refl)));
+    one_outcome = λ κs a asked one other p q. both refl (λ i. (tt, (tt, (record { ones = (p.0 ∙ sym q.0) i; zeros = (p.1 ∙ sym q.1) i }, tt))));
+  };
   grade_marks_mark_instance = record {
-    can_be_met = λ κs. ((bare_type, (record { type_number = 0; choice = 0; references = first_input }, (0, (0, (lent (replicate 2048 0), (0, (0, (lent_mut (replicate 768 0), (lent_mut (replicate 768 0), (lent_mut [], tt)))))))))), instance-given);
+    can_be_met = λ κs. ((bare_type, (record { type_number = 0; choice = 0; references = first_input }, (0, (0, (lent [], (lent_mut (record { ones = replicate 768 0; zeros = replicate 768 0 }), (lent_mut [], tt))))))), instance-given);
     one_outcome = λ κs a asked one other p q.
-        both (p.rounds_are ∙ sym q.rounds_are) (λ i. (
-          tt,
-          (
-            tt,
-            (
-              tt,
-              (
-                tt,
-                (
-                  tt,
-                  (
-                    tt,
-                    (
-                      tt,
-                      ((p.ones_are ∙ sym q.ones_are) i, ((p.zeros_are ∙ sym q.zeros_are) i, ((p.rows_are ∙ sym q.rows_are) i, tt))),
-                    ),
-                  ),
-                ),
-              ),
-            ),
-          ),
-        ));
+        both (p.rounds_are ∙ sym q.rounds_are)
+        (λ i. (tt, (tt, (tt, (tt, (tt, ((p.signals_are ∙ sym q.signals_are) i, ((p.rows_are ∙ sym q.rows_are) i, tt))))))));
   };
   grade_classes_write_keys = record {
-    can_be_met = λ κs. ((lent_mut (replicate 2048 0), (0, (0, (0, (unused_instance, (0, tt)))))), ((omega arith, omega arith, omega arith), (refl, codes_fit (replicate 2048 0))));
+    can_be_met = λ κs. ((lent_mut (replicate 2048 0), (0, (0, (0, (unused_instance, (0, tt)))))), ((omega arith, omega arith, omega arith), codes_fit (replicate 2048 0)));
     one_outcome = λ κs a asked one other p q. both refl (λ i. ((p ∙ sym q) i, (tt, (tt, (tt, (tt, (tt, tt)))))));
   };
   grade_classes_class_rows = record {
-    can_be_met = λ κs. ((lent (replicate 2048 0), (0, (lent [], (lent_mut [], tt)))), ((omega arith, refl), (omega arith, omega arith)));
+    can_be_met = λ κs. ((lent [], (lent [], (lent_mut [], tt))), (omega arith, (omega arith, omega arith)));
     one_outcome = λ κs a asked one other p q.
         let classes = p.classes_are ∙ sym q.classes_are in
         let found : one.0.found ≡ other.0.found = p.found_is ∙ rw classes (sym q.found_is) in
-        both (λ i. record { count = (p.count_is ∙ sym q.count_is) i; found = found i }) (λ i. (tt, (tt, (tt, (classes i, tt)))));
+        both (λ i. record { count = (p.count_is ∙ sym q.count_is) i; found = found i }) (λ i. (tt, (tt, (classes i, tt))));
   };
   grade_file_grade_circuit = record {
     can_be_met = λ κs. ((circuit-given.0, (lent_mut [], (lent_mut [], tt))), circuit-given.1);
@@ -245,16 +230,6 @@ unique = record {
     asks_nothing = λ κs a. tt;
     one_outcome = λ κs a asked one other p q.
         let same = one_piece _ _ _ _ _ _ _ _ p.given q.given in both same.0 (λ i. (tt, (tt, (same.1 i, tt))));
-  };
-  program_io_unread = record {
-    asks_nothing = λ κs a. tt;
-    one_outcome = λ κs a asked one other p q.
-        both (λ i. record { is_read = (p.0 ∙ sym q.0) i; count = (p.1 ∙ sym q.1) i }) refl;
-  };
-  program_io_nothing = record {
-    asks_nothing = λ κs a. tt;
-    one_outcome = λ κs a asked one other p q.
-        both (λ i. record { is_lost = (p.0 ∙ sym q.0) i; has_report = (p.1 ∙ sym q.1) i }) refl;
   };
   togyamiru_grade = record {
     asks_nothing = λ κs a. tt;

@@ -18,8 +18,6 @@ use Rattle.words.specs.contracts.first_mark as words_first_mark
 use Rattle.words.proofs.first_mark.Reads as words_first_mark_reads
 use Rattle.words.specs.contracts.first_ones as words_first_ones
 use Rattle.words.proofs.first_ones.Reads as words_first_ones_reads
-use Rattle.words.specs.contracts.greater as words_greater
-use Rattle.words.proofs.greater.Reads as words_greater_reads
 use Rattle.print_lines.specs.contracts.put_byte as print_lines_put_byte
 use Rattle.print_lines.proofs.put_byte.Reads as print_lines_put_byte_reads
 use Rattle.print_lines.specs.contracts.put_bytes as print_lines_put_bytes
@@ -144,10 +142,6 @@ use Rattle.print_report.specs.contracts.report_piece as print_report_report_piec
 use Rattle.print_report.proofs.report_piece.Reads as print_report_report_piece_reads
 use Rattle.print_circuit.specs.contracts.show_piece as print_circuit_show_piece
 use Rattle.print_circuit.proofs.show_piece.Reads as print_circuit_show_piece_reads
-use Rattle.program_io.specs.contracts.input.unread as program_io_unread
-use Rattle.program_io.proofs.input.unread.Reads as program_io_unread_reads
-use Rattle.program_io.specs.contracts.output.nothing as program_io_nothing
-use Rattle.program_io.proofs.output.nothing.Reads as program_io_nothing_reads
 use Rattle.togyamiru.specs.contracts.togyamiru_grade as togyamiru_grade
 use Rattle.togyamiru.proofs.togyamiru_grade.Reads as togyamiru_grade_reads
 use Rattle.togyamiru.specs.contracts.togyamiru_grade_numbers as togyamiru_grade_numbers
@@ -193,7 +187,6 @@ pub record Unique : Type 2 where
   pub words_marks : Sole words_marks.ended words_marks_reads.Asked words_marks_reads.Learnt
   pub words_first_mark : Sole words_first_mark.ended words_first_mark_reads.Asked words_first_mark_reads.Learnt
   pub words_first_ones : Sole words_first_ones.ended words_first_ones_reads.Asked words_first_ones_reads.Learnt
-  pub words_greater : Sole words_greater.ended words_greater_reads.Asked words_greater_reads.Learnt
   pub print_lines_put_byte : SoleWhereMet print_lines_put_byte.ended print_lines_put_byte_reads.Asked print_lines_put_byte_reads.Learnt
   pub print_lines_put_bytes : SoleWhereMet print_lines_put_bytes.ended print_lines_put_bytes_reads.Asked print_lines_put_bytes_reads.Learnt
   pub print_lines_put_number :
@@ -273,8 +266,6 @@ pub record Unique : Type 2 where
       SoleWhereMet print_report_report_piece.ended print_report_report_piece_reads.Asked print_report_report_piece_reads.Learnt
   pub print_circuit_show_piece :
       Sole print_circuit_show_piece.ended print_circuit_show_piece_reads.Asked print_circuit_show_piece_reads.Learnt
-  pub program_io_unread : Sole program_io_unread.ended program_io_unread_reads.Asked program_io_unread_reads.Learnt
-  pub program_io_nothing : Sole program_io_nothing.ended program_io_nothing_reads.Asked program_io_nothing_reads.Learnt
   pub togyamiru_grade : Sole togyamiru_grade.ended togyamiru_grade_reads.Asked togyamiru_grade_reads.Learnt
   pub togyamiru_grade_numbers :
       Sole togyamiru_grade_numbers.ended togyamiru_grade_numbers_reads.Asked togyamiru_grade_numbers_reads.Learnt

@@ -4,8 +4,4 @@ use Rattle.togyamiru.proofs.Numbers.{numbers_met}
 use Rattle.togyamiru.proofs.togyamiru_grade_numbers.Goals as goal
 
 pub returns : goal.returns
-returns c =
-    let put = c in
-    let numbered = put in
-    let answered = numbered in
-    numbers_met _ _ _ _ _ (answered.answer_to.ensures) numbered.numbers_of-all.ensures _ _ put.put_numbers.ensures
+returns c = numbers_met _ _ _ _ _ c.answer_to.ensures c.numbers_of-all.ensures _ _ c.put_numbers.ensures

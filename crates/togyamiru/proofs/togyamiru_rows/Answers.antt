@@ -4,7 +4,4 @@ use Rattle.togyamiru.proofs.togyamiru_rows.Goals as goal
 
 pub returns : goal.returns
 returns c =
-    let numbered = c in
-    let counted = numbered in
-    let answered = counted in
-    three-numbers _ _ _ _ _ _ counted.counts_of-counts.result (answered.answer_to-given.ensures) numbered.number_of.ensures c.place_of.ensures counted.counts_of-counts.ensures
+    three-numbers _ _ _ _ _ _ c.counts_of-counts.result c.answer_to-given.ensures c.number_of.ensures c.place_of.ensures c.counts_of-counts.ensures

@@ -5,6 +5,7 @@ use Rattle.words.specs.Tables.{table}
 use Rattle.words.specs.Written.{written}
 use Rattle.circuit.specs.Records.{unused_reference}
 use Rattle.circuit.specs.declared.Reference.{Reference as ReferenceRecord}
+use Rattle.circuit.specs.declared.Reference.TheVariants.{Input, Earlier}
 use Rattle.grading.specs.Wires.{Wire, ground_wire, supply_wire, input_wire, output_wire, inner_wire, node_wire}
 use Rattle.grading.specs.Classes.{largest, classes_by}
 use Rattle.grading.specs.Codes.{kind_in, first_in, second_in}
@@ -22,7 +23,8 @@ wire_number (inner_wire n m) = 256 + (32 * n + m)
 
 -- that of a reference's wire
 unfoldable pub reference_number : ReferenceRecord → ℕ
-reference_number r = wire_number (cond r.earlier (output_wire r.number) (input_wire r.number))
+reference_number (Input n) = wire_number (input_wire n)
+reference_number (Earlier i) = wire_number (output_wire i)
 
 unfoldable pub label_numbers : List ReferenceRecord → List ℕ
 label_numbers references = table 12 (λ (l : ℕ). reference_number (get_or references l unused_reference))

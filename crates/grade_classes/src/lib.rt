@@ -28,13 +28,14 @@ fn node_wire(instance: u32, output: u32, node: u32) -> u32
 }
 
 // The number of a label's wire, which is that of its reference.
+#[tactic(auto, unfolding(crate::specs::Model::reference_number, crate::specs::Model::wire_number))]
 fn reference_wire(reference: Reference) -> u16
     ensures { result ≡ reference_number reference }
 {
-    if reference.earlier {
-        return 67 + (reference.number as u16);
+    match reference {
+        Reference::Input(n) => 2 + u16::from(n),
+        Reference::Earlier(i) => 67 + u16::from(i),
     }
-    2 + (reference.number as u16)
 }
 
 // The numbers of the wires of an instance's labels.

@@ -14,8 +14,9 @@ use Rattle.switch.specs.declared.ModuleType.{ModuleType as TypeRecord}
 use Rattle.switch.specs.declared.Planes.{Planes}
 use Rattle.switch.specs.declared.Rails.{Rails}
 use Rattle.circuit.specs.Circuit.{Circuit}
-use Rattle.circuit.specs.Records.{unused_reference}
+use Rattle.circuit.specs.Records.{unused_reference, number_told}
 use Rattle.circuit.specs.declared.Reference.{Reference as ReferenceRecord}
+use Rattle.circuit.specs.declared.Reference.TheVariants.{Input, Earlier}
 use Rattle.grading.specs.Codes.{kind_in, first_in, second_in, CodesFit}
 use Rattle.grading.specs.Values.{outputs_of}
 use Rattle.grade_inputs.specs.declared.Signals.{Signals}
@@ -46,13 +47,14 @@ place_of_signal true number = 63 + number
 place_of_signal false number = number - 1
 
 unfoldable pub signal_of : ReferenceRecord → ℕ
-signal_of r = place_of_signal r.earlier r.number
+signal_of (Input n) = place_of_signal false n
+signal_of (Earlier i) = place_of_signal true i
 
 -- references whose signals are there
 pub record ReferencesFit (references : List ReferenceRecord) : Type 0 where
   pub few : length references ≤ 12
-  pub some : (l : ℕ) → l < length references → 1 ≤ (get_or references l unused_reference).number
-  pub most : (l : ℕ) → l < length references → (get_or references l unused_reference).number ≤ 64 + 64
+  pub some : (l : ℕ) → l < length references → 1 ≤ number_told (get_or references l unused_reference)
+  pub most : (l : ℕ) → l < length references → number_told (get_or references l unused_reference) ≤ 64 + 64
 
 -- word w of each label, in a plane
 unfoldable pub label_words : List ReferenceRecord → List ℕ → ℕ → List ℕ

@@ -1,5 +1,6 @@
 // The planes of an instance's labels, taken from the signals that its references name.
 ghost use Rattle.std.specs.Prelude.{◌≡◌, ◌≤◌, ◌<◌};
+ghost use Rattle.circuit.specs.Records.{number_told};
 ghost use Rattle.grade_marks.specs.Model.{signal_of, label_planes, ReferencesFit};
 
 use circuit::Reference;
@@ -15,14 +16,13 @@ pub struct LabelPlanes {
 // The place of a reference's signal.
 #[tactic(auto, unfolding(crate::specs::Model::signal_of, crate::specs::Model::place_of_signal))]
 fn signal_of(r: Reference) -> usize
-    requires { (1 ≤ r.number) × (r.number ≤ 128) }
+    requires { (1 ≤ number_told r) × (number_told r ≤ 128) }
     ensures { (result ≡ signal_of r) × (result < 192) }
 {
-    let n = r.number as usize;
-    if r.earlier {
-        return 63 + n;
+    match r {
+        Reference::Input(n) => n as usize - 1,
+        Reference::Earlier(i) => 63 + i as usize,
     }
-    n - 1
 }
 
 // The planes of labels with these references.

@@ -8,8 +8,7 @@ ghost use Rattle.switch.specs.Deciding.{is_complementary};
 ghost use Rattle.bench_check.specs.Judged.{judged};
 
 use join_nodes::complementary::check_type;
-use switch::edges::edge_with;
-use switch::{MOST_EDGES, ModuleType};
+use switch::{Edge, MOST_EDGES, ModuleType};
 
 // The type that six numbers tell, whatever they are: its three numbers, then a node, a label and how many edges there are between them. The compiler does not know them,
 // so that it cannot make the check smaller than it is for types of a file.
@@ -17,7 +16,7 @@ fn judged_type(h: u8, o: u8, k: u8, node: u8, label: u8, count: u8) -> ModuleTyp
     ensures { result ≡ judged h o k node label count }
 {
     let labels = 1 + k % 12;
-    let edge = edge_with(node % 24, 0, label % labels, label < node, false);
+    let edge = Edge::new(node % 24, 0, label % labels, label < node, false);
     ModuleType {
         highest: 24 + h % 8,
         output: 2 + o % 16,
@@ -31,8 +30,5 @@ fn judged_type(h: u8, o: u8, k: u8, node: u8, label: u8, count: u8) -> ModuleTyp
 pub fn bench_check(h: u8, o: u8, k: u8, node: u8, label: u8, count: u8) -> u64
     ensures { result ≡ of_bool (is_complementary (type_of (judged h o k node label count))) }
 {
-    if check_type(judged_type(h, o, k, node, label, count)) {
-        return 1;
-    }
-    0
+    u64::from(check_type(judged_type(h, o, k, node, label, count)))
 }

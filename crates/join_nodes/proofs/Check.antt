@@ -1,4 +1,5 @@
--- The complementary check, 64 settings at a time: a word with a bit for each setting of a block that joins the output to exactly one rail, what comparing it
+-- The complementary check, 64 settings at a time: a word with a bit for each setting of a block that joins the output to exactly one rail,
+-- what comparing it
 -- with the counted places tells of the block, and what the blocks tell of the type. Assumes nothing.
 use Prim.Native.Nat.{ℕ, zero, suc, ◌+◌, ◌-◌, ◌*◌, ◌/◌, ◌%◌, ◌^◌, ◌<◌, min, max}
 use native.Mathlib.Nat.{lt_of_le_of_lt}
@@ -9,7 +10,7 @@ use mathlib.Core.Bool.{Bool, true, false, ◌&&◌, not, beq, and-true}
 use mathlib.Core.List.{List, [], ◌∷◌, ◌++◌, map}
 use lib.Bits.{bit_and, bit_or, and_le_l, and_le_r}
 use lib.Dec.{T, ltb, eqb, eqb→eq, eqb_refl}
-use lib.ListN.{get_or}
+use lib.ListN.{length, get_or}
 use borrow.Author.Tests.{lt-ltb, ltb-true}
 use Rattle.words.specs.Bits.{bit, of_bool, word, first_ones}
 use Rattle.words.proofs.Laws.{bit_le_one, of_bool_le_one, bit_word, word_lt, set-bit, bit-set, bit_or_lem, bit_and_lem, bit_not_under, bits_eq}
@@ -26,7 +27,9 @@ use Rattle.std.proofs.lemmas.List.FromFn.{map-range_with_len_more}
 use Rattle.std.proofs.Math.Bool.{and_comm}
 use Rattle.switch.proofs.Deciding.{same_test}
 use Rattle.switch.proofs.Blocks.{block_each}
-use Rattle.join_nodes.specs.Model.{edge_in_columns, type_in_columns, ColumnsGiven, WidePlanes, gate_word, joined_words, OutputTold, setting_ones, setting_zeros}
+use Rattle.join_nodes.specs.Model.{no_parts, edge_with_parts, type_in_parts, PartsGiven, WidePlanes, gate_word, joined_words, OutputTold}
+use Rattle.join_nodes.specs.Model.{setting_ones, setting_zeros}
+use Rattle.join_nodes.specs.declared.edges.Parts.{Parts}
 use Rattle.join_nodes.proofs.RailWords.{links_are, gate_tells}
 use Rattle.join_nodes.proofs.SettingBlocks.{settings_switch}
 
@@ -109,7 +112,8 @@ unfolding all_below
 all_numbers test zero = refl
 all_numbers test (suc n) =
     let same : Bool → Bool = λ b. b in
-    let more : map test (range_with_len 0 (n + 1)) ≡ map test (range_with_len 0 n) ++ test n ∷ [] = map-range_with_len_more test 0 n n (omega arith) in
+    let more : map test (range_with_len 0 (n + 1)) ≡ map test (range_with_len 0 n) ++ test n ∷ []
+    = map-range_with_len_more test 0 n n (omega arith) in
     sym (list_all-map same test (range_with_len 0 (suc n)))
     ∙ ap (list_all same) (rw add-one at more)
     ∙ list_all-append same (map test (range_with_len 0 n)) (test n ∷ [])
@@ -117,44 +121,45 @@ all_numbers test (suc n) =
     ∙ rw and-true (ap (λ (b : Bool). test n && b) (list_all-map same test (range_with_len 0 n) ∙ all_numbers test n))
 
 -- asked of each block, from the first on
-pub all_asked : (t : ModuleType) (blocks : ℕ) → blocks ≡ blocks_of t.labels → list_all (block_holds t) (range_with_len 0 blocks) ≡ by_blocks t
+pub all_asked : (t : ModuleType) (blocks : ℕ) → blocks ≡ blocks_of t.labels
+    → list_all (block_holds t) (range_with_len 0 blocks) ≡ by_blocks t
 unfolding by_blocks running_verdict
 all_asked t blocks is =
     all_numbers (block_holds t) blocks ∙ rw is
 
 -- ---- a block
 
-module _ {h o k : ℕ} {firsts seconds gates : List ℕ} {n : ℕ} (given : ColumnsGiven h o k firsts seconds gates n) (block : ℕ) where
+module _ {h o k : ℕ} {parts : List Parts} (given : PartsGiven h o k parts) (block : ℕ) where
   abbrev t : ModuleType
-  t = type_in_columns h o k firsts seconds gates n
+  t = type_in_parts h o k parts
 
   abbrev setting : ℕ → ℕ → Value
   setting v = setting_of (64 * block + v)
 
   -- the planes of a block's settings switch on what the settings do
   module _ (planes : List ℕ) (wide : WidePlanes (setting_ones block) (setting_zeros block) 1 planes) where
-    by_settings : (v i : ℕ) → v < 64 → i < n
-        → bit (gate_word 1 0 gates planes i) v ≡ of_bool (edge_on (by_values (setting v)) (edge_in_columns firsts seconds gates i))
-    unfolding edge_on edge_in_columns setting_ones setting_zeros
+    by_settings : (v i : ℕ) → v < 64 → i < length parts
+        → bit (gate_word 1 0 parts planes i) v ≡ of_bool (edge_on (by_values (setting v)) (edge_with_parts (get_or parts i no_parts)))
+    unfolding edge_on edge_with_parts setting_ones setting_zeros
     by_settings v i m l =
-        let g : ℕ = get_or gates i 0 in
-        gate_tells firsts seconds gates n given.fit wide 0 (omega arith) v i m l
+        let g : ℕ = (get_or parts i no_parts).gate in
+        gate_tells parts given.fit wide 0 (omega arith) v i m l
         ∙ rw (one_each 12 (setting_ones block) (length-table 12 _), one_each 12 (setting_zeros block) (length-table 12 _))
         (ap of_bool (settings_switch block v (channel_by (g / 16)) (g % 16) m (given.label i l)))
 
-    one_word : (s g : ℕ) → OutputTold firsts seconds gates planes n o supply s → OutputTold firsts seconds gates planes n o ground g
+    one_word : (s g : ℕ) → OutputTold parts planes o supply s → OutputTold parts planes o ground g
         → (v : ℕ) → v < 64 → bit (one_of s g) v ≡ of_bool (one_rail t (setting v))
-    unfolding one_rail type_in_columns links_of
+    unfolding one_rail type_in_parts links_of
     one_word s g told_supply told_ground v m =
         let ws : ℕ → List Link = λ (u : ℕ). links_of t (setting u) in
-        let are = links_are firsts seconds gates n (gate_word 1 0 gates planes) (λ (u : ℕ). by_values (setting u)) by_settings in
+        let are = links_are parts (gate_word 1 0 parts planes) (λ (u : ℕ). by_values (setting u)) by_settings in
         rw (told_supply ws are, told_ground ws are) (one_bit ws o given.output v m)
 
   -- the test of a block, from what the calls give
   pub block_verdict : (settings counts : ℕ) (ones zeros planes : List ℕ) (s g : ℕ)
       → settings ≡ 2 ^ k → ones ≡ setting_ones block → zeros ≡ setting_zeros block → WidePlanes ones zeros 1 planes
-      → OutputTold firsts seconds gates planes n o supply s → OutputTold firsts seconds gates planes n o ground g → counts ≡ first_ones (settings - 64 * block)
+      → OutputTold parts planes o supply s → OutputTold parts planes o ground g → counts ≡ first_ones (settings - 64 * block)
       → eqb (bit_and (one_of s g) counts) counts ≡ block_holds t block
-  unfolding counted type_in_columns
+  unfolding counted type_in_parts
   block_verdict settings counts ones zeros planes s g e is_ones is_zeros wide told_supply told_ground c =
       rw (c, e) (holds t block (one_of s g) (one_word planes (rw (is_ones, is_zeros) at wide) s g told_supply told_ground))

@@ -1,4 +1,5 @@
--- The planes of gates: how they are filled, word by word, from the known-1 planes and the known-0 planes of the labels; and that a plane tells of a transistor what
+-- The planes of gates: how they are filled, word by word, from the known-1 planes and the known-0 planes of the labels; and that a plane
+-- tells of a transistor what
 -- the two planes of its label do. Assumes nothing.
 use Prim.Native.Nat.{ℕ, suc, ◌+◌, ◌-◌, ◌*◌, ◌/◌, ◌%◌, ◌≤◌, ◌<◌, zero-le}
 use native.Mathlib.Nat.{mul-le-mul_left, mul-add}

@@ -1,4 +1,5 @@
--- Rounds of joining, as lists of words: what a round adds to the words; after k rounds they tell which nodes paths of at most k links reach; words that
+-- Rounds of joining, as lists of words: what a round adds to the words; after k rounds they tell which nodes paths of at most k links
+-- reach; words that
 -- a round leaves as they are tell which nodes are joined to the rail. Assumes nothing.
 use Prim.Native.Nat.{ℕ, zero, suc, ◌-◌, ◌^◌, ◌≤◌, ◌<◌, zero-le, max}
 use native.Mathlib.Nat.{not-suc-le-zero, le_of_suc-le-suc, eq-or-lt_of_le, le_refl, le-suc, le_trans, lt_of_le_of_lt}
@@ -22,12 +23,16 @@ use Rattle.switch.specs.Deciding.{joins}
 use Rattle.switch.proofs.Paths.{turned, carried}
 use Rattle.switch.proofs.Deciding.{joins_decides}
 use Rattle.switch.proofs.Reach.{within-start, within-start-only, within_more, within-forth, within-back, AllWithin}
-use Rattle.join_nodes.specs.Model.{LinksAre, joined_words, added, round_to}
+use Rattle.join_nodes.specs.Model.{no_parts, PartsFit, LinksAre, joined_words, added, round_to}
+use Rattle.join_nodes.specs.declared.edges.Parts.{Parts}
 
--- the first n of the edges whose nodes are 0 to 31
-pub record NodesInRange (firsts seconds : List ℕ) (n : ℕ) : Type 0 where
-  pub first : (i : ℕ) → i < n → get_or firsts i 0 < 32
-  pub second : (i : ℕ) → i < n → get_or seconds i 0 < 32
+-- the nodes of edges are 0 to 31
+module _ {parts : List Parts} {nodes : ℕ} (fit : PartsFit parts nodes) (i : ℕ) (h : i < length parts) where
+  pub first_in : (get_or parts i no_parts).first < 32
+  first_in = omega (arith, fit.first i h, fit.few_nodes)
+
+  pub second_in : (get_or parts i no_parts).second < 32
+  second_in = omega (arith, fit.second i h, fit.few_nodes)
 
 -- ---- a word added to one of the words
 
@@ -72,12 +77,12 @@ module _ (words : List ℕ) (m w : ℕ) (l : m < length words) where
 -- ---- a round
 
 -- from a to b along edge j, either way
-data Along (firsts seconds : List ℕ) (j : ℕ) : ℕ → ℕ → Type 0 where
-  forward : Along firsts seconds j (get_or firsts j 0) (get_or seconds j 0)
-  backward : Along firsts seconds j (get_or seconds j 0) (get_or firsts j 0)
+data Along (parts : List Parts) (j : ℕ) : ℕ → ℕ → Type 0 where
+  forward : Along parts j ((get_or parts j no_parts).first) ((get_or parts j no_parts).second)
+  backward : Along parts j ((get_or parts j no_parts).second) ((get_or parts j no_parts).first)
 
-of_ends : {firsts seconds : List ℕ} {j a b : ℕ} → ◌≡◌ {A = Link} (a, b) (get_or firsts j 0, get_or seconds j 0)
-    → Along firsts seconds j a b × Along firsts seconds j b a
+of_ends : {parts : List Parts} {j a b : ℕ} → ◌≡◌ {A = Link} (a, b) ((get_or parts j no_parts).first, (get_or parts j no_parts).second)
+    → Along parts j a b × Along parts j b a
 of_ends e =
     let first = ap (λ (u : Link). u.0) e in
     let second = ap (λ (u : Link). u.1) e in
@@ -88,98 +93,98 @@ abbrev handed : (ℕ → ℕ) → List ℕ → ℕ → ℕ → ℕ
 handed on old j a = bit_and (get_or old a 0) (on j)
 
 -- the words after the first i edges, and what edge i hands back to its first node
-abbrev half : List ℕ → List ℕ → (ℕ → ℕ) → List ℕ → ℕ → List ℕ
-half firsts seconds on old i = added (round_to firsts seconds on old i) (get_or firsts i 0) (handed on old i (get_or seconds i 0))
+abbrev half : List Parts → (ℕ → ℕ) → List ℕ → ℕ → List ℕ
+half parts on old i = added (round_to parts on old i) ((get_or parts i no_parts).first) (handed on old i ((get_or parts i no_parts).second))
 
-module _ (firsts seconds : List ℕ) (on : ℕ → ℕ) (old : List ℕ) where
-  round_length : (i : ℕ) → length (round_to firsts seconds on old i) ≡ length old
+module _ (parts : List Parts) (on : ℕ → ℕ) (old : List ℕ) where
+  round_length : (i : ℕ) → length (round_to parts on old i) ≡ length old
   unfolding round_to added
   round_length zero = refl
   round_length (suc i) = simp length-set (round_length i)
 
-  module _ (count : ℕ) (ranges : NodesInRange firsts seconds count) (long : length old ≡ 32) where
-    in_round : (i m : ℕ) → m < 32 → m < length (round_to firsts seconds on old i)
+  module _ {nodes : ℕ} (fit : PartsFit parts nodes) (long : length old ≡ 32) where
+    in_round : (i m : ℕ) → m < 32 → m < length (round_to parts on old i)
     in_round i m l = omega (arith, round_length i)
 
-    in_half : (i m : ℕ) → m < 32 → m < length (half firsts seconds on old i)
+    in_half : (i m : ℕ) → m < 32 → m < length (half parts on old i)
     unfolding added
     in_half i m l = simp length-set (in_round i m l)
 
     -- what holds of the words before, and of words with what an edge hands on if it holds of them without, holds of the words after
     round_ind : (P : List ℕ → Type 0) → P old
-        → ((j a b : ℕ) → j < count → Along firsts seconds j a b → (words : List ℕ) → b < length words → P words
+        → ((j a b : ℕ) → j < length parts → Along parts j a b → (words : List ℕ) → b < length words → P words
         → P (added words b (handed on old j a)))
-        → (i : ℕ) → i ≤ count → P (round_to firsts seconds on old i)
+        → (i : ℕ) → i ≤ length parts → P (round_to parts on old i)
     unfolding round_to
     round_ind P start step zero h = start
     round_ind P start step (suc i) h =
-        let a : ℕ = get_or firsts i 0 in
-        let b : ℕ = get_or seconds i 0 in
-        step i a b h forward (half firsts seconds on old i) (in_half i b (ranges.second i h))
-        (step i b a h backward (round_to firsts seconds on old i) (in_round i a (ranges.first i h)) (round_ind P start step i (omega arith)))
+        let a : ℕ = (get_or parts i no_parts).first in
+        let b : ℕ = (get_or parts i no_parts).second in
+        step i a b h forward (half parts on old i) (in_half i b (second_in fit i h))
+        (step i b a h backward (round_to parts on old i) (in_round i a (first_in fit i h)) (round_ind P start step i (omega arith)))
 
-    round_fits : ((n : ℕ) → get_or old n 0 < 2 ^ 64) → (n : ℕ) → get_or (round_to firsts seconds on old count) n 0 < 2 ^ 64
+    round_fits : ((n : ℕ) → get_or old n 0 < 2 ^ 64) → (n : ℕ) → get_or (round_to parts on old (length parts)) n 0 < 2 ^ 64
     round_fits f =
         round_ind (λ (words : List ℕ). (n : ℕ) → get_or words n 0 < 2 ^ 64) f
         (λ j a b l e words k p. added_fits words b (handed on old j a) k 64 p (lt_of_le_of_lt (and_le_l (get_or old a 0) (on j)) (f a)))
-        count (le_refl count)
+        (length parts) (le_refl (length parts))
 
     module _ (v : ℕ) where
       -- no node gets a bit but from a node that had it, along an edge that is on
       round_only : (Q : ℕ → Type 0) → ((n : ℕ) → bit (get_or old n 0) v ≡ 1 → Q n)
-          → ((j a b : ℕ) → j < count → Along firsts seconds j a b → bit (on j) v ≡ 1 → bit (get_or old a 0) v ≡ 1 → Q b)
-          → (n : ℕ) → bit (get_or (round_to firsts seconds on old count) n 0) v ≡ 1 → Q n
+          → ((j a b : ℕ) → j < length parts → Along parts j a b → bit (on j) v ≡ 1 → bit (get_or old a 0) v ≡ 1 → Q b)
+          → (n : ℕ) → bit (get_or (round_to parts on old (length parts)) n 0) v ≡ 1 → Q n
       round_only Q had along =
           round_ind (λ (words : List ℕ). (n : ℕ) → bit (get_or words n 0) v ≡ 1 → Q n) had
           (λ j a b l e words k p n h.
           ⊎_elim (p n) (λ q. got j a b l e n q) (added_bit words b (handed on old j a) k v n h))
-          count (le_refl count)
+          (length parts) (le_refl (length parts))
         where
-          got : (j a b : ℕ) → j < count → Along firsts seconds j a b → (n : ℕ) → (n ≡ b) × (bit (handed on old j a) v ≡ 1) → Q n
+          got : (j a b : ℕ) → j < length parts → Along parts j a b → (n : ℕ) → (n ≡ b) × (bit (handed on old j a) v ≡ 1) → Q n
           got j a b l e n q =
               let least = rw bit_and_lem at q.1 in
               let o : bit (on j) v ≡ 1 = omega (arith, bit_le_one (on j) v) in
               let h : bit (get_or old a 0) v ≡ 1 = omega (arith, bit_le_one (get_or old a 0) v) in
               rw q.0 (along j a b l e o h)
 
-      round_keeps : (n : ℕ) → bit (get_or old n 0) v ≤ bit (get_or (round_to firsts seconds on old count) n 0) v
+      round_keeps : (n : ℕ) → bit (get_or old n 0) v ≤ bit (get_or (round_to parts on old (length parts)) n 0) v
       round_keeps n =
           round_ind (λ (words : List ℕ). bit (get_or old n 0) v ≤ bit (get_or words n 0) v) (le_refl (bit (get_or old n 0) v))
-          (λ j a b l e words k p. le_trans p (added_bit_grows words b (handed on old j a) k v n)) count (le_refl count)
+          (λ j a b l e words k p. le_trans p (added_bit_grows words b (handed on old j a) k v n)) (length parts) (le_refl (length parts))
 
       -- the edge that was passed last hands on, and what the edges before handed on is kept
-      hands_last : (i a b : ℕ) → i < count → Along firsts seconds i a b → bit (on i) v ≡ 1
-          → bit (get_or old a 0) v ≤ bit (get_or (round_to firsts seconds on old (suc i)) b 0) v
+      hands_last : (i a b : ℕ) → i < length parts → Along parts i a b → bit (on i) v ≡ 1
+          → bit (get_or old a 0) v ≤ bit (get_or (round_to parts on old (suc i)) b 0) v
       unfolding round_to
       hands_last i a b h forward o =
           omega (
             arith,
             bit_and_lem (get_or old a 0) (on i) v,
             bit_le_one (get_or old a 0) v,
-            added_bit_here (half firsts seconds on old i) b (handed on old i a) (in_half i b (ranges.second i h)) v,
+            added_bit_here (half parts on old i) b (handed on old i a) (in_half i b (second_in fit i h)) v,
           )
       hands_last i a b h backward o =
           omega (
             arith,
             bit_and_lem (get_or old a 0) (on i) v,
             bit_le_one (get_or old a 0) v,
-            added_bit_here (round_to firsts seconds on old i) b (handed on old i a) (in_round i b (ranges.first i h)) v,
-            added_bit_grows (half firsts seconds on old i) a (handed on old i b) (in_half i a (ranges.second i h)) v b,
+            added_bit_here (round_to parts on old i) b (handed on old i a) (in_round i b (first_in fit i h)) v,
+            added_bit_grows (half parts on old i) a (handed on old i b) (in_half i a (second_in fit i h)) v b,
           )
 
-      hands_kept : (i n : ℕ) → i < count
-          → bit (get_or (round_to firsts seconds on old i) n 0) v ≤ bit (get_or (round_to firsts seconds on old (suc i)) n 0) v
+      hands_kept : (i n : ℕ) → i < length parts
+          → bit (get_or (round_to parts on old i) n 0) v ≤ bit (get_or (round_to parts on old (suc i)) n 0) v
       unfolding round_to
       hands_kept i n h =
-          let a : ℕ = get_or firsts i 0 in
-          let b : ℕ = get_or seconds i 0 in
+          let a : ℕ = (get_or parts i no_parts).first in
+          let b : ℕ = (get_or parts i no_parts).second in
           le_trans
-          (added_bit_grows (round_to firsts seconds on old i) a (handed on old i b) (in_round i a (ranges.first i h)) v n)
-          (added_bit_grows (half firsts seconds on old i) b (handed on old i a) (in_half i b (ranges.second i h)) v n)
+          (added_bit_grows (round_to parts on old i) a (handed on old i b) (in_round i a (first_in fit i h)) v n)
+          (added_bit_grows (half parts on old i) b (handed on old i a) (in_half i b (second_in fit i h)) v n)
 
       -- so every edge that is on hands on, either way
-      round_hands : (i : ℕ) → i ≤ count → (j a b : ℕ) → j < i → Along firsts seconds j a b → bit (on j) v ≡ 1
-          → bit (get_or old a 0) v ≤ bit (get_or (round_to firsts seconds on old i) b 0) v
+      round_hands : (i : ℕ) → i ≤ length parts → (j a b : ℕ) → j < i → Along parts j a b → bit (on j) v ≡ 1
+          → bit (get_or old a 0) v ≤ bit (get_or (round_to parts on old i) b 0) v
       round_hands zero h j a b l e o = absurd (not-suc-le-zero l)
       round_hands (suc i) h j a b l e o =
           ⊎_elim
@@ -189,7 +194,8 @@ module _ (firsts seconds : List ℕ) (on : ℕ → ℕ) (old : List ℕ) where
 
 -- ---- rounds until one adds nothing
 
--- what holds of the words after k rounds: they are 32 words, and a node has a bit exactly where a path of at most k links joins it to the rail
+-- what holds of the words after k rounds: they are 32 words, and a node has a bit exactly where a path of at most k links joins it to the
+-- rail
 pub record Reached (ws : ℕ → List Link) (rail k : ℕ) (joined : List ℕ) : Type 0 where
   pub long : length joined ≡ 32
   pub fits : (m : ℕ) → get_or joined m 0 < 2 ^ 64
@@ -255,23 +261,28 @@ module _ (rail : ℕ) (rail-in : rail < 32) where
     all = λ m v l w. rw (← within-start-only w, first_whole) (bit-ones 64 v l);
   }
 
-module _ {firsts seconds : List ℕ} {on : ℕ → ℕ} {count rail k : ℕ} {joined : List ℕ} {ws : ℕ → List Link}
-    (ranges : NodesInRange firsts seconds count) (are : LinksAre firsts seconds on count ws) (r : Reached ws rail k joined) where
+module _ {parts : List Parts} {on : ℕ → ℕ} {nodes rail k : ℕ} {joined : List ℕ} {ws : ℕ → List Link}
+    (fit : PartsFit parts nodes) (are : LinksAre parts on ws) (r : Reached ws rail k joined) where
   -- the words after a round
   abbrev after : List ℕ
-  after = round_to firsts seconds on joined count
+  after = round_to parts on joined (length parts)
 
   module _ (v : ℕ) (l : v < 64) where
-    along_within : (j a b : ℕ) → j < count → Along firsts seconds j a b → bit (on j) v ≡ 1
+    along_within : (j a b : ℕ) → j < length parts → Along parts j a b → bit (on j) v ≡ 1
         → WithinLinks (ws v) k rail a → WithinLinks (ws v) (suc k) rail b
     along_within j a b h forward o = within-forth ((are v l (a, b)).1 (record { place = j; within = h; is_on = o; ends = refl }))
     along_within j a b h backward o = within-back ((are v l (b, a)).1 (record { place = j; within = h; is_on = o; ends = refl }))
 
     -- an edge that is on hands on what its end had before
-    handed_over_lem : (j a b : ℕ) → j < count → Along firsts seconds j a b → bit (on j) v ≡ 1
+    handed_over_lem : (j a b : ℕ) → j < length parts → Along parts j a b → bit (on j) v ≡ 1
         → bit (get_or joined a 0) v ≡ 1 → bit (get_or after b 0) v ≡ 1
     handed_over_lem j a b h e o p =
-        omega (arith, bit_le_one (get_or after b 0) v, round_hands firsts seconds on joined count ranges r.long v count (le_refl count) j a b h e o)
+        omega (
+          arith,
+          bit_le_one (get_or after b 0) v,
+          round_hands parts on joined fit r.long v (length parts)
+              (le_refl (length parts)) j a b h e o,
+        )
 
     -- so a path of one link more has its end's bit
     path_has : {m : ℕ} (p : LinkPath (ws v) rail m) → path_length p ≤ suc k → bit (get_or after m 0) v ≡ 1
@@ -281,7 +292,7 @@ module _ {firsts seconds : List ℕ} {on : ℕ → ℕ} {count rail k : ℕ} {jo
           arith,
           bit_le_one (get_or after rail 0) v,
           r.all rail v l (within_more zero-le within-start),
-          round_keeps firsts seconds on joined count ranges r.long v rail,
+          round_keeps parts on joined fit r.long v rail,
         )
     path_has (forth {a = a} {b = b} w p) h =
         let o = (are v l (a, b)).0 w in
@@ -293,16 +304,16 @@ module _ {firsts seconds : List ℕ} {on : ℕ → ℕ} {count rail k : ℕ} {jo
   -- a round reaches one link further
   pub reached_again : Reached ws rail (suc k) after
   reached_again = record {
-    long = round_length firsts seconds on joined count ∙ r.long;
-    fits = round_fits firsts seconds on joined count ranges r.long r.fits;
+    long = round_length parts on joined (length parts) ∙ r.long;
+    fits = round_fits parts on joined fit r.long r.fits;
     only = λ m v l.
-        round_only firsts seconds on joined count ranges r.long v (WithinLinks (ws v) (suc k) rail)
+        round_only parts on joined fit r.long v (WithinLinks (ws v) (suc k) rail)
         (λ n q. within_more (le-suc k) (r.only n v l q)) (λ j a b h e o q. along_within v l j a b h e o (r.only a v l q)) m;
     all = λ m v l w. path_has v l w.path w.short;
   }
 
   module _ (same : joined ≡ after) (v : ℕ) (l : v < 64) where
-    handed_on_lem : (j a b : ℕ) → j < count → Along firsts seconds j a b → bit (on j) v ≡ 1
+    handed_on_lem : (j a b : ℕ) → j < length parts → Along parts j a b → bit (on j) v ≡ 1
         → bit (get_or joined a 0) v ≡ 1 → bit (get_or joined b 0) v ≡ 1
     handed_on_lem j a b h e o p = ap (λ (words : List ℕ). bit (get_or words b 0) v) same ∙ handed_over_lem v l j a b h e o p
 

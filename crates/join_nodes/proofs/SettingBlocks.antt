@@ -1,4 +1,5 @@
--- The planes of 64 settings: a label below 6 has one pattern in every block, any other label is all ones or all zeros by a bit of the block, and the
+-- The planes of 64 settings: a label below 6 has one pattern in every block, any other label is all ones or all zeros by a bit of the
+-- block, and the
 -- known-0 plane is the complement. So the planes give the settings' values. Assumes nothing.
 use mathlib.Core.Path.{◌≡◌, refl, sym, ap, ◌∙◌}
 use mathlib.Core.List.{List, [], ◌∷◌}
@@ -95,15 +96,6 @@ plane-not block l h =
     (word_of_bits ((2 ^ 64 - 1) - plane block l) (λ (v : ℕ). 1 - bit (64 * block + v) l) (omega arith) (λ v k.
     bit_not 64 (plane block l) v (plane_lt block l) k
     ∙ ap (λ (b : ℕ). 1 - b) (bit_word (λ (u : ℕ). bit (64 * block + u) l) (λ u. bit_le_one (64 * block + u) l) v k)))
-
-pub zero-planes-more : (block l : ℕ) → l < 12
-    → set (table 12 (up_to l (zero_plane block))) l ((2 ^ 64 - 1) - get_or (setting_ones block) l 0) ≡ table 12 (up_to (suc l) (zero_plane block))
-zero-planes-more block l h =
-    ap (set (table 12 (up_to l (zero_plane block))) l) (plane-not block l h) ∙ fill_more 12 (zero_plane block) l h
-
-pub settings_of_zero_planes : (block : ℕ) → table 12 (up_to 12 (zero_plane block)) ≡ setting_zeros block
-unfolding setting_zeros table up_to
-settings_of_zero_planes block = refl
 
 -- ---- the planes switch on what the settings' values do
 

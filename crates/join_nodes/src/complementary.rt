@@ -1,50 +1,64 @@
 // The complementary check: over all settings of a type's labels, 64 at a time, with only the running verdict kept.
-ghost use Rattle.std.specs.Prelude.{◌≡◌, ◌+◌, ◌<◌, ◌≤◌, ◌*◌, ◌^◌};
+ghost use Rattle.std.specs.Prelude.{◌≡◌, ◌<◌, ◌≤◌, ◌*◌, ◌^◌};
 ghost use Rattle.switch.specs.Records.{TypeGiven, EdgesGiven, type_of, type_with};
 ghost use Rattle.switch.specs.Deciding.{is_complementary};
 ghost use Rattle.switch.specs.Blocks.{block_holds, by_blocks};
 ghost use Rattle.switch.specs.Modules.{most_labels, most_nodes};
-ghost use Rattle.join_nodes.specs.Model.{ColumnsFit, ColumnsGiven, type_in_columns, OutputTold};
+ghost use Rattle.join_nodes.specs.Model.{PartsGiven, type_in_parts, OutputTold};
 
+use crate::MOST_GATES;
 use crate::conduction::gate_planes;
-use crate::edges::spread;
-use crate::rounds::{begin, joined_to};
+use crate::edges::{Parts, spread};
+use crate::rounds::Network;
 use crate::settings::{setting_ones, setting_zeros};
-use crate::{Columns, MOST_GATES};
-use switch::{Edge, MOST_EDGES, MOST_NODES, ModuleType};
+use switch::{Edge, MOST_NODES, ModuleType};
 use words::first_ones;
 
-// The word of an output for a rail, under 64 settings of the labels.
-fn output_word<'a>(
-    firsts: &'a [u8; MOST_EDGES],
-    seconds: &'a [u8; MOST_EDGES],
-    gates: &'a [u8; MOST_EDGES],
-    count: usize,
-    planes: &[u64; MOST_GATES],
+// A type whose edges are taken apart.
+#[derive(Clone, Copy)]
+struct TypeInParts<'a> {
     highest: u8,
     output: u8,
-    rail: usize,
-) -> u64
-    requires columns_fit { ColumnsFit firsts.now seconds.now gates.now count (highest + 1) }
-    requires output_lt_most_nodes { (output < most_nodes) × (rail < most_nodes) }
-    ensures { OutputTold firsts.now seconds.now gates.now planes.now count output rail result }
+    labels: u8,
+    edges: &'a [Parts],
+    ghost given: { PartsGiven highest output labels edges.now },
+}
+
+impl TypeInParts<'_> {
+    // Whether the output is joined to exactly one rail under each setting, block by block.
+    fn is_complementary(&self) -> bool
+        ensures { result ≡ by_blocks (type_in_parts self.now.highest self.now.output self.now.labels self.now.edges.now) }
+    {
+        (0..settings_of(self.labels).div_ceil(64)).all(|block| self.block_holds(block))
+    }
+
+    // Whether it is under each setting of a block.
+    fn block_holds(&self, block: usize) -> bool
+        requires { 64 * block < 2 ^ self.now.labels }
+        ensures { result ≡ block_holds (type_in_parts self.now.highest self.now.output self.now.labels self.now.edges.now) block }
+    {
+        let mut planes = [0u64; MOST_GATES];
+        gate_planes::<1>(&setting_ones(block), &setting_zeros(block), &mut planes);
+        let network = Network::<1> {
+            highest: self.highest,
+            edges: self.edges,
+            planes: &planes,
+        };
+        let supply = output_word(&network, self.output, 1);
+        let ground = output_word(&network, self.output, 0);
+        let counted = first_ones(settings_of(self.labels) - 64 * block);
+        let one = (supply | ground) & !(supply & ground);
+        one & counted == counted
+    }
+}
+
+// The word of an output for a rail, under 64 settings of the labels.
+fn output_word(network: &Network<1>, output: u8, rail: usize) -> u64
+    requires { (output < most_nodes) × (rail < most_nodes) }
+    ensures { OutputTold network.now.edges.now network.now.planes.now output rail result }
 {
-    let nodes = (highest as usize) + 1;
     let mut joined = [0u64; MOST_NODES];
-    begin(&mut joined, 1, rail);
-    let mut next = joined;
-    joined_to(
-        firsts,
-        seconds,
-        gates,
-        planes,
-        count,
-        1,
-        nodes,
-        rail,
-        &mut joined,
-        &mut next,
-    );
+    network.join_rail(rail, &mut joined);
     joined[output as usize]
 }
 
@@ -53,51 +67,23 @@ fn settings_of(labels: u8) -> usize
     requires { labels ≤ most_labels }
     ensures { (result ≡ 2 ^ labels) × (result ≤ 4096) }
 {
-    1usize << (labels as usize)
+    1 << labels
 }
 
-// Whether the output is joined to exactly one rail under each setting of a block.
-fn block_holds<'a>(
-    firsts: &'a [u8; MOST_EDGES],
-    seconds: &'a [u8; MOST_EDGES],
-    gates: &'a [u8; MOST_EDGES],
-    count: usize,
-    highest: u8,
-    output: u8,
-    labels: u8,
-    block: usize,
-) -> bool
-    requires columns_given { ColumnsGiven highest output labels firsts.now seconds.now gates.now count }
-    requires block_bound { 64 * block < 2 ^ labels }
-    ensures { result ≡ block_holds (type_in_columns highest output labels firsts.now seconds.now gates.now count) block }
-{
-    let ones = setting_ones(block);
-    let zeros = setting_zeros(block);
-    let mut planes = [0u64; MOST_GATES];
-    gate_planes(&ones, &zeros, 1, &mut planes);
-    let supply = output_word(firsts, seconds, gates, count, &planes, highest, output, 1);
-    let ground = output_word(firsts, seconds, gates, count, &planes, highest, output, 0);
-    let counted = first_ones(settings_of(labels) - 64 * block);
-    let one = (supply | ground) & !(supply & ground);
-    one & counted == counted
-}
-
-// Whether a type is complementary, block by block: the work, on the columns of its edges and its three numbers.
-fn complementary_of(c: Columns, highest: u8, output: u8, labels: u8) -> bool
-    requires { ColumnsGiven highest output labels c.firsts c.seconds c.gates c.count }
-    ensures { result ≡ by_blocks (type_in_columns highest output labels c.firsts c.seconds c.gates c.count) }
-{
-    (0..settings_of(labels).div_ceil(64)).all(|block| block_holds(
-        &c.firsts, &c.seconds, &c.gates, c.count, highest, output, labels, block,
-    ))
-}
-
-// The same, on a lent slice of edges and the type's three numbers.
+// Whether a type is complementary, told by a lent slice of its edges and its three numbers, which stay apart as in the contract that `Unique` of `demands` names.
 pub fn complementary(edges: &[Edge], highest: u8, output: u8, labels: u8) -> bool
     requires { EdgesGiven highest output labels edges.now }
     ensures { result ≡ is_complementary (type_with highest output labels edges.now) }
 {
-    complementary_of(spread(edges), highest, output, labels)
+    let parts = spread(edges);
+    let edges = &parts[..edges.len()];
+    TypeInParts {
+        highest,
+        output,
+        labels,
+        edges,
+    }
+    .is_complementary()
 }
 
 // The same, on a type whose edges are lent.

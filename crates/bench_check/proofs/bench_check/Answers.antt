@@ -1,6 +1,6 @@
 -- `bench_check::bench_check` meets its contract: the type is one that the check takes, since its edges are all the same one, in range. Assumes nothing.
 use Prim.Native.Nat.{ℕ, zero, suc, ◌+◌, ◌%◌, ◌<◌, ◌≤◌}
-use mathlib.Core.Path.{◌≡◌, sym, ap, subst, ◌∙◌}
+use mathlib.Core.Path.{◌≡◌, refl, sym, ap, subst, ◌∙◌}
 use mathlib.Core.Bool.{Bool, true, false, ◌&&◌}
 use mathlib.Core.List.{map}
 use native.Mathlib.Nat.{mod-lt}
@@ -8,6 +8,7 @@ use native.Mathlib.Omega.{arith}
 use borrow.Author.Tests.{lt-ltb, le-leb}
 use lib.Dec.{T, leb}
 use lib.ListN.{replicate, take}
+use Rattle.std.specs.Int.{from_bool}
 use Rattle.words.specs.Bits.{of_bool}
 use Rattle.switch.specs.Conduction.{between}
 use Rattle.switch.specs.Modules.{most_edges, all_of, type_in_range, edge_in_range, in_range}
@@ -71,12 +72,12 @@ module _ (h o k node label count : ℕ) where
 pub check_type-requires : goal.check_type-requires
 check_type-requires c = subst TypeGiven (sym c.judged_type.ensures) (given _ _ _ _ _ _ c.ranges.count.fits)
 
--- what was told of the type, as a number
-told : (t u : ModuleType) (r b : Bool) → t ≡ u → r ≡ is_complementary (type_of t) → r ≡ b → of_bool b ≡ of_bool (is_complementary (type_of u))
-told t u r b is verdict e = ap of_bool (sym e ∙ verdict ∙ ap (λ (x : ModuleType). is_complementary (type_of x)) is)
-
-pub returns-then-check_type : goal.returns-then-check_type
-returns-then-check_type c = told _ _ _ true c.judged_type.ensures c.check_type.ensures c.if-check_type.true
+-- a verdict as a number
+as_number : (b : Bool) → from_bool b ≡ of_bool b
+as_number true = refl
+as_number false = refl
 
 pub returns : goal.returns
-returns c = told _ _ _ false c.judged_type.ensures c.check_type.ensures c.if-check_type.false
+returns c =
+    c.from.ensures ∙ as_number c.check_type.result ∙ ap of_bool c.check_type.ensures
+    ∙ ap (λ (t : ModuleType). of_bool (is_complementary (type_of t))) c.judged_type.ensures

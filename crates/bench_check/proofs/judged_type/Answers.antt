@@ -4,10 +4,10 @@ use native.Mathlib.Nat.{mod-lt}
 use native.Mathlib.Omega.{arith}
 use Rattle.bench_check.proofs.judged_type.Goals as goal
 
-pub edge_with-edge-requires : goal.edge_with-edge-requires
-edge_with-edge-requires c =
+pub new-edge-requires : goal.new-edge-requires
+new-edge-requires c =
     let small : c.args.label % (1 + c.args.k % 12) < 1 + c.args.k % 12 = mod-lt c.args.label (omega arith) in
     (omega arith, omega arith, omega (arith, small))
 
 pub returns : goal.returns
-returns c = rw c.edge_with-edge.ensures
+returns c = rw c.new-edge.ensures

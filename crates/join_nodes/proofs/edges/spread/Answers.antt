@@ -1,37 +1,25 @@
--- `join_nodes::edges::spread` meets its contract. The loop's invariant: the columns hold the parts of the first `i` edges. Assumes nothing.
-use mathlib.Core.Path.{◌≡◌, ap, ◌∙◌}
-use mathlib.Core.List.{List}
-use Prim.Native.Nat.{ℕ}
-use native.Mathlib.Omega.{arith}
-use lib.ListN.{length, get_or, set}
-use Rattle.switch.specs.Records.{no_edge, first_node_in, second_node_in, gate_in}
+-- `join_nodes::edges::spread` meets its contract. The loop's invariant: the first `i` places hold the parts of the first `i` edges.
+-- Assumes nothing.
+use Rattle.std.proofs.Common.{◌≡◌, ◌<◌, ◌+◌, ℕ, List, [], ◌∷◌, ◌++◌, length, get_or, take, map, ap, sym, ◌∙◌, arith}
+use Rattle.std.proofs.lemmas.List.{take_more_set, map_more}
+use lib.ListN.{set, length-set}
+use Rattle.switch.specs.Records.{no_edge}
+use Rattle.switch.specs.declared.Edge.{Edge}
 use Rattle.join_nodes.specs.Model.{parts_of}
 use Rattle.join_nodes.specs.declared.edges.Parts.{Parts}
-use Rattle.join_nodes.proofs.EdgeColumns.{column_none, column_more}
 use Rattle.join_nodes.proofs.edges.spread.Goals as goal
 
-pub loop-i-init : goal.loop-i-init
-loop-i-init c =
-    let edges = c.args.edges.now in
-    (omega arith, column_none first_node_in edges, column_none second_node_in edges, column_none gate_in edges)
+-- the parts of one edge more
+more-parts : (edges : List Edge) (parts : List Parts) (i : ℕ) → i < length parts → i < length edges
+    → take i parts ≡ map parts_of (take i edges)
+    → take (i + 1) (set parts i (parts_of (get_or edges i no_edge))) ≡ map parts_of (take (i + 1) edges)
+more-parts edges parts i room h before =
+    take_more_set parts i _ room
+    ∙ ap (λ (front : List Parts). front ++ parts_of (get_or edges i no_edge) ∷ []) before
+    ∙ sym (map_more parts_of edges i no_edge h)
 
 pub loop-i-preserved : goal.loop-i-preserved
-loop-i-preserved c =
-    let edges = c.args.edges.now in
-    let i : ℕ = c.loop-i.i in
-    let before = c.loop-i.invariant in
-    let is : c.parts_of-parts.result ≡ parts_of (get_or edges i no_edge) = c.parts_of-parts.ensures ∙ ap parts_of c.edge_at.ensures in (
-      omega arith,
-      ap (λ (column : List ℕ). set column i c.parts_of-parts.result.first) before.1
-          ∙ column_more first_node_in edges i _ (omega arith) (ap (λ (p : Parts). p.first) is),
-      ap (λ (column : List ℕ). set column i c.parts_of-parts.result.second) before.2
-          ∙ column_more second_node_in edges i _ (omega arith) (ap (λ (p : Parts). p.second) is),
-      ap (λ (column : List ℕ). set column i c.parts_of-parts.result.gate) before.3
-          ∙ column_more gate_in edges i _ (omega arith) (ap (λ (p : Parts). p.gate) is),
-    )
-
-pub returns : goal.returns
-returns c =
-    let last : c.loop-i.i ≡ length c.args.edges.now = omega arith in
-    let now = rw last at c.loop-i.invariant in
-    rw (last, now.1, now.2, now.3)
+loop-i-preserved c = (
+  simp length-set c.loop-i.invariant.0,
+  rw c.from.ensures (more-parts c.args.edges.now c.loop-i.parts c.loop-i.i (omega arith) (omega arith) c.loop-i.invariant.1),
+)

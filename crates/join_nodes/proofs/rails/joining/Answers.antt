@@ -1,14 +1,25 @@
--- `join_nodes::rails::joining` meets its contract: the slice is spread, and its columns hold its edges without their tags. Assumes nothing.
+-- `join_nodes::rails::joining` meets its contract: the rounds' words over the parts of the slice's edges, and how many rounds there were,
+-- are those of its edges
+-- without their tags. Assumes nothing.
+use native.Mathlib.Omega.{arith}
 use Rattle.switch.specs.Records.{type_with}
-use Rattle.join_nodes.proofs.EdgeColumns.{edges_told_lem, columns_fit}
+use Prim.Native.Nat.{◌+◌}
+use lib.ListN.{length, take}
+use Rattle.join_nodes.specs.Model.{PartsFit}
+use Rattle.join_nodes.proofs.EdgeParts.{edges_told_lem, parts_fit}
+use Rattle.join_nodes.proofs.RailWords.{rails_told}
 use Rattle.join_nodes.proofs.rails.joining.Goals as goal
 
-pub joining_of-requires : goal.joining_of-requires
-joining_of-requires c = columns_fit _ _ _ c.args.edges.now c.requires c.spread.result c.spread.ensures
+pub invariant_of-network-clause-fit : goal.invariant_of-network-clause-fit
+invariant_of-network-clause-fit c =
+    let a = c.args in
+    rw c.spread-parts.ensures (parts_fit a.highest a.output a.labels a.edges.now c.requires)
 
 pub returns : goal.returns
+unfolding type_with
 returns c =
     let a = c.args in
-    c.joining_of.ensures
-    (type_with a.highest a.output a.labels a.edges.now)
-    (edges_told_lem a.edges.now c.requires.places a.highest a.output a.labels c.spread.result c.spread.ensures)
+    let fit : PartsFit (take (length a.edges.now) c.spread-parts.result) (a.highest + 1)
+    = rw c.spread-parts.ensures (parts_fit a.highest a.output a.labels a.edges.now c.requires) in
+    rails_told _ fit c.gate_planes.ensures _ _ _ _ _ (omega arith) c.join_rail-to_supply.ensures c.join_rail-to_ground.ensures
+    (type_with a.highest a.output a.labels a.edges.now) (rw c.spread-parts.ensures (edges_told_lem a.edges.now))

@@ -4,4 +4,4 @@ use Rattle.join_nodes.specs.Model.{handed_to}
 use Rattle.join_nodes.proofs.rounds.hand_on.Given as goal
 
 abbrev pub invariant-loop-w : goal.invariant-loop-w
-invariant-loop-w l = l.next ≡ handed_to l.planes l.at l.joined l.from l.initial.next l.to l.w
+invariant-loop-w g l = l.to ≡ handed_to l.plane 0 l.from 0 l.initial.to 0 l.w

@@ -1,4 +1,5 @@
--- `join_nodes::settings::setting_ones` meets its contract. The loop's invariant: the labels below `l` have their planes, and the others 0. Assumes nothing.
+-- `join_nodes::settings::setting_ones` meets its contract. The loop's invariant: the labels below `l` have their planes, and the others 0.
+-- Assumes nothing.
 use mathlib.Core.Path.{◌≡◌, ap, ◌∙◌}
 use mathlib.Core.List.{List}
 use Prim.Native.Nat.{ℕ, ◌-◌, ◌^◌}

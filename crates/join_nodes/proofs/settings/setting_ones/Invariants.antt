@@ -1,4 +1,5 @@
--- `join_nodes::settings::setting_ones` meets its contract. The loop's invariant: the labels below `l` have their planes, and the others 0. Assumes nothing.
+-- `join_nodes::settings::setting_ones` meets its contract. The loop's invariant: the labels below `l` have their planes, and the others 0.
+-- Assumes nothing.
 use mathlib.Core.Path.{◌≡◌}
 use Rattle.words.specs.Tables.{table, up_to}
 use Rattle.join_nodes.proofs.SettingBlocks.{plane}

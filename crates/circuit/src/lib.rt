@@ -1,7 +1,7 @@
 // The circuit that a file tells, and the refusals of the table.
 #![tactic(auto)]
 
-ghost use Rattle.std.specs.Prelude.{◌≡◌, take};
+ghost use Rattle.std.specs.Prelude.{◌≡◌};
 ghost use Rattle.circuit.specs.Records.{unused_reference, unused_instance};
 
 pub mod limits;
@@ -68,7 +68,7 @@ pub struct Vector {
 }
 
 // A circuit. Of each array the first places are used, as many as its count says; every other place holds the default.
-// There is no heap, so arrays with counts, and the theorems on `circuit_record` name each: its methods lend what is in use.
+// There is no heap, so these are arrays with counts, and the theorems on `circuit_record` name each.
 #[derive(Clone, Copy)]
 pub struct Circuit {
     pub inputs: usize,
@@ -81,32 +81,6 @@ pub struct Circuit {
     pub faults: usize,
     pub vector_count: usize,
     pub vectors: [Vector; MOST_VECTORS],
-}
-
-impl Circuit {
-    pub fn types(&self) -> &[ModuleType]
-        ensures { result.now ≡ take self.now.type_count self.now.types }
-    {
-        &self.types[..self.type_count.min(MOST_TYPES)]
-    }
-
-    pub fn bridges(&self) -> &[Bridge]
-        ensures { result.now ≡ take self.now.bridge_count self.now.bridges }
-    {
-        &self.bridges[..self.bridge_count.min(MOST_BRIDGES)]
-    }
-
-    pub fn instances(&self) -> &[Instance]
-        ensures { result.now ≡ take self.now.instance_count self.now.instances }
-    {
-        &self.instances[..self.instance_count.min(MOST_INSTANCES)]
-    }
-
-    pub fn vectors(&self) -> &[Vector]
-        ensures { result.now ≡ take self.now.vector_count self.now.vectors }
-    {
-        &self.vectors[..self.vector_count.min(MOST_VECTORS)]
-    }
 }
 
 // What reading answers: why the file is refused, or no refusal and its circuit.

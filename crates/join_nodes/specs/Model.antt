@@ -1,5 +1,5 @@
--- What the code computes on the way, as lists: edges taken apart, planes of gates, rounds of joining, planes of 64 settings. Only the code's
--- own proofs use it. A word has a bit for each of 64 vectors, or of 64 settings.
+-- What the code computes on the way, as lists: edges taken apart, planes of gates, rounds of joining, planes of 64 settings. Only its own
+-- proofs use it. A word has a bit for each of 64 vectors, or of 64 settings.
 use Rattle.std.specs.Prelude.{ℕ, zero, suc, ◌+◌, ◌-◌, ◌*◌, ◌/◌, ◌%◌, ◌^◌, ◌<◌, ◌≤◌, ◌↔◌, ◌≡◌}
 use Rattle.std.specs.Prelude.{List, map, ◌++◌, length, get_or, set, replicate}
 use Rattle.std.specs.Int.Bits.{bit_and, bit_or}

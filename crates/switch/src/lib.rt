@@ -1,7 +1,7 @@
 // Switch-level modules: the limits of a module type and the records that the other crates hand on. The code is in the crate `join_nodes`.
 #![tactic(auto)]
 
-ghost use Rattle.std.specs.Prelude.{◌≡◌, take};
+ghost use Rattle.std.specs.Prelude.{◌≡◌};
 ghost use Rattle.switch.specs.Records.{unused_type};
 
 mod edges;
@@ -21,7 +21,7 @@ pub struct Edge {
 }
 
 // A module type: highest node, output node, number of labels, and its edges, in the first `count` places.
-// There is no heap, so an array with a count, of which `edges` lends what is in use.
+// There is no heap, so an array with a count.
 #[derive(Clone, Copy)]
 pub struct ModuleType {
     pub highest: u8,
@@ -43,15 +43,6 @@ impl Default for ModuleType {
             count: 0,
             edges: [Edge::default(); MOST_EDGES],
         }
-    }
-}
-
-impl ModuleType {
-    // The edges in use.
-    pub fn edges(&self) -> &[Edge]
-        ensures { result.now ≡ take self.now.count self.now.edges }
-    {
-        &self.edges[..self.count.min(MOST_EDGES)]
     }
 }
 

@@ -79,6 +79,8 @@ fn listed(rows: &mut [u32], at: usize, instance: u32, list: u8, bridges: &[Bridg
 }
 
 // The rows of the instance at a place, with t its type, from a place among the codes on; answers where they end.
+// Put into its two callers, since a call that lends the bridges makes the compiler keep the circuit whole: 4.6 KB more of stack.
+#[inline(always)]
 pub fn list_rows(
     one: Instance,
     t: ModuleType,

@@ -40,25 +40,25 @@ impl Shape {
 
 // Whether a node is on the n side of a type: ground, or the output or a node above it.
 #[tactic(auto, unfolding(switch::specs::Conduction::n_end, switch::specs::Conduction::between))]
-fn n_end(h: u8, o: u8, m: u8) -> bool
-    ensures { result ≡ n_end h o m }
+fn n_end(t: &ModuleType, m: u8) -> bool
+    ensures { result ≡ n_end t.now.highest t.now.output m }
 {
-    m == 0 || (o..=h).contains(&m)
+    m == 0 || (t.output..=t.highest).contains(&m)
 }
 
-// Whether an edge with these ends is p-channel, in a type with the output node o.
+// Whether an edge with these ends is p-channel.
 #[tactic(auto, unfolding(switch::specs::Conduction::p_ends, switch::specs::Conduction::between))]
-fn p_ends(o: u8, a: u8, b: u8) -> bool
-    ensures { result ≡ p_ends o a b }
+fn p_ends(t: &ModuleType, a: u8, b: u8) -> bool
+    ensures { result ≡ p_ends t.now.output a b }
 {
-    (1..=o).contains(&a) && (1..=o).contains(&b)
+    (1..=t.output).contains(&a) && (1..=t.output).contains(&b)
 }
 
 #[tactic(auto, unfolding(switch::specs::Conduction::bad_ends, switch::specs::Conduction::n_ends))]
-fn bad_nodes(h: u8, o: u8, a: u8, b: u8) -> bool
-    ensures { result ≡ bad_ends h o a b }
+fn bad_nodes(t: &ModuleType, a: u8, b: u8) -> bool
+    ensures { result ≡ bad_ends t.now.highest t.now.output a b }
 {
-    a == b || !(p_ends(o, a, b) || n_end(h, o, a) && n_end(h, o, b))
+    a == b || !(p_ends(t, a, b) || n_end(t, a) && n_end(t, b))
 }
 
 fn labels_below(labels: &[u8], k: u8) -> bool
@@ -74,7 +74,7 @@ fn add_each(a: u8, b: u8, labels: &[u8], t: &mut ModuleType)
     requires room { t.old.count + length labels.now ≤ most_edges }
     ensures { t.new ≡ with_placed t.old (map edge_record (edges_for a b (channel_of t.old.output a b) labels.now)) }
 {
-    let p_channel = p_ends(t.output, a, b);
+    let p_channel = p_ends(t, a, b);
     for l in labels {
         t.edges[t.count] = Edge::new(a, b, *l, p_channel, false);
         t.count += 1;
@@ -99,7 +99,7 @@ fn add_labelled(f: Field, t: &mut ModuleType) -> Result<(), Refusal>
     if t.highest < *a || t.highest < *b || !labels_below(labels, t.labels) {
         return Err(Refusal::OutOfRange(f.at));
     }
-    if bad_nodes(t.highest, t.output, *a, *b) {
+    if bad_nodes(t, *a, *b) {
         return Err(Refusal::BadEnds(f.at));
     }
     add_each(*a, *b, labels, t);

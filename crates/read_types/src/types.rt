@@ -19,7 +19,7 @@ use read_fields::{Field, Step};
 use switch::ModuleType;
 
 // The types that were read, and where the stage ended, with the refusal if it ended at a type that is refused.
-// No Result: what was read before a refusal is told too.
+// No Result: what was read before a refusal is told too. There is no heap, so an array with a count, and `TypesRead` names each.
 #[derive(Clone, Copy)]
 pub struct Types {
     pub refusal: Option<Refusal>,

@@ -24,7 +24,7 @@ use Rattle.switch.specs.declared.ModuleType.{ModuleType as TypeRecord}
 use Rattle.switch.proofs.Deciding.{all_of_lem}
 use Rattle.circuit.specs.Circuit.{Circuit, Instance, Reference, primary, output_of, type_of_instance, join_lists}
 use Rattle.circuit.specs.Numbers.{reference_good}
-use Rattle.circuit.specs.Records.{type_record, instance_record, reference_record, unused_reference, padded, circuit_record}
+use Rattle.circuit.specs.Records.{type_record, instance_record, reference_record, unused_reference, number_told, padded, circuit_record}
 use Rattle.circuit.specs.Laws.{TypeSound, CircuitGood}
 use Rattle.circuit.specs.declared.Circuit.{Circuit as CircuitRecord}
 use Rattle.circuit.specs.declared.Vector.{Vector as VectorRecord}
@@ -264,7 +264,7 @@ module _ (m : CircuitRecord) (told : CircuitGiven m) (matrix₀ matrix' codes' :
 -- ---- one instance
 
 number-range : (P i : ℕ) (r : Reference) → P ≤ 64 → i < 128 → T (reference_good P i r)
-    → (1 ≤ (reference_record r).number) × ((reference_record r).number ≤ 64 + 64)
+    → (1 ≤ number_told (reference_record r)) × (number_told (reference_record r) ≤ 64 + 64)
 unfolding reference_good reference_record
 number-range P i (primary n) h q t = ((in_between 1 P n t).0, omega (arith, in_between 1 P n t))
 number-range P i (output_of j) h q t = ((in_between 1 i j t).0, omega (arith, in_between 1 i j t))
@@ -327,8 +327,8 @@ module _ (c : Circuit) (good : CircuitGood c) (m : CircuitRecord) (is : m ≡ ci
           kept = length-take-le type.labels (references_of inst) (omega (arith, few, references_long inst))
 
           range : (l : ℕ) → l < length (take type.labels (references_of inst))
-              → (1 ≤ (get_or (take type.labels (references_of inst)) l unused_reference).number)
-              × ((get_or (take type.labels (references_of inst)) l unused_reference).number ≤ 64 + 64)
+              → (1 ≤ number_told (get_or (take type.labels (references_of inst)) l unused_reference))
+              × (number_told (get_or (take type.labels (references_of inst)) l unused_reference) ≤ 64 + 64)
           range l q =
               let g = good_at c i inst at in
               let label : l < type.labels = omega (arith, kept) in

@@ -11,13 +11,12 @@ ghost use Rattle.grading.specs.Promise.{Promise, PromiseOfRead};
 ghost use Rattle.grade_file.specs.Model.{Graded, RowsMarked};
 
 use circuit::limits::{MOST_FAULTS, MOST_VECTORS};
-use circuit::refusal::refuses;
 use circuit::{Circuit, Reading, Vector};
 use grade_classes::{class_rows, write_keys};
 use grade_inputs::{Signals, put_signals};
 use grade_marks::instance::mark_instance;
 use grade_rows::list_rows;
-use grading::{Answer, Counts};
+use grading::{Answer, Counts, Ungraded};
 use read_file::read::read_stages;
 
 // The signals of vectors, put into signals that are 0. The vectors are handed over whole, so that their copy is done with here: lent by the caller it takes 2 KB of stack more.
@@ -93,12 +92,12 @@ pub fn grade_circuit(c: Circuit, matrix: &mut [u64], classes: &mut [u16]) -> Ans
     let faults = c.faults;
     let words = 4 * faults;
     if matrix.len() < words {
-        return Answer::ShortMatrix(words);
+        return Err(Ungraded::ShortMatrix(words));
     }
     if classes.len() < faults {
-        return Answer::ShortClasses(faults);
+        return Err(Ungraded::ShortClasses(faults));
     }
-    Answer::Graded(fill_buffers(c, matrix, classes))
+    Ok(fill_buffers(c, matrix, classes))
 }
 
 // A file as it was read, for a caller that keeps its circuit: what its circuit answers, or the refusal, with both buffers as they were.
@@ -106,12 +105,10 @@ pub fn grade_read(reading: Reading, matrix: &mut [u64], classes: &mut [u16]) -> 
     requires { Read reading }
     ensures { PromiseOfRead reading (buffers_of matrix.old classes.old) result (buffers_of matrix.new classes.new) }
 {
-    let refusal = reading.refusal;
-    if refuses(refusal) {
-        return Answer::Refused(refusal);
+    match reading.refusal {
+        Some(why) => Err(why.into()),
+        None => grade_circuit(reading.circuit, matrix, classes),
     }
-    let c = reading.circuit;
-    grade_circuit(c, matrix, classes)
 }
 
 // Any bytes and any buffers.

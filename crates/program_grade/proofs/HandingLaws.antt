@@ -9,7 +9,7 @@ use Rattle.print_lines.specs.declared.Piece.{Piece}
 use Rattle.print_lines.proofs.PieceLaws.{piece-some}
 use Rattle.grading.specs.Buffers.{Room, room_for_all}
 use Rattle.grading.specs.Grading.{grading_of}
-use Rattle.grading.specs.declared.Answer.{Answer}
+use Rattle.grading.specs.Promise.{Answer}
 use Rattle.print_report.specs.Report.{report_line, line_count}
 use Rattle.print_report.specs.Promise.{PieceOfReport, ReportPiece}
 use Rattle.print_report.proofs.ReportLaws.{lines_fit, report_is_lines}

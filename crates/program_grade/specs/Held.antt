@@ -1,7 +1,7 @@
 -- What the program holds of a file, to tell its report.
 use Rattle.std.specs.Prelude.{ℕ, ◌≡◌, List}
 use Rattle.grading.specs.Buffers.{Buffers, room_of, room_for_all}
-use Rattle.grading.specs.declared.Answer.{Answer}
+use Rattle.grading.specs.Promise.{Answer}
 use Rattle.print_report.specs.Promise.{OutcomeOf}
 
 -- what is held of a file: its outcome, from buffers with the room that the program gives

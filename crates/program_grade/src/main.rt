@@ -7,7 +7,6 @@ ghost use Rattle.program_grade.specs.Held.{FileHeld};
 
 use circuit::Reading;
 use circuit::limits::{MOST_BYTES, MOST_FAULTS};
-use circuit::refusal::refuses;
 use grade_file::grade::grade_read;
 use grade_rows::rows_of;
 use grading::Answer;
@@ -30,12 +29,10 @@ fn rows_read(reading: Reading) -> [u32; MOST_FAULTS]
     requires { Read reading }
     ensures { RowsRead reading result }
 {
-    let refusal = reading.refusal;
-    if refuses(refusal) {
-        return [0u32; MOST_FAULTS];
+    match reading.refusal {
+        Some(_) => [0u32; MOST_FAULTS],
+        None => rows_of(reading.circuit),
     }
-    let circuit = reading.circuit;
-    rows_of(circuit)
 }
 
 // What grading left of a file: its answer, the rows as numbers, the matrix and the classes.

@@ -1,4 +1,3 @@
 -- What reading as a whole rests on.
-pub mod ColumnLaws
 pub mod ReadLaws
 pub mod StagesOnce

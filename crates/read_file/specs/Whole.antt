@@ -1,21 +1,15 @@
--- How a file begins, its types with their shapes, and the answer of reading put together from what the stages have read.
-use Rattle.std.specs.Prelude.{ℕ, ◌≤◌, ◌≡◌, Bool, List, length, get_or}
-use Rattle.words.specs.Tables.{table, up_to}
-use Rattle.switch.specs.declared.ModuleType.{ModuleType as TypeRecord}
-use Rattle.circuit.specs.Limits.{most_types}
+-- How a file begins, and the answer of reading put together from what the stages have read.
+use Rattle.std.specs.Prelude.{ℕ, ◌≤◌, ◌≡◌, Bool, List, length, Option}
 use Rattle.circuit.specs.Fields.{cut_from}
 use Rattle.circuit.specs.Reading.{reading_with, unless}
-use Rattle.circuit.specs.Records.{unused_type}
 use Rattle.circuit.specs.Refusals.{verdict_of}
 use Rattle.circuit.specs.Stages.{after_inputs, gathered_from, gathered_of}
 use Rattle.circuit.specs.declared.Reading.{Reading as ReadingRecord}
 use Rattle.circuit.specs.declared.refusal.Refusal.{Refusal}
-use Rattle.read_types.specs.ReadTypes.{TypesRead}
 use Rattle.read_types.specs.declared.types.Types.{Types}
 use Rattle.read_bridges.specs.declared.Bridges.{Bridges}
 use Rattle.read_instances.specs.declared.Instances.{Instances}
 use Rattle.read_file.specs.declared.read.Start.{Start}
-use Rattle.read_file.specs.declared.shapes.Shaped.{Shaped}
 use Rattle.read_vectors.specs.declared.Vectors.{Vectors}
 
 -- what a file reads as: the refusal of its start, or, where that passes, what the rest reads as from this place on with this many inputs;
@@ -27,21 +21,7 @@ pub record StartRead (wanted : Bool) (file : List ℕ) (r : Start) : Type 0 wher
   pub place : r.at ≤ length file
   pub few : r.inputs ≤ 64
 
--- of each of the first n places for types what is shown of it; 0 in the others
-abbrev pub column_of : (TypeRecord → ℕ) → List TypeRecord → ℕ → List ℕ
-column_of shown all n = table most_types (up_to n (λ (m : ℕ). shown (get_or all m unused_type)))
-
--- what was read of types, without their shapes
-abbrev pub types_of : Shaped → Types
-types_of r = record { refusal = r.refusal; at = r.at; count = r.count; all = r.all }
-
--- the types from an offset on, and the shape of each
-pub record ShapedRead (file : List ℕ) (from : ℕ) (r : Shaped) : Type 0 where
-  pub read : TypesRead file from (types_of r)
-  pub nodes : r.nodes ≡ column_of (λ (t : TypeRecord). t.highest) r.all r.count
-  pub labels : r.labels ≡ column_of (λ (t : TypeRecord). t.labels) r.all r.count
-
-abbrev pub whole_of : Refusal → ℕ → Types → Bridges → Instances → Vectors → ReadingRecord
+abbrev pub whole_of : Option Refusal → ℕ → Types → Bridges → Instances → Vectors → ReadingRecord
 whole_of why P t b i v = record {
   refusal = why;
   circuit = record {

@@ -3,4 +3,3 @@
 
 mod ending;
 pub mod read;
-mod shapes;

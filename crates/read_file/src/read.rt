@@ -1,76 +1,84 @@
 // Reading a file: its start, the stages in file order, and then the ending.
-ghost use Rattle.std.specs.Prelude.{◌≡◌, ◌+◌, ◌≤◌, length};
+ghost use Rattle.std.specs.Prelude.{◌≡◌, length, Some};
 ghost use Rattle.circuit.specs.Table.{first_of, inputs_tests};
 ghost use Rattle.circuit.specs.Reading.{reading_of};
 ghost use Rattle.circuit.specs.Records.{circuit_record, empty_circuit};
-ghost use Rattle.circuit.specs.Refusals.{verdict_of};
 ghost use Rattle.circuit.specs.Answers.{Answers};
-ghost use Rattle.read_fields.specs.Steps.{body_of};
+ghost use Rattle.circuit.specs.Fields.{two_bytes};
+ghost use Rattle.read_fields.specs.Gathers.{JudgedAs};
 ghost use Rattle.read_file.specs.ReadStages.{ReadByStages};
-ghost use Rattle.read_file.specs.Whole.{StartRead, types_of, whole_of};
+ghost use Rattle.read_file.specs.Whole.{StartRead, whole_of};
 
 use crate::ending::ending;
-use crate::shapes::{Shaped, read_shaped};
 use circuit::limits::{MOST_BRIDGES, MOST_BYTES, MOST_INSTANCES, MOST_TYPES, MOST_VECTORS};
 use circuit::order::Kind;
-use circuit::refusal::{Refusal, or_if, refuses};
-use circuit::{Circuit, Reading};
+use circuit::refusal::Refusal;
+use circuit::{Bridge, Circuit, Instance, Reading, Vector};
 use read_bridges::lists::lists_of;
-use read_bridges::{Bridges, no_bridge, read_bridges};
-use read_fields::{Field, Next, field_of, two_bytes};
-use read_instances::{Held, Instances, no_instance, read_instances};
-use read_types::types::no_type;
-use read_vectors::{Vectors, no_vector, read_vectors};
+use read_bridges::{Bridges, read_bridges};
+use read_fields::Field;
+use read_fields::cursor::Reader;
+use read_instances::{Held, Instances, read_instances};
+use read_types::types::{Types, read_types};
+use read_vectors::{Vectors, read_vectors};
+use switch::ModuleType;
 
 // The circuit with nothing in it.
+#[tactic(auto, using(crate::proofs::ReadLaws::empty_record))]
 fn empty_circuit() -> Circuit
     ensures { result ≡ circuit_record empty_circuit }
 {
     Circuit {
         inputs: 0,
         type_count: 0,
-        types: [no_type(); MOST_TYPES],
+        types: [ModuleType::default(); MOST_TYPES],
         bridge_count: 0,
-        bridges: [no_bridge(); MOST_BRIDGES],
+        bridges: [Bridge::default(); MOST_BRIDGES],
         instance_count: 0,
-        instances: [no_instance(); MOST_INSTANCES],
+        instances: [Instance::default(); MOST_INSTANCES],
         faults: 0,
         vector_count: 0,
-        vectors: [no_vector(); MOST_VECTORS],
+        vectors: [Vector::default(); MOST_VECTORS],
     }
 }
 
 // The refusal, beside an empty circuit.
 fn refused(refusal: Refusal) -> Reading
-    ensures { result ≡ record { refusal = refusal; circuit = circuit_record empty_circuit } }
+    ensures { result ≡ record { refusal = Some refusal; circuit = circuit_record empty_circuit } }
 {
     Reading {
-        refusal,
+        refusal: Some(refusal),
         circuit: empty_circuit(),
     }
 }
 
-// The first test of the inputs field that refuses.
-fn inputs_verdict(file: &[u8], f: Field) -> Refusal
-    requires { f.body + f.len ≤ length file.now }
-    ensures { verdict_of result ≡ first_of (inputs_tests f.at (body_of file.now f)) }
+// The number of inputs that the inputs field says, or the first test of the table that refuses it.
+#[tactic(auto, unfolding(circuit::specs::Table::inputs_tests, circuit::specs::Table::first_of, switch::specs::Conduction::between))]
+fn inputs_in(f: Field) -> Result<usize, Refusal>
+    ensures { JudgedAs (first_of (inputs_tests f.entry.at f.entry.body.now)) (two_bytes f.entry.body.now 0) result }
 {
-    let inputs = two_bytes(file, f, 0);
-    let v = or_if(Refusal::Nothing, f.len != 2, Refusal::WrongLength(f.at));
-    or_if(v, inputs < 1 || 64 < inputs, Refusal::OutOfRange(f.at))
+    if f.body.len() != 2 {
+        return Err(Refusal::WrongLength(f.at));
+    }
+    let inputs = f.two_bytes(0);
+    if !(1..=64).contains(&inputs) {
+        return Err(Refusal::OutOfRange(f.at));
+    }
+    Ok(inputs)
 }
 
 // The answer put together from the refusal that counts and what the stages have read.
 fn whole(
-    refusal: Refusal,
+    refusal: Option<Refusal>,
     inputs: usize,
-    types: Shaped,
+    types: Types,
     bridges: Bridges,
     instances: Instances,
     vectors: Vectors,
 ) -> Reading
-    ensures { result ≡ whole_of refusal inputs (types_of types) bridges instances vectors }
+    ensures { result ≡ whole_of refusal inputs types bridges instances vectors }
 {
+    // Arrays by names of their own: the check covers no array's field that stands in a literal.
     let all_types = types.all;
     let all_bridges = bridges.all;
     let all_instances = instances.all;
@@ -90,16 +98,16 @@ fn whole(
     Reading { refusal, circuit }
 }
 
-// Why a file is refused at its start, or `Nothing`, the number of inputs, and where reading goes on.
+// How a file starts: why it is refused there, if it is, the number of inputs, and where reading goes on. No Result: the stages are called after a refusal too.
 #[derive(Clone, Copy)]
 struct Start {
-    refusal: Refusal,
+    refusal: Option<Refusal>,
     at: usize,
     inputs: usize,
 }
 
-// A file refused at its start. The stages then begin at its end, where they find no field.
-fn refused_at_start(file: &[u8], refusal: Refusal) -> Start
+// A file refused at its start, if it is. The stages then begin at its end, where they find no field.
+fn ended_at_start(file: &[u8], refusal: Option<Refusal>) -> Start
     ensures { result ≡ record { refusal = refusal; at = length file.now; inputs = 0 } }
 {
     Start {
@@ -114,19 +122,19 @@ fn read_start(file: &[u8], vector_wanted: bool) -> Start
     ensures { StartRead vector_wanted file.now result }
 {
     if MOST_BYTES < file.len() {
-        return refused_at_start(file, Refusal::TooLong);
+        return ended_at_start(file, Some(Refusal::TooLong));
     }
-    let Next::Found(f) = field_of(file, 0, Kind::Inputs) else {
-        return refused_at_start(file, ending(file, 0, 0, 0, vector_wanted));
+    let mut reader = Reader::new(file, 0);
+    let Some(f) = reader.next_of(Kind::Inputs) else {
+        return ended_at_start(file, ending(file, 0, 0, 0, vector_wanted));
     };
-    let refusal = inputs_verdict(file, f);
-    if refuses(refusal) {
-        return refused_at_start(file, refusal);
-    }
-    Start {
-        refusal,
-        at: f.body + f.len,
-        inputs: two_bytes(file, f, 0),
+    match inputs_in(f) {
+        Err(refusal) => ended_at_start(file, Some(refusal)),
+        Ok(inputs) => Start {
+            refusal: None,
+            at: reader.at,
+            inputs,
+        },
     }
 }
 
@@ -136,20 +144,16 @@ pub fn read_stages(file: &[u8], vector_wanted: bool) -> Reading
     ensures { ReadByStages vector_wanted file.now result }
 {
     let start = read_start(file, vector_wanted);
-    let types = read_shaped(file, start.at);
+    let types = read_types(file, start.at);
     let bridges = read_bridges(file, types.at);
-    let nodes = types.nodes;
-    let labels = types.labels;
-    let all_bridges = bridges.all;
-    let lists = lists_of(all_bridges, bridges.count);
+    let lists = lists_of(&bridges.all[..bridges.count]);
     let held = Held {
-        nodes,
-        labels,
-        lists,
+        inputs: start.inputs,
+        types: &types.all[..types.count],
+        lists: &lists,
     };
-    let inputs = start.inputs;
-    let instances = read_instances(file, bridges.at, inputs, types.count, held);
-    let vectors = read_vectors(file, instances.at, inputs);
+    let instances = read_instances(file, bridges.at, held);
+    let vectors = read_vectors(file, instances.at, start.inputs);
     let last = ending(
         file,
         vectors.at,
@@ -157,27 +161,24 @@ pub fn read_stages(file: &[u8], vector_wanted: bool) -> Reading
         vectors.count,
         vector_wanted,
     );
-    let at_start = start.refusal;
-    let in_types = types.refusal;
-    let in_bridges = bridges.refusal;
-    let in_instances = instances.refusal;
-    let in_vectors = vectors.refusal;
-    let refusal = or_if(at_start, true, in_types);
-    let refusal = or_if(refusal, true, in_bridges);
-    let refusal = or_if(refusal, true, in_instances);
-    let refusal = or_if(refusal, true, in_vectors);
-    let refusal = or_if(refusal, true, last);
-    whole(refusal, inputs, types, bridges, instances, vectors)
+    let refusal = start
+        .refusal
+        .or(types.refusal)
+        .or(bridges.refusal)
+        .or(instances.refusal)
+        .or(vectors.refusal)
+        .or(last);
+    whole(refusal, start.inputs, types, bridges, instances, vectors)
 }
 
-// Any bytes at all: the circuit that they tell, or the refusal.
+// Any bytes at all: the circuit that they tell, or the refusal. No Result: `Answers` promises an empty circuit beside a refusal.
+#[tactic(auto, using(crate::proofs::ReadLaws::told_refused, crate::proofs::ReadLaws::told_accepted))]
 pub fn read(file: &[u8]) -> Reading
     ensures { Answers (reading_of file.now) result }
 {
     let reading = read_stages(file, true);
-    let why = reading.refusal;
-    if refuses(why) {
-        return refused(why);
+    match reading.refusal {
+        Some(why) => refused(why),
+        None => reading,
     }
-    reading
 }

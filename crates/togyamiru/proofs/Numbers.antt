@@ -6,24 +6,14 @@ use native.Mathlib.Omega.{arith}
 use lib.ListN.{length, take, drop_of_length-le}
 use Rattle.grading.specs.Buffers.{Buffers}
 use Rattle.grading.specs.Grading.{Counts, Grading, number_in, place_in, over}
-use Rattle.grading.specs.Promise.{number_of, place_of, counts_meant, counts_of, AnswersAs}
+use Rattle.grading.specs.Promise.{Answer, number_of, place_of, counts_meant, counts_of, AnswersAs}
 use Rattle.grading.specs.declared.Counts.{Counts as CountsRecord}
-use Rattle.grading.specs.declared.Answer.{Answer}
 use Rattle.togyamiru.specs.Entry.{six_numbers, EntryMeets}
 use Rattle.togyamiru.specs.NumbersEntry.{all_numbers, numbers_of, NumbersMeet}
 
 -- numbers in a row, with counts that are given whole
 abbrev pub numbers : ℕ → ℕ → Counts → List ℕ
 numbers n p counts = n ∷ p ∷ counts.vectors ∷ counts.faults ∷ counts.classes ∷ counts.found ∷ counts.rounds ∷ []
-
--- those of an answer, from what the code takes of it
-pub numbers-told : (answer : Answer) (n p : ℕ) (counts : CountsRecord)
-    → n ≡ number_of answer → p ≡ place_of answer → counts_meant counts ≡ counts_of answer → numbers n p (counts_meant counts) ≡ numbers_of answer
-unfolding numbers_of
-numbers-told answer n p counts is-n is-p are =
-    ap (λ (m : ℕ). numbers m p (counts_meant counts)) is-n
-    ∙ ap (λ (m : ℕ). numbers (number_of answer) m (counts_meant counts)) is-p
-    ∙ ap (numbers (number_of answer) (place_of answer)) are
 
 module _ (g : Grading) (answer : Answer) (before after : Buffers) (all : List ℕ) (answers : AnswersAs g answer before after)
     (told : all ≡ numbers_of answer) where

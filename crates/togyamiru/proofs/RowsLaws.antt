@@ -7,21 +7,21 @@ use native.Mathlib.Omega.{arith}
 use borrow.Author.Tests.{lt-ltb, le-ltb}
 use lib.ListN.{length, take, drop}
 use lib.Seq.{length-take-le}
+use Rattle.std.specs.Prelude.{Some, Ok, Err}
 use Rattle.circuit.specs.Reading.{Reading, accepted, refusal}
 use Rattle.circuit.specs.Records.{padded}
 use Rattle.circuit.specs.Refusals.{verdict_of}
-use Rattle.circuit.specs.Verdicts.{is_refused}
 use Rattle.circuit.specs.Answers.{Tells}
 use Rattle.circuit.specs.declared.Reading.{Reading as ReadingRecord}
+use Rattle.circuit.specs.declared.refusal.Refusal.{Refusal as RefusalOfCode}
 use Rattle.circuit.specs.declared.Circuit.{Circuit as CircuitRecord}
 use Rattle.circuit.proofs.TypeLaws.{take_padded}
 use Rattle.grading.specs.Buffers.{room_for, no_buffers}
 use Rattle.grading.specs.Rows.{rows_of}
 use Rattle.grading.specs.Grading.{Counts, Grading, counts_of_circuit, after_reading, counts_in, number_in, place_in, over}
-use Rattle.grading.specs.Promise.{number_of, place_of, counts_meant, counts_of}
+use Rattle.grading.specs.Promise.{Answer, number_of, place_of, counts_meant, counts_of}
 use Rattle.grading.specs.declared.Counts.{Counts as CountsRecord}
-use Rattle.grading.specs.declared.Answer.{Answer}
-use Rattle.grading.specs.declared.Answer.TheVariants.{Graded, Refused, ShortClasses}
+use Rattle.grading.specs.declared.Ungraded.TheVariants.{Refused, ShortClasses}
 use Rattle.grading.proofs.CodeLaws.{length-codes}
 use Rattle.grading.proofs.RowLaws.{few_rows}
 use Rattle.grade_file.proofs.Assembly.{faults_are}
@@ -38,15 +38,12 @@ put_front values buffer n within = ap (λ (k : ℕ). take n values ++ drop k buf
 
 -- ---- the answer of the code
 
-pub refused-rows : (read : Reading) (r : ReadingRecord) → Tells read r → is_refused (verdict_of r.refusal) ≡ true
-    → (rows : List ℕ) → RowsAnswered (rows_after_reading read (length rows)) (Refused r.refusal) rows rows
-unfolding rows_after_reading rows_buffer_after after_reading number_in place_in counts_in Tells is_refused verdict_of
-refused-rows (accepted c) r tells e rows = absurd (never (sym (ap is_refused tells.0) ∙ e))
-  where
-    never : false ≡ true → ⊥
-    never z = let y : ◌≡◌ {A = ℕ} 0 1 = cc in absurd (omega arith)
-refused-rows (refusal number place) r tells e rows =
-    let told = refused_answers (refusal number place) r tells e (room_for 0 0) no_buffers in
+pub refused-rows : (read : Reading) (reading : ReadingRecord) (why : RefusalOfCode) → reading.refusal ≡ Some why → Tells read reading
+    → (rows : List ℕ) → RowsAnswered (rows_after_reading read (length rows)) (Err (Refused why)) rows rows
+unfolding rows_after_reading rows_buffer_after after_reading number_in place_in counts_in Tells
+refused-rows (accepted c) reading why refused tells rows = let told = ap verdict_of refused in let passed = tells.0 in cc
+refused-rows (refusal number place) reading why refused tells rows =
+    let told = refused_answers (refusal number place) reading why refused tells (room_for 0 0) no_buffers in
     record { number = told.number; place = told.place; faults = ap (λ (counts : Counts). counts.faults) told.counts; rows_at_exit = refl }
 
 module _ (file : List ℕ) (m : CircuitRecord) (here : Accepted file m) where
@@ -56,16 +53,16 @@ module _ (file : List ℕ) (m : CircuitRecord) (here : Accepted file m) where
   pub faults_few : m.faults ≤ 2048
   faults_few = omega (arith, same_faults, few_rows here.circuit (good_here _ _ here))
 
-  pub short_rows : (rows : List ℕ) → length rows < m.faults → RowsAnswer file rows (ShortClasses m.faults) rows
-  unfolding rows_after_reading rows_buffer_after number_in place_in counts_in number_of place_of counts_of
+  pub short_rows : (rows : List ℕ) → length rows < m.faults → RowsAnswer file rows (Err (ShortClasses m.faults)) rows
+  unfolding rows_after_reading rows_buffer_after number_in place_in counts_in
   short_rows rows short =
       let test = lt-ltb (length rows) (length (rows_of here.circuit)) (rw same_faults at short) in
       rw (here.reads, test, same_faults) record { number = refl; place = refl; faults = refl; rows_at_exit = refl }
 
   pub rows_listed : (rows : List ℕ) → m.faults ≤ length rows → (codes rows' : List ℕ) → codes ≡ padded 2048 0 (codes_of (rows_of here.circuit))
-      → rows' ≡ over (take m.faults codes) rows → RowsAnswer file rows (Graded record { vectors = 0; faults = m.faults; classes = 0; found = 0; rounds = 0 }) rows'
-  unfolding rows_after_reading rows_buffer_after number_in place_in counts_in counts_of_circuit number_of place_of counts_of
-  rows_listed rows fits codes rows' are put =
+      → rows' ≡ over (take m.faults codes) rows → (counts : CountsRecord) → counts.faults ≡ m.faults → RowsAnswer file rows (Ok counts) rows'
+  unfolding rows_after_reading rows_buffer_after number_in place_in counts_in counts_of_circuit
+  rows_listed rows fits codes rows' are put counts told =
       let c = here.circuit in
       let test = le-ltb (length rows) (length (rows_of c)) (rw same_faults at fits) in
       let long : length (codes_of (rows_of c)) ≡ m.faults = length-codes (rows_of c) ∙ sym same_faults in
@@ -76,7 +73,7 @@ module _ (file : List ℕ) (m : CircuitRecord) (here : Accepted file m) where
       rw (here.reads, test) record {
         number = refl;
         place = refl;
-        faults = same_faults;
+        faults = told ∙ same_faults;
         rows_at_exit = put ∙ ap (λ (text : List ℕ). over text rows) all;
       }
 

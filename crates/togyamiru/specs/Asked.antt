@@ -2,8 +2,7 @@
 use Rattle.std.specs.Prelude.{ℕ, List, ◌⊎◌}
 use Rattle.std.proofs.Common.{MutBor, inl, inr}
 use Rattle.grading.specs.Buffers.{buffers_of}
-use Rattle.grading.specs.Promise.{Promise}
-use Rattle.grading.specs.declared.Answer.{Answer}
+use Rattle.grading.specs.Promise.{Answer, Promise}
 use Rattle.togyamiru.specs.RowsModel.{RowsAnswer}
 use Rattle.togyamiru.specs.declared.answering.Asked.{Asked}
 use Rattle.togyamiru.specs.declared.answering.Asked.TheVariants.{Rows, Grading}

@@ -3,8 +3,7 @@
 use Rattle.std.specs.Prelude.{ℕ, ◌≡◌, List, [], ◌∷◌, ◌++◌, length, take}
 use Rattle.grading.specs.Buffers.{Buffers, room_of}
 use Rattle.grading.specs.Grading.{Grading, grading_of, counts_in, buffers_after, over}
-use Rattle.grading.specs.Promise.{number_of, place_of, counts_of}
-use Rattle.grading.specs.declared.Answer.{Answer}
+use Rattle.grading.specs.Promise.{Answer, number_of, place_of, counts_of}
 use Rattle.togyamiru.specs.Entry.{six_numbers}
 
 -- number, place, vectors, faults, classes, found, rounds

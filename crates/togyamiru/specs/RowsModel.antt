@@ -4,8 +4,7 @@ use Rattle.circuit.specs.Reading.{reading_of}
 use Rattle.circuit.specs.Answers.{Tells}
 use Rattle.circuit.specs.declared.Reading.{Reading as ReadingRecord}
 use Rattle.grading.specs.Grading.{Grading, counts_in, number_in, place_in}
-use Rattle.grading.specs.Promise.{number_of, place_of, counts_of}
-use Rattle.grading.specs.declared.Answer.{Answer}
+use Rattle.grading.specs.Promise.{Answer, number_of, place_of, counts_of}
 use Rattle.togyamiru.specs.RowsEntry.{rows_after_reading, rows_buffer_after}
 
 pub record RowsAnswered (g : Grading) (answer : Answer) (rows rows' : List ℕ) : Type 0 where

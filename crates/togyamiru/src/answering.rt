@@ -13,12 +13,11 @@ ghost use Rattle.togyamiru.specs.NumbersEntry.{numbers_of};
 ghost use Rattle.togyamiru.specs.RowsModel.{RowsAnswer, RowsAnswerOfRead};
 ghost use Rattle.togyamiru.specs.Asked.{AnswersAsked};
 
-use circuit::refusal::refuses;
 use circuit::{Circuit, Reading};
 use grade_file::grade::grade_read;
 use grade_rows::rows_of;
 use grading::answers::{counts_of, number_of, place_of};
-use grading::{Answer, Counts};
+use grading::{Answer, Counts, Ungraded};
 use read_file::read::read_stages;
 
 // The rows of a circuit, at the front of a buffer that has room for them.
@@ -36,22 +35,18 @@ fn list_read(reading: Reading, rows: &mut [u32]) -> Answer
     requires { Read reading }
     ensures { RowsAnswerOfRead reading rows.old result rows.new }
 {
-    let refusal = reading.refusal;
-    if refuses(refusal) {
-        return Answer::Refused(refusal);
+    if let Some(why) = reading.refusal {
+        return Err(why.into());
     }
     let c = reading.circuit;
     let faults = c.faults;
     if rows.len() < faults {
-        return Answer::ShortClasses(faults);
+        return Err(Ungraded::ShortClasses(faults));
     }
     list_circuit(c, rows);
-    Answer::Graded(Counts {
-        vectors: 0,
+    Ok(Counts {
         faults,
-        classes: 0,
-        found: 0,
-        rounds: 0,
+        ..Counts::default()
     })
 }
 
@@ -78,6 +73,7 @@ pub fn answer_to(file: &[u8], asked: Asked) -> Answer
 }
 
 // The numbers of an answer: the refusal's number and its place, 0 and 0 where there is none, the counts of vectors, faults, classes and found, and the rounds.
+#[tactic(auto, unfolding(crate::specs::NumbersEntry::numbers_of))]
 pub fn numbers_of(answer: Answer) -> [u64; 7]
     ensures { result ≡ numbers_of answer }
 {

@@ -1,13 +1,12 @@
 -- Laws of the listing.
---   Putting, JoinedLaws   a text put piece by piece, or element by element
---   TextLaws              the texts of a line's fields
---   PartLaws, SoughtLaws  which line of which part a line's number means
+--   TextLaws, LineLaws    the texts of a line's fields, and fields one behind the other
+--   SoughtLaws            a line that is sought by its number, part by part
+--   FilledLaws            no line is empty
 --   ToldLaws              the record that reading gives of a file tells what the file says, and its listing
 --   Examples              the listings of docs/SHOW.md, computed
-pub mod Putting
-pub mod JoinedLaws
 pub mod TextLaws
-pub mod PartLaws
+pub mod LineLaws
 pub mod SoughtLaws
+pub mod FilledLaws
 pub mod ToldLaws
 mod Examples

@@ -3,9 +3,9 @@
 --   Listing   the lines of a whole file, in file order
 --   Told      the reading that the code's record tells, and its listing
 --   Promise   the promise of `show_piece`
---   Puts      what the functions below it promise: a text put into a buffer
+--   Sought    what the functions below it promise: a line that is sought by its number
 pub mod Lines
 pub mod Listing
 pub mod Told
 pub mod Promise
-pub mod Puts
+pub mod Sought

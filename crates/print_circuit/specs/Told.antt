@@ -18,6 +18,7 @@ use Rattle.circuit.specs.declared.Circuit.{Circuit as CircuitRecord}
 use Rattle.circuit.specs.declared.Instance.{Instance as InstanceRecord}
 use Rattle.circuit.specs.declared.Reading.{Reading as ReadingRecord}
 use Rattle.circuit.specs.declared.Reference.{Reference as ReferenceRecord}
+use Rattle.circuit.specs.declared.Reference.TheVariants.{Input, Earlier}
 use Rattle.circuit.specs.declared.Vector.{Vector as VectorRecord}
 use Rattle.print_circuit.specs.Listing.{listing_of, listing_of_file}
 
@@ -35,7 +36,8 @@ choice_told zero = no_faults
 choice_told (suc n) = cond (eqb (suc n) 255) exhaustive (list (suc n))
 
 unfoldable pub reference_told : ReferenceRecord → Reference
-reference_told r = cond r.earlier (output_of r.number) (primary r.number)
+reference_told (Input n) = primary n
+reference_told (Earlier i) = output_of i
 
 -- with so many references
 unfoldable pub instance_with : ℕ → InstanceRecord → Instance

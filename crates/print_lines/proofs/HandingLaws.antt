@@ -1,5 +1,7 @@
--- Laws of a text as it is handed over: a piece is the lines behind those before, one that is not empty brings a line at least, and an empty one
--- tells that all lines were handed over, if pieces are empty only past the last line. And the turns of a loop that hands it over. Assumes nothing.
+-- Laws of a text as it is handed over: a piece is the lines behind those before, one that is not empty brings a line at least, and an
+-- empty one
+-- tells that all lines were handed over, if pieces are empty only past the last line. And the turns of a loop that hands it over. Assumes
+-- nothing.
 use Prim.Native.Nat.{ℕ, ◌-◌, ◌≤◌, ◌<◌}
 use mathlib.Core.Path.{◌≡◌, refl, sym, ap, ◌∙◌}
 use mathlib.Core.Bool.{Bool, true, false}
@@ -16,7 +18,8 @@ use Rattle.print_lines.specs.Handing.{TextHandsOn, TextHanded}
 use Rattle.print_lines.specs.declared.Piece.{Piece}
 use Rattle.print_lines.proofs.PieceLoop.{stand_length}
 
-module _ {line : ℕ → List ℕ} {total from : ℕ} {buffer : List ℕ} {piece : Piece} {after : List ℕ} (given : PieceGiven line total from buffer piece after) where
+module _ {line : ℕ → List ℕ} {total from : ℕ} {buffer : List ℕ} {piece : Piece} {after : List ℕ}
+    (given : PieceGiven line total from buffer piece after) where
   hands_on : TextHandsOn line from piece after
   hands_on =
       let stands = given.stands in

@@ -1,4 +1,5 @@
--- Lines in a list: what holds of each of them, and which line a number means where lists of them stand one behind the other. Assumes nothing.
+-- Lines in a list: what holds of each of them, and which line a number means where lists of them stand one behind the other. Assumes
+-- nothing.
 use Prim.Native.Nat.{ℕ, zero, suc, ◌+◌, ◌-◌, ◌≤◌, ◌<◌}
 use mathlib.Core.Path.{◌≡◌, ap, ◌∙◌}
 use mathlib.Core.List.{List, [], ◌∷◌, ◌++◌, map}

@@ -5,7 +5,7 @@ use native.Mathlib.Omega.{arith}
 use lib.ListN.{length, length-append}
 use Rattle.print_lines.specs.Decimal.{decimal}
 use Rattle.print_lines.specs.Lines.{space, newline, refused_word, at_word, refusal_line}
-use Rattle.print_lines.proofs.GrowingLine.{at_most_21}
+use Rattle.print_lines.proofs.DecimalLaws.{at_most_21}
 
 pub record AtMost (most : ℕ) (line : List ℕ) : Type 0 where
   pub few : length line ≤ most

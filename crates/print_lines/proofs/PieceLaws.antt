@@ -1,4 +1,5 @@
--- Laws of the pieces of a text of numbered lines: pieces join, there is one only, each brings progress where there is room. Assumes nothing.
+-- Laws of the pieces of a text of numbered lines: pieces join, there is one only, each brings progress where there is room. Assumes
+-- nothing.
 use Prim.Native.Nat.{ℕ, zero, suc, ◌+◌, ◌-◌, ◌≤◌, ◌<◌}
 use mathlib.Core.Path.{◌≡◌, refl, sym, ap, ◌∙◌}
 use mathlib.Core.Bool.{Bool, true, false}
@@ -20,7 +21,8 @@ module _ (line : ℕ → List ℕ) where
   text_add from zero n = rw (zero-add, add-zero)
   text_add from (suc m) n =
       ap (λ (k : ℕ). text_from line from k) (suc-add m n)
-      ∙ ap (λ (t : List ℕ). line from ++ t) (text_add (suc from) m n ∙ ap (λ (k : ℕ). text_from line (suc from) m ++ text_from line k n) (suc-add from m ∙ sym (add-suc from m)))
+      ∙ ap (λ (t : List ℕ). line from ++ t) (text_add (suc from) m n
+      ∙ ap (λ (k : ℕ). text_from line (suc from) m ++ text_from line k n) (suc-add from m ∙ sym (add-suc from m)))
       ∙ sym (append_assoc (line from) (text_from line (suc from) m) (text_from line (from + suc m) n))
 
   -- one line more
@@ -43,7 +45,8 @@ module _ (line : ℕ → List ℕ) where
   unfolding text_from
   text_grows from m n h l =
       let split : n - from ≡ suc m - from + (n - suc m) = omega arith in
-      let all : length (text_from line from (n - from)) ≡ length (text_from line from (suc m - from)) + length (text_from line (from + (suc m - from)) (n - suc m))
+      let all : length (text_from line from (n - from))
+      ≡ length (text_from line from (suc m - from)) + length (text_from line (from + (suc m - from)) (n - suc m))
       = ap (λ (k : ℕ). length (text_from line from k)) split ∙ ap length (text_add from (suc m - from) (n - suc m))
       ∙ length-append (text_from line from (suc m - from)) (text_from line (from + (suc m - from)) (n - suc m)) in
       let one : length (text_from line from (suc m - from)) ≡ length (text_from line from (m - from)) + length (line m)
@@ -56,7 +59,8 @@ module _ (line : ℕ → List ℕ) where
   text_shifted from (suc n) = ap (λ (t : List ℕ). line (suc from) ++ t) (text_shifted (suc from) n)
 
 -- all lines of a list, one behind the other; `join` is any function that joins lists
-module _ (join : List (List ℕ) → List ℕ) (join-nil : join [] ≡ []) (join-cons : (l : List ℕ) (ls : List (List ℕ)) → join (l ∷ ls) ≡ l ++ join ls) where
+module _ (join : List (List ℕ) → List ℕ) (join-nil : join [] ≡ [])
+    (join-cons : (l : List ℕ) (ls : List (List ℕ)) → join (l ∷ ls) ≡ l ++ join ls) where
   pub text_of_list : (lines : List (List ℕ)) → join lines ≡ text_from (line_in lines) 0 (length lines)
   unfolding text_from line_in
   text_of_list [] = join-nil
@@ -114,7 +118,8 @@ piece_moves line total from buffer piece after given h room = go (ltb from piece
 
 -- and it is not empty where that line is not
 pub piece-some : (line : ℕ → List ℕ) (total from : ℕ) (buffer : List ℕ) (piece : Piece) (after : List ℕ)
-    → PieceGiven line total from buffer piece after → from < total → 0 < length (line from) → length (line from) ≤ length buffer → 0 < piece.count
+    → PieceGiven line total from buffer piece after → from < total → 0 < length (line from) → length (line from) ≤ length buffer
+    → 0 < piece.count
 piece-some line total from buffer piece after given h some room =
     let moves = piece_moves line total from buffer piece after given h room in
     omega (arith, given.stands.count_is, text_grows line from from piece.next (omega arith) moves, some)

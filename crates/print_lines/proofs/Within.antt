@@ -1,39 +1,40 @@
--- A line that was given into a buffer: it is no longer than the buffer; where nothing was given the buffer is as it was. Assumes nothing.
-use Prim.Native.Nat.{ℕ, suc, ◌≤◌, ◌<◌}
-use mathlib.Core.Path.{◌≡◌, refl, ap, ◌∙◌}
+-- A line that was given into a buffer: where it has a length it had room and stands at the front; where it has none it had no room, and
+-- the buffer is as it was.
+-- And an equal line was given too. Assumes nothing.
+use Prim.Native.Nat.{ℕ, ◌≤◌, ◌<◌}
+use mathlib.Core.Path.{◌≡◌, refl}
 use mathlib.Core.Bool.{Bool, true, false, cond}
-use mathlib.Core.List.{List, [], ◌∷◌}
+use mathlib.Core.List.{List}
 use lib.Dec.{leb}
 use lib.ListN.{length}
+use borrow.Author.Tests.{leb-true, leb-false}
 use native.Mathlib.Omega.{arith}
-use borrow.Author.Tests.{leb-true}
+use Rattle.std.specs.Prelude.{Option, Some, None}
 use Rattle.words.specs.Written.{written}
-use Rattle.words.proofs.WrittenLaws.{written_nothing}
 use Rattle.print_lines.specs.Given.{LineGiven}
 
-pub given-within : (line buffer after : List ℕ) (count : ℕ) → LineGiven line buffer count after → count ≤ length buffer
-given-within line buffer after count given = go (leb (length line) (length buffer)) refl
-  where
-    go : (fits : Bool) → leb (length line) (length buffer) ≡ fits → count ≤ length buffer
-    go true e = omega (arith, given.count_is ∙ ap (λ (b : Bool). cond b (length line) 0) e, leb-true (length line) (length buffer) e)
-    go false e = omega (arith, given.count_is ∙ ap (λ (b : Bool). cond b (length line) 0) e)
+pub record Stands (line buffer : List ℕ) (count : ℕ) (after : List ℕ) : Type 0 where
+  pub count_is : count ≡ length line
+  pub room : length line ≤ length buffer
+  pub after_is : after ≡ written buffer 0 line
 
-pub given-some : (line buffer : List ℕ) (count : ℕ) (after : List ℕ) → LineGiven line buffer count after → 0 < count → 0 < length line
-given-some line buffer count after given some = go (leb (length line) (length buffer)) refl
-  where
-    go : (fits : Bool) → leb (length line) (length buffer) ≡ fits → 0 < length line
-    go true e = omega (arith, given.count_is ∙ ap (λ (b : Bool). cond b (length line) 0) e)
-    go false e = absurd (omega (arith, given.count_is ∙ ap (λ (b : Bool). cond b (length line) 0) e))
+module _ {line buffer : List ℕ} {given : Option ℕ} {after : List ℕ} (handed : LineGiven line buffer given after) where
+  pub given-some : (count : ℕ) → given ≡ Some count → Stands line buffer count after
+  given-some count some = go (leb (length line) (length buffer)) refl handed.count_is handed.after_is
+    where
+      go : (fits : Bool) → leb (length line) (length buffer) ≡ fits → given ≡ cond fits (Some (length line)) None
+          → after ≡ cond fits (written buffer 0 line) buffer → Stands line buffer count after
+      go true e count_is after_is = record { count_is = grind arith; room = leb-true _ _ e; after_is = after_is }
+      go false e count_is after_is = absurd (grind arith)
 
--- where nothing was given the buffer is as it was
-pub given-none : (line buffer : List ℕ) (count : ℕ) (after : List ℕ) → LineGiven line buffer count after → count ≡ 0 → after ≡ buffer
-given-none line buffer count after given none = go line given (leb (length line) (length buffer)) refl
-  where
-    go : (text : List ℕ) → LineGiven text buffer count after → (fits : Bool) → leb (length text) (length buffer) ≡ fits → after ≡ buffer
-    go [] given fits e = given.after_is ∙ empty (leb 0 (length buffer))
-      where
-        empty : (b : Bool) → cond b (written buffer 0 []) buffer ≡ buffer
-        empty true = written_nothing buffer 0
-        empty false = refl
-    go (a ∷ text) given true e = absurd (omega (arith, given.count_is ∙ ap (λ (b : Bool). cond b (suc (length text)) 0) e))
-    go (a ∷ text) given false e = given.after_is ∙ ap (λ (b : Bool). cond b (written buffer 0 (a ∷ text)) buffer) e
+  pub given-none : given ≡ None → (length buffer < length line) × (after ≡ buffer)
+  given-none none = go (leb (length line) (length buffer)) refl handed.count_is handed.after_is
+    where
+      go : (fits : Bool) → leb (length line) (length buffer) ≡ fits → given ≡ cond fits (Some (length line)) None
+          → after ≡ cond fits (written buffer 0 line) buffer → (length buffer < length line) × (after ≡ buffer)
+      go true e count_is after_is = absurd (grind arith)
+      go false e count_is after_is = (leb-false _ _ e, after_is)
+
+pub given-line : {line other buffer after : List ℕ} {given : Option ℕ} → line ≡ other → LineGiven line buffer given after
+    → LineGiven other buffer given after
+given-line e g = rw (← e) g

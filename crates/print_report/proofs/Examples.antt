@@ -1,4 +1,5 @@
--- 01, "The report": the output for the inverter, line by line and byte for byte, with 02's last line, and two refusals. Each line is computed.
+-- 01, "The report": the output for the inverter, line by line and byte for byte, with 02's last line, and two refusals. Each line is
+-- computed.
 use mathlib.Core.Path.{◌≡◌, refl}
 use mathlib.Core.List.{[], ◌∷◌}
 use Prim.Native.Nat.{ℕ}

@@ -1,5 +1,4 @@
 -- The lines of 01's example; the laws of a row's digits in a line, of the lines of what is held, and that these are the report's.
-pub mod MarkDigits
 pub mod LineSizes
 pub mod HeldLaws
 pub mod ReportLaws

@@ -24,7 +24,8 @@ use Rattle.print_report.proofs.LineSizes.{counts_sized, row_sized, rounds_sized}
 
 -- ---- the report's lines, one by one
 
-pub length_lines : (c : Circuit) (rows : List Row) (classes : List ℕ) → length classes ≡ length rows → length (row_lines c rows classes) ≡ length rows
+pub length_lines : (c : Circuit) (rows : List Row) (classes : List ℕ) → length classes ≡ length rows
+    → length (row_lines c rows classes) ≡ length rows
 unfolding row_lines
 length_lines c [] classes e = refl
 length_lines c (row ∷ rows) [] e = e
@@ -68,8 +69,10 @@ unfolding row_lines line_of
 rows_sized c few [] classes = tt
 rows_sized c few (row ∷ rows) [] = tt
 rows_sized c few (row ∷ rows) (class ∷ classes) =
-    let b = row.bridge in
-    (row_sized row.number (kind_of b) (first_end b) (second_end b) class (length c.vectors) (row_words c row) few, rows_sized c few rows classes)
+    let b = row.bridge in (
+      row_sized row.number (kind_of b) (first_end b) (second_end b) class (length c.vectors) (row_words c row) few,
+      rows_sized c few rows classes,
+    )
 
 lines_sized : (file : List ℕ) (g : Grading) → GradingSound file g → EachLine Sized (report_lines g)
 unfolding GradingSound report_lines
@@ -77,7 +80,8 @@ lines_sized file (graded c) reads =
     let counts = counts_of_circuit c in
     let rows = row_lines c (rows_of c) (classes_of (rows_of c)) in (
       counts_sized counts,
-      each_append Sized rows (rounds_line counts.rounds ∷ []) (rows_sized c (accepted-is-good true file c reads).few_vectors (rows_of c) (classes_of (rows_of c)))
+      each_append Sized rows (rounds_line counts.rounds ∷ []) (rows_sized c (accepted-is-good true file c reads).few_vectors (rows_of c)
+          (classes_of (rows_of c)))
           (rounds_sized counts.rounds, tt),
     )
 lines_sized file (refused number place) low = (refusal_sized number place, tt)

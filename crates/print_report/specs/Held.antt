@@ -1,13 +1,12 @@
 -- What the code computes: the report's lines from what a grading leaves in memory.
 -- That is the answer, the rows as numbers, the matrix and the classes.
-use Rattle.std.specs.Prelude.{ℕ, zero, suc, ◌+◌, ◌*◌, ◌≤◌, min, List, [], ◌∷◌, ◌++◌, length, get_or}
+use Rattle.std.specs.Prelude.{ℕ, suc, ◌+◌, ◌*◌, ◌≤◌, min, List, [], ◌∷◌, ◌++◌, Ok, Err, length, get_or}
 use Rattle.words.specs.Tables.{table}
 use Rattle.print_lines.specs.Lines.{refusal_line}
 use Rattle.print_lines.specs.Pieces.{line_in}
 use Rattle.grading.specs.Codes.{instance_in, kind_in, first_in, second_in}
 use Rattle.grading.specs.Grading.{Counts}
-use Rattle.grading.specs.Promise.{number_of, place_of, counts_of}
-use Rattle.grading.specs.declared.Answer.{Answer}
+use Rattle.grading.specs.Promise.{Answer, number_why, place_why, counts_meant, counts_of}
 use Rattle.print_report.specs.Lines.{row_line, rounds_line}
 use Rattle.print_report.specs.Report.{counts_line}
 use Rattle.print_report.specs.declared.RowHead.{RowHead}
@@ -38,25 +37,19 @@ unfoldable pub graded_lines : Counts → List ℕ → List ℕ → List ℕ → 
 graded_lines counts codes matrix classes =
     counts_line counts ∷ table counts.faults (held_row counts codes matrix classes) ++ (rounds_line counts.rounds ∷ [])
 
--- from a refusal's number, which is 0 where there is none, and place
-unfoldable pub told_lines : ℕ → ℕ → Counts → List ℕ → List ℕ → List ℕ → List (List ℕ)
-told_lines zero place counts codes matrix classes = graded_lines counts codes matrix classes
-told_lines (suc number) place counts codes matrix classes = refusal_line (suc number) place ∷ []
-
+-- of an answer; of a refusal only its own
 unfoldable pub held_lines : Answer → List ℕ → List ℕ → List ℕ → List (List ℕ)
-held_lines answer codes matrix classes = told_lines (number_of answer) (place_of answer) (counts_of answer) codes matrix classes
+held_lines (Ok counts) codes matrix classes = graded_lines (counts_meant counts) codes matrix classes
+held_lines (Err why) codes matrix classes = refusal_line (number_why why) (place_why why) ∷ []
 
 -- the line at a number
 unfoldable pub held_line : Answer → List ℕ → List ℕ → List ℕ → ℕ → List ℕ
 held_line answer codes matrix classes = line_in (held_lines answer codes matrix classes)
 
 -- how many lines there are, which the answer alone tells
-unfoldable pub told_count : ℕ → Counts → ℕ
-told_count zero counts = suc (suc counts.faults)
-told_count (suc number) counts = 1
-
-unfoldable pub held_count : Answer → ℕ
-held_count answer = told_count (number_of answer) (counts_of answer)
+abbrev pub held_count : Answer → ℕ
+held_count (Ok counts) = suc (suc counts.faults)
+held_count (Err why) = 1
 
 -- the rows are there
 pub record RowsHeld (answer : Answer) (codes matrix classes : List ℕ) : Type 0 where

@@ -8,8 +8,7 @@ use Rattle.circuit.specs.Reading.{accepted, reading_of}
 use Rattle.grading.specs.Buffers.{Buffers, Room, room_of}
 use Rattle.grading.specs.Rows.{rows_of}
 use Rattle.grading.specs.Grading.{Grading, grading_of}
-use Rattle.grading.specs.Promise.{Promise}
-use Rattle.grading.specs.declared.Answer.{Answer}
+use Rattle.grading.specs.Promise.{Answer, Promise}
 use Rattle.grading.specs.Codes.{codes_of}
 use Rattle.print_report.specs.Report.{report_line, line_count, report_of}
 use Rattle.print_report.specs.Held.{held_line, held_count, RowsHeld}

@@ -11,7 +11,7 @@ use grade_file::grade::grade_read;
 use grade_rows::rows_of;
 use grading::Answer;
 use print_lines::Piece;
-use print_report::report_piece;
+use print_report::{Held, report_piece};
 use program_io::output::Printer;
 use program_io::telling::{Telling, tell_inputs};
 use read_file::read::read_stages;
@@ -65,13 +65,13 @@ impl Telling for Report {
     }
 
     fn piece(&self, from: usize, out: &mut [u8]) -> Piece {
-        let Report {
-            answer,
-            codes,
-            matrix,
-            classes,
-        } = self;
-        report_piece(*answer, codes, matrix, classes, from, out)
+        let held = Held {
+            answer: self.answer,
+            codes: &self.codes,
+            matrix: &self.matrix,
+            classes: &self.classes,
+        };
+        report_piece(&held, from, out)
     }
 }
 

@@ -1,45 +1,47 @@
 -- `print_circuit::one_line` meets its contract. Assumes nothing.
-use Prim.Native.Nat.{ℕ, ◌≤◌}
-use mathlib.Core.Path.{◌≡◌, sym}
-use mathlib.Core.List.{List}
+use Prim.Native.Nat.{ℕ}
+use mathlib.Core.Path.{◌≡◌, refl, sym}
+use mathlib.Core.Bool.{Bool, true, false}
+use mathlib.Core.Logic.{◌⊎◌, inl, inr, ⊎_elim}
+use borrow.Author.Rules.{rules}
+use borrow.Author.Tests.{eqb-true, eqb-false}
 use native.Mathlib.Omega.{arith}
-use lib.ListN.{length, take, replicate, length-take}
-use lib.Seq.{length-take-le}
-use Rattle.print_lines.specs.Pieces.{line_in}
-use Rattle.print_circuit.specs.Told.{listing_told}
-use Rattle.print_lines.proofs.Within.{given-some}
-use Rattle.print_circuit.proofs.SoughtLaws.{put-within, take_put}
+use lib.Dec.{eqb}
+use Rattle.std.specs.Prelude.{Option, Some, None, MatchOption}
+use Rattle.std.specs.Bool.{then_some}
+use Rattle.circuit.specs.declared.refusal.Refusal.{Refusal}
+use Rattle.print_circuit.proofs.SoughtLaws.{told_found, told_refused, told_accepted, told_past}
 use Rattle.print_circuit.proofs.one_line.Goals as goal
-use Rattle.print_circuit.proofs.one_line.Goals.{After-listed_line-count}
 
--- the line in the local buffer
-text_of : (c : After-listed_line-count) → List ℕ
-text_of c = line_in (listing_told c.args.reading) c.args.n
+-- a refusal that is kept where its line is the one that is sought
+module _ {left : ℕ} {Says : Refusal → Bool → Type 0} (says : (r : Refusal) (b : Bool) → Says r b → b ≡ eqb left 0) where
+  is_kept : (why : Option Refusal) {r : Refusal} → MatchOption why (Some r ≡ None) (λ (s : Refusal). (b : Bool) × Says s b × (Some r ≡ then_some b s))
+      → (why ≡ Some r) × (left ≡ 0)
+  is_kept None k = absurd (cc)
+  is_kept (Some s) (true, p, e) = (sym e, eqb-true left 0 (sym (says s true p)))
+  is_kept (Some s) (false, p, e) = absurd (cc)
 
-fits : (c : After-listed_line-count) → (length (text_of c) ≤ 512) × (take c.listed_line-count.result c.listed_line-count.new.line ≡ text_of c) × (c.listed_line-count.result ≤ 512)
-unfolding text_of line_in
-fits c =
-    let puts = c.listed_line-count.ensures.puts in
-    let within = put-within (replicate 512 0) _ c.listed_line-count.new.line c.listed_line-count.auto.line puts.1 in (
-      within,
-      take_put (replicate 512 0) _ c.listed_line-count.result c.listed_line-count.new.line within puts,
-      omega (arith, puts.0, within),
-    )
+  not_kept : (why : Option Refusal) → MatchOption why (◌≡◌ {A = Option Refusal} None None) (λ (s : Refusal). (b : Bool) × Says s b × (None ≡ then_some b s))
+      → (why ≡ None) ⊎ (left ≡ 0 → ⊥)
+  not_kept None k = inl refl
+  not_kept (Some s) (true, p, e) = absurd (cc)
+  not_kept (Some s) (false, p, e) = inr (eqb-false left 0 (sym (says s false p)))
 
-pub slice_bounds-line-end : goal.slice_bounds-line-end
-slice_bounds-line-end c = omega (arith, (fits (goal.at.slice_bounds-line-end c).After-listed_line-count).2)
+pub returns-in-Break : goal.returns-in-Break
+returns-in-Break c =
+    let said = c.as_bytes.ensures in
+    told_found c.args.reading.now c.in-Break.ensures (rw said.all at said.few) (rw said.all at c.give.ensures)
 
-pub slice_bounds-give-end : goal.slice_bounds-give-end
-slice_bounds-give-end c = sym (length-take-le _ _ (omega (arith, (fits (goal.at.slice_bounds-give-end c).After-listed_line-count).2, c.listed_line-count.auto.line)))
+pub returns-in_ok-refusal-in-Continue : goal.returns-in_ok-refusal-in-Continue
+returns-in_ok-refusal-in-Continue c =
+    let kept = is_kept {left = c.in-Continue.left} (λ r b says. search rules) c.args.reading.now.refusal c.in_ok-refusal-in-Continue.ensures in
+    told_refused c.args.reading.now kept.0 (rw kept.1 at c.in-Continue.ensures) (rw (c.number.ensures, c.place.ensures) at c.refusal_line.ensures)
 
-pub returns : goal.returns
-unfolding text_of
-returns c =
-    let given = c.give.ensures in
-    let size = length-take c.listed_line-count.result c.listed_line-count.new.line in
-    let there = fits (goal.at.returns c).After-listed_line-count in
-    record {
-      line_given = rw (← there.1) given;
-      n_le_most_lines = λ (some : _). c.listed_line-count.ensures.n_le_most_lines (omega (arith, size, given-some _ _ _ _ given some));
-      n_len_bound = there.0;
-    }
+pub returns-in_err-refusal-in-Continue : goal.returns-in_err-refusal-in-Continue
+returns-in_err-refusal-in-Continue c =
+    let r = c.args.reading.now in
+    let past = c.in-Continue.ensures in
+    rw c.from_residual.ensures (⊎_elim
+    (λ none. told_accepted r none past)
+    (λ behind. told_past r (omega (arith, behind)) past)
+    (not_kept {left = c.in-Continue.left} (λ s b says. search rules) r.refusal c.in_err-refusal-in-Continue.ensures))

@@ -1,4 +1,4 @@
--- `print_circuit::show_piece` meets its contract. The loop's invariant: the lines passed stand at the buffer's front. Assumes nothing.
+-- `print_circuit::show_piece`: the lines passed stand at the buffer's front. Assumes nothing.
 use Prim.Native.Nat.{◌-◌}
 use lib.ListN.{length}
 use Rattle.print_lines.specs.Pieces.{line_in}
@@ -6,8 +6,8 @@ use Rattle.print_lines.proofs.PieceLoop.{PieceSoFar}
 use Rattle.print_circuit.specs.Told.{listing_told}
 use Rattle.print_circuit.proofs.show_piece.Given as goal
 
-abbrev pub invariant-loop-reading : goal.invariant-loop-reading
-invariant-loop-reading l = PieceSoFar (line_in (listing_told l.reading)) (length (listing_told l.reading)) l.from l.initial.out l.next l.count l.out
+abbrev pub invariant-loop-given : goal.invariant-loop-given
+invariant-loop-given l = PieceSoFar (line_in (listing_told l.reading)) (length (listing_told l.reading)) l.from l.initial.out l.next l.count l.out
 
-abbrev pub decreases-loop-reading : goal.decreases-loop-reading
-decreases-loop-reading l = length l.initial.out - l.count
+abbrev pub decreases-loop-given : goal.decreases-loop-given
+decreases-loop-given l = length l.initial.out - l.count

@@ -1,26 +1,19 @@
--- `print_lines::digits` meets its contract. The loop's invariant: the count, which has one digit of what is left already, and the digits of what is left are
--- one more than the number's; and what is left is short enough that the definition's limit is not met. Assumes nothing.
+-- `print_lines::digits` meets its contract: a number has one digit more than the exponent of the power of ten that it reaches.
+-- Assumes nothing.
 use mathlib.Core.Path.{◌≡◌}
-use Prim.Native.Nat.{◌≤◌, ◌<◌, ◌-◌, ◌+◌, ◌^◌, ◌/◌, ℕ, zero, suc}
-use native.Mathlib.Nat.{pow-suc}
+use Prim.Native.Nat.{ℕ, zero, suc, ◌+◌, ◌*◌, ◌^◌, ◌≤◌, ◌<◌, max}
 use native.Mathlib.Omega.{arith}
 use Rattle.print_lines.specs.Decimal.{length_in}
-use Rattle.print_lines.proofs.DecimalLaws.{length-one, length_more}
+use Rattle.print_lines.proofs.DecimalLaws.{length-one, length_power}
 use Rattle.print_lines.proofs.digits.Goals as goal
 
--- a turn takes one digit from what is left, which has two or more
-turn : (n left count most : ℕ) → count + most ≡ 21 → left < 10 ^ most → length_in 20 n + 1 ≡ count + length_in most left → 10 ≤ left
-    → (count + 1 ≤ 20) × (left / 10 < 10 ^ (21 - (count + 1))) × (length_in 20 n + 1 ≡ count + 1 + length_in (21 - (count + 1)) (left / 10))
-turn n left count zero s h e more = absurd (omega arith)
-turn n left count (suc zero) s h e more = absurd (omega arith)
-turn n left count (suc (suc most)) s h e more =
-    let less : 21 - (count + 1) ≡ suc most = omega arith in
-    rw less (omega arith, omega (arith, pow-suc 10 (suc most)), omega (arith, length_more (suc most) left more))
-
-pub loop-left-preserved : goal.loop-left-preserved
-loop-left-preserved c =
-    let at = c.loop-left in
-    turn c.args.n at.left at.count (21 - at.count) (omega arith) at.invariant.1 at.invariant.2 c.loop-left-test.true
+counted : (n d : ℕ) → d < 20 → 10 ^ d ≤ max n 1 → max n 1 < 10 * 10 ^ d → d + 1 ≡ length_in 20 n
+counted zero d few low high =
+    let one = length_power 20 d 1 (omega arith) (omega arith) (omega arith) in
+    omega (arith, one, length-one 20 1 (omega arith), length-one 20 0 (omega arith))
+counted (suc n) d few low high = omega (arith, length_power 20 d (suc n) (omega arith) (omega arith) (omega arith))
 
 pub returns : goal.returns
-returns c = omega (arith, length-one (21 - c.loop-left.count) c.loop-left.left (omega arith))
+returns c =
+    let log = c.ilog10.ensures in
+    counted c.args.n c.ilog10.result log.bound (rw c.max.ensures at log.power_le) (rw c.max.ensures at log.next_power_gt)

@@ -1,85 +1,76 @@
--- `print_lines::put_number` meets its contract. The loop's invariant: the digits from i on stand in the buffer at their place and all else there is as it was,
--- and the digits before i are the last i digits of what is left of the number. Assumes nothing.
-use mathlib.Core.Path.{◌≡◌, refl, ap, sym, ◌∙◌}
-use mathlib.Core.List.{List, [], ◌∷◌}
+-- `print_lines::put_number` meets its contract. The loop's invariant: the digits from i on stand in the buffer at their place and all else
+-- there is as it was, and the digits before i are the last i digits of what is left of the number. Assumes nothing.
+use mathlib.Core.Path.{◌≡◌, ap, sym, ◌∙◌}
+use mathlib.Core.List.{List, [], ◌∷◌, ◌++◌, append-nil}
 use Prim.Native.Nat.{ℕ, suc, ◌≤◌, ◌<◌, ◌-◌, ◌+◌, ◌/◌, ◌%◌}
-use native.Mathlib.Nat.{add_comm, add-suc, add-zero}
+use native.Mathlib.Nat.{add-zero, add-suc, suc-add}
 use native.Mathlib.Omega.{arith}
-use lib.ListN.{length, get_or, set, take, drop, length-set, length-drop, drop_of_length-le}
-use lib.Seq.{drop-cons, get_or_at, get_or-take, take_at, take_all, take-take}
-use Rattle.print_lines.specs.Decimal.{digits_of, length_in, decimal}
+use lib.ListN.{length, set, take, drop, length-append, length-drop, drop_of_length-le}
+use lib.Seq.{drop_at, length-take-le, set-append_left, take-set-lt, take-suc-set, append_snoc}
 use Rattle.words.specs.Written.{written}
-use Rattle.words.proofs.WrittenLaws.{set_before, written_nothing}
-use Rattle.print_lines.proofs.DecimalLaws.{length_digits, length-short}
+use Rattle.words.proofs.WrittenLaws.{written_nothing}
+use Rattle.print_lines.specs.Decimal.{digits_of, length_in, decimal}
+use Rattle.print_lines.proofs.DecimalLaws.{length_digits, at_most_20}
 use Rattle.print_lines.proofs.put_number.Goals as goal
 
--- a turn stores the last digit of what is left, at place j, just before those which stand there
-module _ (buffer : List ℕ) (at left j : ℕ) (text : List ℕ) (inside : j < length text) (fits : at + length text ≤ length buffer)
-    (same : digits_of (suc j) left ≡ take (suc j) text) where
-  front : digits_of j (left / 10) ≡ take j text
-  unfolding digits_of
-  front =
-      sym (take_at (digits_of j (left / 10)) ((48 + left % 10) ∷ []) j (length_digits j (left / 10)))
-      ∙ ap (take j) same
-      ∙ take-take j (suc j) text (omega arith)
+-- a byte stored just before a text is the text's first
+set_before : (buffer : List ℕ) (at b : ℕ) (text : List ℕ) → suc at + length text ≤ length buffer
+    → set (written buffer (suc at) text) at b ≡ written buffer at (b ∷ text)
+unfolding written
+set_before buffer at b text fits =
+    let front : length (take (suc at) buffer) ≡ suc at = length-take-le (suc at) buffer (omega arith) in
+    let in_front : at < length (take (suc at) buffer) = omega arith in
+    let in_text : at < length (take (suc at) buffer ++ text) = simp length-append (omega arith) in
+    let inside : at < length buffer = omega arith in
+    rw (
+      set-append_left (take (suc at) buffer ++ text),
+      set-append_left (take (suc at) buffer),
+      ← take-set-lt (suc at) buffer at b (omega arith),
+      take-suc-set,
+      append_snoc,
+      suc-add,
+      add-suc,
+    )
 
-  last : left % 10 + 48 ≡ get_or text j 0
-  unfolding digits_of
-  last =
-      add_comm (left % 10) 48
-      ∙ sym (get_or_at (digits_of j (left / 10)) (48 + left % 10) [] 0 j (length_digits j (left / 10)))
-      ∙ ap (λ (l : List ℕ). get_or l j 0) same
-      ∙ get_or-take (suc j) text j 0 (omega arith)
-
-  stored : set (written buffer (at + suc j) (drop (suc j) text)) (at + j) (left % 10 + 48) ≡ written buffer (at + j) (drop j text)
-  stored =
-      rw (add-suc at j, last, set_before buffer (at + j) (get_or text j 0) (drop (suc j) text) (omega (arith, length-drop (suc j) text)), drop-cons text j 0)
-
-pub digits-count-requires : goal.digits-count-requires
-digits-count-requires c = tt
+-- a turn stores the last digit of what is left just before those which stand there
+turn : (buffer : List ℕ) (at i j left : ℕ) (text out : List ℕ) → i ≡ suc j → i ≤ length text → at + length text ≤ length buffer
+    → out ≡ written buffer (at + i) (drop i text) → digits_of i left ++ drop i text ≡ text
+    → (set out (at + j) (48 + left % 10) ≡ written buffer (at + j) (drop j text)) × (digits_of j (left / 10) ++ drop j text ≡ text)
+unfolding digits_of
+turn buffer at i j left text out next inside fits e same =
+    let digit = 48 + left % 10 in
+    let split : digits_of j (left / 10) ++ (digit ∷ drop (suc j) text) ≡ text
+    = sym (append_snoc (digits_of j (left / 10)) digit (drop (suc j) text)) ∙ rw next at same in
+    let rest : drop j text ≡ digit ∷ drop (suc j) text
+    = ap (drop j) (sym split) ∙ drop_at (digits_of j (left / 10)) _ j (length_digits j (left / 10)) in
+    let behind : out ≡ written buffer (suc (at + j)) (drop (suc j) text) = rw next at e ∙ rw add-suc in
+    let stored = set_before buffer (at + j) digit (drop (suc j) text) (omega (arith, length-drop (suc j) text)) in
+    (ap (λ (l : List ℕ). set l (at + j) digit) behind ∙ rw rest stored, rw rest split)
 
 pub loop-i-init : goal.loop-i-init
+unfolding decimal
 loop-i-init c =
-    let a = c.args in
     let k = c.digits-count.result in
-    let text : List ℕ = digits_of k a.n in
-    let size : length text ≤ k = omega (arith, length_digits k a.n) in (
-      omega arith,
-      omega (arith, c.digits-count.ensures, length-short 20 19 a.n (omega arith)),
-      rw (drop_of_length-le text size, written_nothing),
-      rw (take_all k text size),
-      refl,
-    )
+    let n = c.args.n in
+    let none : drop k (digits_of k n) ≡ [] = drop_of_length-le (digits_of k n) (omega (arith, length_digits k n)) in
+    let few = at_most_20 n c.ranges.n.fits in
+    let size = length_digits (length_in 20 n) n in
+    (omega (arith, c.digits-count.ensures), rw (none, written_nothing), rw (none, append-nil))
 
 pub loop-i-preserved : goal.loop-i-preserved
 loop-i-preserved c =
-    let a = c.args in
-    let k = c.digits-count.result in
     let l = c.loop-i in
-    let j : ℕ = l.i - 1 in
-    let text : List ℕ = digits_of k a.n in
-    let e : l.i ≡ suc j = omega arith in
-    let inside : j < length text = omega (arith, length_digits k a.n) in
-    let fits : a.at + length text ≤ length a.out.now = omega (arith, length_digits k a.n) in
-    let same : digits_of (suc j) l.left ≡ take (suc j) text = rw e at l.invariant.3 in (
-      omega arith,
-      omega arith,
-      ap (λ (o : List ℕ). set o (a.at + j) (l.left % 10 + 48)) (l.invariant.2 ∙ ap (λ (i : ℕ). written a.out.now (a.at + i) (drop i text)) e)
-          ∙ stored a.out.now a.at l.left j text inside fits same,
-      front a.out.now a.at l.left j text inside fits same,
-      rw length-set l.invariant.4,
-    )
+    let size = length_digits c.digits-count.result c.args.n in
+    let text = digits_of c.digits-count.result c.args.n in
+    let more = turn c.args.out.now c.args.at l.i (l.i - 1) l.left text l.out (omega arith) (omega arith) (omega arith)
+    l.invariant.1 l.invariant.2 in
+    (l.invariant.0, more.0, more.1)
 
 pub returns : goal.returns
 unfolding decimal
 returns c =
-    let a = c.args in
-    let l = c.loop-i in
-    let none : l.i ≡ 0 = omega arith in
-    let size : c.digits-count.result ≡ length_in 20 a.n = c.digits-count.ensures in (
-      ap (λ (k : ℕ). a.at + k) (size ∙ sym (length_digits (length_in 20 a.n) a.n)),
-      l.invariant.2
-          ∙ ap (λ (i : ℕ). written a.out.now (a.at + i) (drop i (digits_of c.digits-count.result a.n))) none
-          ∙ ap (λ (k : ℕ). written a.out.now (a.at + 0) (digits_of k a.n)) size
-          ∙ rw add-zero,
+    let n = c.args.n in
+    let none : c.loop-i.i ≡ 0 = omega arith in (
+      rw (c.digits-count.ensures, length_digits (length_in 20 n) n),
+      c.loop-i.invariant.1 ∙ rw (none, add-zero, c.digits-count.ensures),
     )

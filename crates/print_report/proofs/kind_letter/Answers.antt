@@ -1,6 +1,7 @@
 -- `print_report::kind_letter` meets its contract. Assumes nothing.
 use mathlib.Core.Path.{◌≡◌, refl}
 use Prim.Native.Nat.{ℕ, zero, suc}
+use Rattle.std.proofs.Common.{rules}
 use Rattle.print_report.specs.Lines.{kind_letter}
 use Rattle.print_report.proofs.kind_letter.Goals as goal
 
@@ -10,9 +11,9 @@ unfolding kind_letter
 other zero apart = absurd (apart refl)
 other (suc kind) apart = refl
 
-pub returns-then-kind-eq0 : goal.returns-then-kind-eq0
+pub returns-in-0 : goal.returns-in-0
 unfolding kind_letter
-returns-then-kind-eq0 c = rw c.if-kind-eq0.true
+returns-in-0 c = rw c.in-0.is
 
-pub returns : goal.returns
-returns c = other c.args.kind c.if-kind-eq0.false
+pub returns-in_default : goal.returns-in_default
+returns-in_default c = other c.args.kind (search rules)

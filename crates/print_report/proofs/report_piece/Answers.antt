@@ -1,33 +1,20 @@
--- `print_report::report_piece` meets its contract. The loop's invariant: the lines passed stand at the buffer's front, and the rows are there. Assumes nothing.
-use Prim.Native.Nat.{◌+◌, ◌≤◌}
+-- `print_report::report_piece` meets its contract. The loop's invariant: the lines passed stand at the buffer's front. Assumes nothing.
+use mathlib.Core.Path.{◌≡◌}
 use native.Mathlib.Omega.{arith}
-use borrow.Author.Rules.{rules}
-use lib.ListN.{length}
-use Rattle.print_lines.proofs.PieceLoop.{piece-begins, piece_ends, count_fits, piece_grows, piece_full}
-use Rattle.print_report.proofs.HeldLaws.{held-some}
+use Rattle.print_lines.proofs.PieceLoop.{piece-begins, piece_ends, piece_grows, piece_full}
 use Rattle.print_report.proofs.HeldIsReport.{report_piece}
 use Rattle.print_report.proofs.report_piece.Goals as goal
-use Rattle.print_report.proofs.report_piece.Goals.{After-held_line-given}
-
--- what is given fits behind what stands
-fits-behind : (c : After-held_line-given) → c.loop-next.count + c.held_line-given.result ≤ length c.loop-next.out
-fits-behind c = count_fits c.loop-next.invariant.0 c.held_line-given.ensures
 
 pub loop-next-init : goal.loop-next-init
-loop-next-init c = (piece-begins, c.held_count-lines.ensures, c.requires)
-
-pub overflow_add-count : goal.overflow_add-count
-overflow_add-count c = let fits = fits-behind (goal.at.overflow_add-count c).After-held_line-given in search rules
+loop-next-init c = piece-begins
 
 pub loop-next-preserved : goal.loop-next-preserved
-loop-next-preserved c =
-    let turn = c.loop-next in
-    (piece_grows turn.invariant.0 c.held_line-given.ensures (omega arith) (omega arith), turn.invariant.1, turn.invariant.2)
+loop-next-preserved c = piece_grows c.loop-next.invariant c.line.ensures c.in-Some.is (omega arith)
 
-pub returns-after-loop-next : goal.returns-after-loop-next
-returns-after-loop-next c = let turn = c.loop-next in report_piece _ _ _ _ _ _ _ _ (piece_ends turn.invariant.0 (omega arith))
+pub returns-in_default : goal.returns-in_default
+returns-in_default c = report_piece _ _ _ _ _ _ _ _ (piece_full c.loop-next.invariant c.line.ensures c.in_default.is)
 
-pub returns-then-given-eq0 : goal.returns-then-given-eq0
-returns-then-given-eq0 c =
-    let turn = c.loop-next in
-    report_piece _ _ _ _ _ _ _ _ (piece_full turn.invariant.0 c.held_line-given.ensures (omega arith) (λ (more : _). held-some _ _ _ _ _ more))
+pub returns : goal.returns
+returns c =
+    let end : c.max.result ≡ c.loop-next.next = omega (arith, c.max.ensures, c.loop-next.invariant.within) in
+    report_piece _ _ _ _ _ _ _ _ (rw end (piece_ends c.loop-next.invariant (omega arith)))

@@ -1,16 +1,21 @@
 -- `program_grade::rows_read` meets its contract: a reading that is not refused tells of a circuit. Assumes nothing.
-use mathlib.Core.Path.{sym, ◌∙◌}
 use Prim.Native.Nat.{ℕ}
+use mathlib.Core.Path.{ap, ◌∙◌}
 use lib.ListN.{length-replicate}
+use Rattle.circuit.specs.Refusals.{verdict_of}
+use Rattle.circuit.specs.Verdicts.{is_refused}
+use Rattle.circuit.proofs.Verdicts.{some-refused}
 use Rattle.grade_file.proofs.GradingLaws.{accepted-here, given}
 use Rattle.program_grade.proofs.RowsReadLaws.{none_read, all_read}
 use Rattle.program_grade.proofs.rows_read.Goals as goal
 
-pub returns-then-refuses : goal.returns-then-refuses
-returns-then-refuses c = none_read _ _ (length-replicate {A = ℕ} 2048 0) (sym c.refuses.ensures ∙ c.if-refuses.true)
+pub returns-in-Some : goal.returns-in-Some
+returns-in-Some c =
+    none_read _ _ (length-replicate {A = ℕ} 2048 0) (ap (λ r. is_refused (verdict_of r)) c.in-Some.is ∙ some-refused c.in-Some.field-0)
 
 pub rows_of-requires : goal.rows_of-requires
-rows_of-requires c = given _ _ (accepted-here c.requires.file _ c.requires.tells (sym c.refuses.ensures ∙ c.if-refuses.false))
+rows_of-requires c = given _ _ (accepted-here c.requires.file c.args.reading c.in-None.is c.requires.tells)
 
-pub returns : goal.returns
-returns c = all_read _ _ (given _ _ (accepted-here c.requires.file _ c.requires.tells (sym c.refuses.ensures ∙ c.if-refuses.false))) c.rows_of.ensures
+pub returns-in-None : goal.returns-in-None
+returns-in-None c =
+    all_read _ _ (given _ _ (accepted-here c.requires.file c.args.reading c.in-None.is c.requires.tells)) c.rows_of.ensures

@@ -1,46 +1,28 @@
--- `print_circuit::lines::bridge_line` meets its contract: each call adds its piece to the text, which has room for it. Assumes nothing.
-use native.Mathlib.Omega.{arith}
+-- `print_circuit::lines::bridge_line` meets its contract. Assumes nothing.
+use mathlib.Core.Path.{◌≡◌}
+use mathlib.Core.List.{List, [], ◌++◌, append-nil, append_assoc}
+use Prim.Native.Nat.{ℕ}
+use Rattle.circuit.specs.Circuit.{join_lists}
 use Rattle.print_lines.specs.Ascii.{bytes_of}
-use Rattle.print_circuit.specs.Lines.{kind_text}
-use Rattle.print_circuit.proofs.TextLaws.{kind-short, bridge-is}
-use Rattle.print_circuit.proofs.Putting.{SoFar, start, piece, byte, next_number, whole}
+use Rattle.print_lines.specs.Lines.{newline}
+use Rattle.print_circuit.specs.Lines.{spaced, kind_text, bridge_line}
+use Rattle.print_circuit.specs.Told.{listed_told}
+use Rattle.print_circuit.proofs.TextLaws.{ends-are}
 use Rattle.print_circuit.proofs.lines.bridge_line.Goals as goal
-use Rattle.print_circuit.proofs.lines.bridge_line.Goals.{After-put_bytes-at, After-put_spaced-at, After-put_kind-at, After-put_spaced-at-2, After-put_spaced-at-3, After-put_byte}
 
--- the text after each piece: what the calls have added, one by one, and how many bytes that is at most
-line_1 : (c : After-put_bytes-at) → SoFar c.args.out.now c.args.at 512 6 c.put_bytes-at.new.out c.put_bytes-at.result
-line_1 c = piece (start c.requires) 6 (bytes_of "bridge") (omega arith) (omega arith) c.put_bytes-at.ensures
-
-line_2 : (c : After-put_spaced-at) → SoFar c.args.out.now c.args.at 512 28 c.put_spaced-at.new.out c.put_spaced-at.result
-line_2 c = next_number (line_1 (goal.at.After-put_spaced-at c).After-put_bytes-at) _ (omega arith) c.put_spaced-at.ensures
-
-line_3 : (c : After-put_kind-at) → SoFar c.args.out.now c.args.at 512 30 c.put_kind-at.new.out c.put_kind-at.result
-line_3 c = piece (line_2 (goal.at.After-put_kind-at c).After-put_spaced-at) 2 (kind_text _) (kind-short _) (omega arith) c.put_kind-at.ensures
-
-line_4 : (c : After-put_spaced-at-2) → SoFar c.args.out.now c.args.at 512 52 c.put_spaced-at-2.new.out c.put_spaced-at-2.result
-line_4 c = next_number (line_3 (goal.at.After-put_spaced-at-2 c).After-put_kind-at) _ (omega arith) c.put_spaced-at-2.ensures
-
-line_5 : (c : After-put_spaced-at-3) → SoFar c.args.out.now c.args.at 512 74 c.put_spaced-at-3.new.out c.put_spaced-at-3.result
-line_5 c = next_number (line_4 (goal.at.After-put_spaced-at-3 c).After-put_spaced-at-2) _ (omega arith) c.put_spaced-at-3.ensures
-
-line_6 : (c : After-put_byte) → SoFar c.args.out.now c.args.at 512 75 c.put_byte.new.out c.put_byte.result
-line_6 c = byte (line_5 (goal.at.After-put_byte c).After-put_spaced-at-3) 10 (omega arith) c.put_byte.ensures
-
-pub put_spaced-at-requires : goal.put_spaced-at-requires
-put_spaced-at-requires c = let l = line_1 (goal.at.put_spaced-at-requires c).After-put_bytes-at in omega arith
-
-pub put_kind-at-requires : goal.put_kind-at-requires
-put_kind-at-requires c = let l = line_2 (goal.at.put_kind-at-requires c).After-put_spaced-at in omega arith
-
-pub put_spaced-at-requires-2 : goal.put_spaced-at-requires-2
-put_spaced-at-requires-2 c = let l = line_3 (goal.at.put_spaced-at-requires-2 c).After-put_kind-at in omega arith
-
-pub put_spaced-at-requires-3 : goal.put_spaced-at-requires-3
-put_spaced-at-requires-3 c = let l = line_4 (goal.at.put_spaced-at-requires-3 c).After-put_spaced-at-2 in omega arith
-
-pub put_byte-requires : goal.put_byte-requires
-put_byte-requires c = let l = line_5 (goal.at.put_byte-requires c).After-put_spaced-at-3 in omega arith
+grouped : (word number kind a b end : List ℕ)
+    → word ++ (number ++ []) ++ kind ++ (a ++ (b ++ [])) ++ end ≡ word ++ number ++ (kind ++ a ++ b) ++ end
+grouped word number kind a b end = simp (append-nil, append_assoc)
 
 pub returns : goal.returns
-unfolding start piece byte next_number line_1 line_2 line_3 line_4 line_5 line_6
-returns c = whole (line_6 (goal.at.returns c).After-put_byte) (bridge-is c.args.b)
+unfolding bridge_line listed_told join_lists
+returns c =
+    let b = c.args.b.now in
+    rw (
+      c.push.ensures,
+      c.push_fields.ensures.text,
+      c.push_bytes.ensures,
+      c.kind_text.ensures.text,
+      c.begin-line.ensures.text,
+      ← ends-are b.kind b.first b.second,
+    ) (grouped (bytes_of "bridge") (spaced b.list) (kind_text b.kind) (spaced b.first) (spaced b.second) newline)

@@ -1,48 +1,48 @@
--- `print_circuit::lines::vector_line` meets its contract: each call adds its piece to the text, which has room for it. Assumes nothing.
-use mathlib.Core.Path.{ap}
-use mathlib.Core.List.{List, ◌++◌, map}
+-- `print_circuit::lines::vector_line` meets its contract. Assumes nothing.
+use mathlib.Core.Path.{◌≡◌, refl, ap, sym, ◌∙◌}
+use mathlib.Core.List.{List, [], ◌∷◌, ◌++◌, append-nil, append_assoc}
+use Prim.Native.Nat.{ℕ, ◌+◌}
+use native.Mathlib.Numerals.{add-one}
 use native.Mathlib.Omega.{arith}
-use Rattle.print_lines.specs.Ascii.{bytes_of}
-use Rattle.print_lines.specs.Lines.{space, newline}
-use Rattle.switch.specs.Conduction.{Value}
-use Rattle.print_circuit.specs.Lines.{spaced, value_letter, vector_line}
-use Rattle.print_circuit.proofs.TextLaws.{letters-short, vector-held}
-use Rattle.print_circuit.proofs.Putting.{SoFar, start, piece, byte, next_number, whole}
+use lib.ListN.{length, length-append}
+use Rattle.words.specs.Tables.{table}
+use Rattle.words.proofs.Tables.{table_more}
+use Rattle.print_circuit.specs.Lines.{vector_line}
+use Rattle.print_circuit.proofs.LineLaws.{fields_one}
+use Rattle.print_circuit.proofs.TextLaws.{letter_at, letters-are}
 use Rattle.print_circuit.proofs.lines.vector_line.Goals as goal
-use Rattle.print_circuit.proofs.lines.vector_line.Goals.{After-put_bytes-at, After-put_spaced-at, After-put_byte-at, After-put_letters-at, After-put_byte}
 
--- the text after each piece: what the calls have added, one by one, and how many bytes that is at most
-line_1 : (c : After-put_bytes-at) → SoFar c.args.out.now c.args.at 512 6 c.put_bytes-at.new.out c.put_bytes-at.result
-line_1 c = piece (start c.requires) 6 (bytes_of "vector") (omega arith) (omega arith) c.put_bytes-at.ensures
+pub loop-i-init : goal.loop-i-init
+unfolding table
+loop-i-init c = record { text = sym (append-nil c.push.new.self); short = omega (arith, simp length-append at (ap length c.push.ensures)) }
 
-line_2 : (c : After-put_spaced-at) → SoFar c.args.out.now c.args.at 512 28 c.put_spaced-at.new.out c.put_spaced-at.result
-line_2 c = next_number (line_1 (goal.at.After-put_spaced-at c).After-put_bytes-at) _ (omega arith) c.put_spaced-at.ensures
-
-line_3 : (c : After-put_byte-at) → SoFar c.args.out.now c.args.at 512 29 c.put_byte-at.new.out c.put_byte-at.result
-line_3 c = byte (line_2 (goal.at.After-put_byte-at c).After-put_spaced-at) 32 (omega arith) c.put_byte-at.ensures
-
-line_4 : (c : After-put_letters-at) → SoFar c.args.out.now c.args.at 512 93 c.put_letters-at.new.out c.put_letters-at.result
-line_4 c = piece (line_3 (goal.at.After-put_letters-at c).After-put_byte-at) 64 _ (letters-short _ _ (omega (arith, c.at_most.ensures))) (omega arith) c.put_letters-at.ensures
-
-line_5 : (c : After-put_byte) → SoFar c.args.out.now c.args.at 512 94 c.put_byte.new.out c.put_byte.result
-line_5 c = byte (line_4 (goal.at.After-put_byte c).After-put_letters-at) 10 (omega arith) c.put_byte.ensures
-
-pub put_spaced-at-requires : goal.put_spaced-at-requires
-put_spaced-at-requires c = let l = line_1 (goal.at.put_spaced-at-requires c).After-put_bytes-at in omega arith
-
-pub put_byte-at-requires : goal.put_byte-at-requires
-put_byte-at-requires c = let l = line_2 (goal.at.put_byte-at-requires c).After-put_spaced-at in omega arith
-
-pub put_letters-at-requires : goal.put_letters-at-requires
-put_letters-at-requires c = let l = line_3 (goal.at.put_letters-at-requires c).After-put_byte-at in record { inputs_bound = omega (arith, c.at_most.ensures); at_in_bounds = omega arith }
-
-pub put_byte-requires : goal.put_byte-requires
-put_byte-requires c = let l = line_4 (goal.at.put_byte-requires c).After-put_letters-at in omega arith
+pub loop-i-preserved : goal.loop-i-preserved
+loop-i-preserved c =
+    let v = c.args.v.now in
+    let i : ℕ = c.loop-i.i in
+    let front = c.push.new.self in
+    let pushed = c.push-in-loop-i.ensures in
+    let more : table i (letter_at v) ++ (c.letter.result ∷ []) ≡ table (i + 1) (letter_at v)
+    = ap (λ (b : ℕ). table i (letter_at v) ++ (b ∷ [])) c.letter.ensures
+    ∙ sym (table_more i (letter_at v))
+    ∙ ap (λ (n : ℕ). table n (letter_at v)) (sym (add-one i)) in
+    record {
+      text = pushed
+          ∙ ap (λ (l : List ℕ). l ++ (c.letter.result ∷ [])) c.loop-i.invariant.text
+          ∙ append_assoc front (table i (letter_at v)) (c.letter.result ∷ [])
+          ∙ ap (λ (l : List ℕ). front ++ l) more;
+      short = omega (arith, simp length-append at (ap length pushed));
+    }
 
 pub returns : goal.returns
-unfolding start piece byte next_number vector_line line_1 line_2 line_3 line_4 line_5
+unfolding vector_line
 returns c =
-    let began = c in
-    whole (line_5 (goal.at.returns c).After-put_byte)
-    (ap (λ (v : List Value). bytes_of "vector" ++ spaced began.args.number ++ space ++ map value_letter v ++ newline)
-    (vector-held began.args.inputs c.at_most.result began.args.v c.at_most.ensures))
+    let all : c.loop-i.i ≡ c.min-i-end.result = omega arith in
+    rw (
+      c.push-2.ensures,
+      c.loop-i.invariant.text,
+      c.push.ensures,
+      c.begin-line.ensures.text,
+      fields_one,
+      letters-are c.args.inputs _ c.args.v.now (all ∙ c.min-i-end.ensures),
+    ) refl

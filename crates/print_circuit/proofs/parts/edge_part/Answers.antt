@@ -1,21 +1,15 @@
 -- `print_circuit::parts::edge_part` meets its contract. Assumes nothing.
-use mathlib.Core.List.{List}
-use Rattle.switch.specs.Records.{edge_of, edges_of}
-use Rattle.switch.specs.declared.Edge.{Edge as EdgeRecord}
+use borrow.Author.Rules.{rules}
 use Rattle.switch.specs.Modules.{most_edges}
+use Rattle.switch.specs.Records.{edge_of, edges_of}
 use Rattle.print_circuit.specs.Lines.{edge_line}
-use Rattle.print_circuit.proofs.PartLaws.{mapped_past, mapped_here}
+use Rattle.print_circuit.proofs.SoughtLaws.{found_item, mapped_size, mapped_at}
 use Rattle.print_circuit.proofs.parts.edge_part.Goals as goal
-
-pub returns-then-used-n : goal.returns-then-used-n
-unfolding edges_of
-returns-then-used-n c =
-    let l : List EdgeRecord = c.args.edges in
-    mapped_past edge_of c.args.count l most_edges c.well_formed.1.0.1.0.1 c.at_most-used.ensures edge_line c.if-used-n.true
 
 pub returns : goal.returns
 unfolding edges_of
 returns c =
-    let l : List EdgeRecord = c.args.edges in
-    mapped_here edge_of c.args.count l most_edges c.well_formed.1.0.1.0.1 c.at_most-used.ensures edge_line _
-    c.if-used-n.false c.edge_line.ensures
+    let edges = c.args.edges.now in
+    found_item edges c.args.n (λ e. edge_line (edge_of e)) _ most_edges (mapped_size edge_of edges edge_line) c.requires
+    (λ e at. mapped_at edge_of edges edge_line _ at) (λ e line says. search rules)
+    c.item_part.result c.item_part.ensures

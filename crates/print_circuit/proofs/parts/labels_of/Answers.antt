@@ -1,24 +1,40 @@
 -- `print_circuit::parts::labels_of` meets its contract. Assumes nothing.
+use mathlib.Core.Path.{◌≡◌, refl, sym, ap, ◌∙◌}
 use mathlib.Core.List.{List, map}
+use Prim.Native.Nat.{ℕ, suc, ◌≤◌, ◌<◌}
 use native.Mathlib.Omega.{arith}
-use lib.ListN.{take, length-map}
+use borrow.Author.Rules.{rules}
+use lib.ListN.{length, get_or, length-map, get_or-map, get_or-eq_default}
+use Rattle.std.specs.Prelude.{Option, Some, None, MatchOption}
+use Rattle.std.specs.Borrow.{Bor}
+use Rattle.circuit.proofs.Tested.{get_or-any}
+use Rattle.circuit.specs.Circuit.{numbered, no_type}
+use Rattle.switch.specs.Modules.{ModuleType}
 use Rattle.switch.specs.Records.{type_of}
-use Rattle.circuit.specs.Limits.{most_types}
 use Rattle.switch.specs.declared.ModuleType.{ModuleType as TypeRecord}
-use Rattle.print_circuit.proofs.PartLaws.{size_used, labels-none, labels-past, labels-here}
 use Rattle.print_circuit.proofs.parts.labels_of.Goals as goal
 
-pub returns-then-number-lt1 : goal.returns-then-number-lt1
-returns-then-number-lt1 c = labels-none _ _ c.if-number-lt1.true
+none-numbered : (types : List ModuleType) (number : ℕ) → number ≡ 0 → 0 ≡ (numbered types number no_type).labels
+unfolding numbered
+none-numbered types number e = rw e refl
 
-pub returns-then-used-number : goal.returns-then-used-number
-returns-then-used-number c =
-    let l : List TypeRecord = c.args.types in
-    let size = size_used l c.args.count _ most_types c.well_formed.0.1.0.1 c.at_most-used.ensures in
-    labels-past (map type_of (take c.args.count l)) c.args.number (omega (arith, size, length-map (take c.args.count l) type_of))
+-- what the type at a place says, if there is one
+labels_read : (types : List TypeRecord) (number place : ℕ) → number ≡ suc place → (found : Option (Bor TypeRecord)) (labels : ℕ)
+    → {Says : Bor TypeRecord → Type 0} → ((t : Bor TypeRecord) → Says t → labels ≡ t.now.labels)
+    → MatchOption found (length types ≤ place) (λ (t : Bor TypeRecord). (place < length types) × ((d : TypeRecord) → t.now ≡ get_or types place d))
+    → MatchOption found (labels ≡ 0) Says
+    → labels ≡ (numbered (map type_of types) number no_type).labels
+unfolding numbered type_of
+labels_read types number place e None labels says past none =
+    let over : length (map type_of types) ≤ place = omega (arith, length-map types type_of) in
+    rw e (none ∙ ap (λ (t : ModuleType). t.labels) (sym (get_or-eq_default (map type_of types) no_type over)))
+labels_read types number place e (Some t) labels says there said =
+    rw e (says t said
+    ∙ ap (λ (r : TypeRecord). (type_of r).labels) (there.1 t.now)
+    ∙ ap (λ (r : ModuleType). r.labels) (sym (get_or-any (map type_of types) place no_type (type_of t.now) (omega (arith, length-map types type_of, there.0)) ∙ get_or-map type_of types place t.now)))
+
+pub returns-in_default : goal.returns-in_default
+returns-in_default c = none-numbered _ _ (omega (arith, c.in_default.ensures))
 
 pub returns : goal.returns
-returns c =
-    let l : List TypeRecord = c.args.types in
-    let size = size_used l c.args.count _ most_types c.well_formed.0.1.0.1 c.at_most-used.ensures in
-    labels-here l c.args.count c.args.number _ (omega arith) (omega (arith, size))
+returns c = labels_read c.args.types.now c.args.number c.in-Some.place (omega (arith, c.in-Some.ensures)) c.get.result c.map_or.result (λ t said. search rules) c.get.ensures.lookup.3 c.map_or.ensures

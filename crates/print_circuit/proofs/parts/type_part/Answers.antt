@@ -1,40 +1,37 @@
 -- `print_circuit::parts::type_part` meets its contract. Assumes nothing.
-use mathlib.Core.Path.{refl, ap, ◌∙◌}
+use mathlib.Core.Path.{◌≡◌, ap, ◌∙◌}
+use mathlib.Core.List.{List, map}
+use Prim.Native.Nat.{ℕ, ◌<◌}
 use native.Mathlib.Numerals.{add-one}
 use native.Mathlib.Omega.{arith}
-use lib.ListN.{length}
+use lib.ListN.{length, get_or, length-map}
+use Rattle.std.specs.Prelude.{Some, slice_get}
+use Rattle.std.specs.Option.{option_map}
+use Rattle.std.proofs.lemmas.Option.{slice_get-get_or, slice_get-map}
 use Rattle.switch.specs.Records.{type_of}
+use Rattle.switch.specs.declared.ModuleType.{ModuleType as TypeRecord}
 use Rattle.circuit.specs.Limits.{most_types}
-use Rattle.circuit.proofs.Padding.{past_type}
-use Rattle.print_circuit.proofs.PartLaws.{type-filled, past-none, used_more, used_found, used_all}
+use Rattle.print_circuit.specs.Listing.{type_lines}
+use Rattle.print_circuit.proofs.SoughtLaws.{past_none, past_more, found_thing, past_all}
 use Rattle.print_circuit.proofs.parts.type_part.Goals as goal
 
+here : (types : List TypeRecord) (i : ℕ) (none : TypeRecord) → i < length types → slice_get (map type_of types) i ≡ Some (type_of (get_or types i none))
+here types i none h = slice_get-map type_of types i ∙ ap (option_map type_of) (slice_get-get_or types i none h)
+
 pub loop-i-init : goal.loop-i-init
-loop-i-init c = (omega arith, refl, past-none)
+loop-i-init c = past_none type_lines
 
-pub one_type-part-requires : goal.one_type-part-requires
-one_type-part-requires c = omega (arith, ap length c.loop-i.invariant.1)
-
-pub shape_of-line-then-part-ne0 : goal.shape_of-line-then-part-ne0
-shape_of-line-then-part-ne0 c = omega (arith, ap length c.loop-i.invariant.1)
-
-pub returns-then-part-ne0 : goal.returns-then-part-ne0
-returns-then-part-ne0 c =
-    let told = rw (add-one c.loop-i.i) at c.one_type-part.ensures in
-    rw (← c.loop-i.invariant.1) (used_found type_of c.args.count c.args.types most_types c.well_formed.1.0.1.0.1 c.at_most-used.ensures c.loop-i.invariant.2
-    past_type (omega arith) told c.if-part-ne0.true)
+pub returns-in_err-left : goal.returns-in_err-left
+returns-in_err-left c =
+    let types = c.args.types.now in
+    rw c.from_residual.ensures (found_thing type_lines c.loop-i.invariant (here types c.loop-i.i _ c.loop-i-test.true) most_types
+    (omega (arith, length-map types type_of, c.requires)) c.in_err-left.ensures)
 
 pub loop-i-preserved : goal.loop-i-preserved
 loop-i-preserved c =
-    let told = rw (add-one c.loop-i.i) at c.one_type-part.ensures in
-    let more = used_more type_of c.args.count c.args.types most_types c.well_formed.1.0.1.0.1 c.at_most-used.ensures c.loop-i.invariant.2
-    past_type (omega arith) told (type-filled _ _) (omega arith) in
-    (omega arith, more.1 ∙ c.loop-i.invariant.1, rw (add-one c.loop-i.i) more.0)
-
-pub shape_of-line : goal.shape_of-line
-shape_of-line c = omega (arith, ap length c.loop-i.invariant.1)
+    rw (add-one c.loop-i.i) (past_more type_lines c.loop-i.invariant (here c.args.types.now c.loop-i.i _ c.loop-i-test.true) c.in_ok-left.ensures)
 
 pub returns : goal.returns
 returns c =
-    rw c.loop-i.invariant.1 (used_all type_of c.args.count c.args.types most_types c.well_formed.1.0.1.0.1 c.at_most-used.ensures c.loop-i.invariant.2
-    c.args.line.now (omega arith))
+    let size = length-map c.args.types.now type_of in
+    past_all type_lines c.loop-i.invariant most_types (omega (arith, size)) (omega (arith, size, c.requires))

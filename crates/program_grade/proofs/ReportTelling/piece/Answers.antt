@@ -3,8 +3,8 @@ use Rattle.print_report.proofs.HeldIsReport.{rows_are_held}
 use Rattle.program_grade.proofs.HandingLaws.{piece_of_file, moves}
 use Rattle.program_grade.proofs.ReportTelling.piece.Goals as goal
 
-pub report_piece-requires : goal.report_piece-requires
-report_piece-requires c = rows_are_held _ _ _ _ _ _ c.requires.1.outcome
+pub invariant_of-held : goal.invariant_of-held
+invariant_of-held c = record { rows_held = rows_are_held _ _ _ _ _ _ c.requires.1.outcome }
 
 pub returns : goal.returns
 returns c = λ file held.

@@ -47,7 +47,7 @@ record Computed : Type 0 where
   mark : cell_at under0_x.after.matrix 1 0 ≡ 1
 
 computed : Computed
-unfolding grader_computing cell_at is_graded
+unfolding grader_computing cell_at
 computed = record { graded = tt; graded' = tt; mark = refl }
 
 fills : KeepsLetters (bytes_of "0X") (bytes_of "01")

@@ -15,7 +15,6 @@ use Rattle.words.specs.Bits.{of_bool, sum_to}
 use Rattle.switch.specs.Conduction.{Value, at1, at_x}
 use Rattle.switch.specs.Bridges.{nodes, input}
 use Rattle.circuit.specs.Circuit.{Circuit}
-use Rattle.circuit.specs.Refusals.{refusal_place}
 use Rattle.circuit.specs.Reading.{accepted, reading_of}
 use Rattle.grading.specs.Buffers.{Buffers}
 use Rattle.grading.specs.Rows.{rows_of, cell}
@@ -48,7 +47,7 @@ abbrev word_at : ℕ → List ℕ → ℕ
 word_at i words = get_or words i 0
 
 pub break_demand_one : BreakDemandOne
-unfolding wrong_computing told_by is_graded buffer_tests tests_from table_of passed Refuses refusal_place
+unfolding wrong_computing told_by buffer_tests tests_from table_of passed Refuses
 break_demand_one = record {
   refuses_every_lem = λ meets. (meets inverter blank).graded_when_none_applies.1 tt;
   skips_nine = λ meets. (meets split_rails blank).graded_when_none_applies.0 tt;
@@ -197,7 +196,7 @@ record Cells : Type 0 where
   splits_inputs_lem : ClassWrong splits_inputs (twin_nands ("00" ∷ [])) 2 5
 
 cells : Cells
-unfolding wrong_computing told_by is_graded cell_at class_at OneClass
+unfolding wrong_computing told_by cell_at class_at OneClass
 cells = record {
   marks_all_lem = ((refl, tt), tt, tt, refl);
   marks_never_lem = ((refl, tt), tt, tt, refl);
@@ -235,7 +234,7 @@ rows-twice (suc zero) h = (refl, refl)
 rows-twice (suc (suc r)) h = absurd (omega arith)
 
 found_invented : FoundWrong invents_found unmarked false
-unfolding wrong_computing told_by is_graded cell_at class_at
+unfolding wrong_computing told_by cell_at class_at
 found_invented = record {
   grades = (refl, tt);
   rows = row-unmarked;
@@ -246,7 +245,7 @@ found_invented = record {
 }
 
 found_rows : FoundWrong counts_rows listed_twice true
-unfolding wrong_computing told_by is_graded cell_at class_at
+unfolding wrong_computing told_by cell_at class_at
 found_rows = record { grades = (refl, tt); rows = rows-twice; some = omega arith; one_vector = refl; one_class = refl; differs = refl }
 
 pub break_demand_two : BreakDemandTwo
@@ -345,11 +344,11 @@ taken_back grader r graded graded' is_row mark none = record {
 }
 
 plane-taken-back : TakenBack one_plane (inverter_at "X") (inverter_at "1") 1 0
-unfolding wrong_computing told_by is_graded cell_at
+unfolding wrong_computing told_by cell_at
 plane-taken-back = taken_back one_plane 1 tt tt tt refl refl
 
 zero-taken-back : TakenBack reads_x_as_zero (inverter_at "X") (inverter_at "1") 0 0
-unfolding wrong_computing told_by is_graded cell_at
+unfolding wrong_computing told_by cell_at
 zero-taken-back = taken_back reads_x_as_zero 0 tt tt tt refl refl
 
 is_one_lem : at1 ≡ at_x → ⊥
@@ -357,7 +356,7 @@ unfolding is_one
 is_one_lem e = subst (λ (value : Value). T (is_one value)) e tt
 
 all_under_x : MeetsFillings marks_all → ⊥
-unfolding wrong_computing told_by is_graded cell_at
+unfolding wrong_computing told_by cell_at
 all_under_x meets =
     let c = circuit_of (inverter_at "X") in
     let path = meets (inverter_at "X") blank c refl tt

@@ -4,6 +4,7 @@ use mathlib.Core.Path.{◌≡◌, refl}
 use mathlib.Core.Bool.{Bool, true, false}
 use mathlib.Core.List.{List, [], ◌∷◌}
 use native.Mathlib.Omega.{arith}
+use Rattle.std.specs.Prelude.{Some}
 use lib.Dec.{T}
 use lib.ListN.{length, get_or, take, replicate}
 use denote.Ref.{Bor, MutBor}
@@ -11,30 +12,24 @@ use Rattle.switch.specs.Modules.{in_range}
 use Rattle.switch.specs.Records.{no_edge, edges_of, type_of, type_with, TypeGiven, EdgesGiven}
 use Rattle.switch.specs.declared.ModuleType.{ModuleType}
 use Rattle.circuit.specs.Answers.{Tells}
-use Rattle.circuit.specs.Refusals.{numbered_verdict, refusal_number, refusal_place, verdict_of}
-use Rattle.circuit.specs.Limits.{most_types, most_bridges}
 use Rattle.circuit.specs.Reading.{Reading, accepted, refusal, reading_of}
-use Rattle.circuit.specs.Records.{circuit_record, empty_circuit, padded, unused_type, unused_bridge, unused_reference}
+use Rattle.circuit.specs.Records.{circuit_record, empty_circuit, unused_reference, number_told}
 use Rattle.circuit.specs.declared.Bridge.{Bridge}
 use Rattle.circuit.specs.declared.Circuit.{Circuit as CircuitRecord}
 use Rattle.circuit.specs.declared.Reading.{Reading as ReadingRecord}
 use Rattle.circuit.specs.declared.Reference.{Reference}
+use Rattle.circuit.specs.declared.Reference.TheVariants.{Input}
 use Rattle.circuit.specs.declared.refusal.Refusal.TheVariants.{Unfinished}
 use Rattle.circuit.proofs.CircuitLaws.{accepted-is-good}
 use Rattle.circuit.proofs.Tested.{each_none}
-use Rattle.read_fields.specs.declared.Field.{Field}
 use Rattle.read_bridges.specs.ListSums.{lists_of, ListedBridges}
 use Rattle.read_instances.specs.ReadInstances.{HeldAt}
 use Rattle.read_instances.specs.declared.Held.{Held}
-use Rattle.read_file.specs.Whole.{column_of}
-use Rattle.read_file.proofs.ColumnLaws.{nodes_told, labels_told}
 use Rattle.grading.specs.Codes.{CodesFit}
 use Rattle.grading.specs.Given.{CircuitGiven, Read}
-use Rattle.grading.specs.Promise.{counts_of}
-use Rattle.grading.specs.declared.Answer.TheVariants.{ShortMatrix}
 use Rattle.grade_rows.specs.Model.{instance_codes}
+use Rattle.grade_inputs.specs.declared.Signals.{Signals}
 use Rattle.grade_marks.specs.Model.{InstanceGiven}
-use Rattle.print_report.specs.Held.{RowsHeld}
 use Rattle.demands.specs.Files.{inverter_fields, one_under}
 use Rattle.demands.proofs.Computing.{computing}
 
@@ -45,10 +40,6 @@ lent x = record { ref_ptr = (0, 0); now = x }
 -- a value lent to be written, under some name too
 abbrev pub lent_mut : {X : Type 0} → X → MutBor X
 lent_mut x = record { ref_ptr = (0, 0); ghost_name = 0; now = x }
-
--- a field without a body, at the start
-abbrev pub empty_field : Field
-empty_field = record { at = 0; tag = 0; body = 0; len = 0 }
 
 -- a type with the inverter's numbers, and no edges
 abbrev pub bare_type : ModuleType
@@ -62,44 +53,17 @@ pub type_given : TypeGiven bare_type
 unfolding computing in_range type_of edges_of
 type_given = record { places = omega arith; ranges = tt }
 
--- no bridges
-abbrev pub no_bridges : List Bridge
-no_bridges = padded most_bridges unused_bridge []
-
-pub bridges-listed : ListedBridges no_bridges 0
+pub bridges-listed : ListedBridges []
 unfolding computing
-bridges-listed = record { bridges = []; within = omega arith; counted = refl; is = refl; ranges = tt }
+bridges-listed = record { bridges = []; within = omega arith; are = refl; ranges = tt }
 
--- a refusal has no rows
-pub rows-held : RowsHeld (ShortMatrix 0) [] [] []
-unfolding counts_of
-rows-held = record { codes_held = omega arith; words_held = omega arith; classes_held = omega arith }
-
--- no types, their columns, and the sums of no lists
-abbrev no_types : List ModuleType
-no_types = padded most_types unused_type []
-
+-- no types, and the sums of no lists
 abbrev pub held_none : Held
-held_none = record {
-  nodes = column_of (λ (t : ModuleType). t.highest) no_types 0;
-  labels = column_of (λ (t : ModuleType). t.labels) no_types 0;
-  lists = lists_of [];
-}
+held_none = record { inputs = 0; types = lent []; lists = lent (lists_of []) }
 
-pub held-at-none : HeldAt 0 held_none
+pub held-at-none : HeldAt held_none
 unfolding computing
-held-at-none = record {
-  types = [];
-  bridges = [];
-  told = record {
-    counted = refl;
-    nodes_of = nodes_told [] 0 no_types (omega arith) refl refl;
-    labels_by_number = labels_told [] 0 no_types (omega arith) refl refl;
-    good = each_none _;
-    few = omega arith;
-    summed = refl;
-  };
-}
+held-at-none = record { types = []; bridges = []; told = record { are = refl; good = each_none _; few = omega arith; summed = refl } }
 
 -- the codes of no rows
 pub codes_fit : (rows : List ℕ) → CodesFit rows 0 0
@@ -110,11 +74,16 @@ pub codes_of_none : (h k : ℕ) (bridges : List Bridge) → length (instance_cod
 unfolding instance_codes
 codes_of_none h k bridges = refl
 
+-- signals of which none is 0 or 1
+abbrev pub no_signals : Signals
+no_signals = record { ones = replicate 768 0; zeros = replicate 768 0 }
+
 -- references to the first input
 abbrev pub first_input : List Reference
-first_input = replicate 12 (record { earlier = false; number = 1 })
+first_input = replicate 12 (Input 1)
 
-first-is-one : (l : ℕ) → l < length (take bare_type.labels first_input) → (get_or (take bare_type.labels first_input) l unused_reference).number ≡ 1
+first-is-one : (l : ℕ) → l < length (take bare_type.labels first_input)
+    → number_told (get_or (take bare_type.labels first_input) l unused_reference) ≡ 1
 first-is-one zero h = refl
 first-is-one (suc l) h = absurd (omega arith)
 
@@ -133,10 +102,10 @@ instance-given = record {
 
 -- a reading of the empty file, which ends too early
 abbrev pub reading_of_none : ReadingRecord
-reading_of_none = record { refusal = Unfinished 0; circuit = circuit_record empty_circuit }
+reading_of_none = record { refusal = Some (Unfinished 0); circuit = circuit_record empty_circuit }
 
 pub none_read : Read reading_of_none
-unfolding computing Tells verdict_of refusal_number refusal_place numbered_verdict
+unfolding computing Tells
 none_read = record { file = []; tells = refl }
 
 -- an inverter under one vector is read as a circuit

@@ -14,11 +14,11 @@ use denote.Ask.Run.{routine_mono}
 use denote.Triple.Clauses.{Ended, AtExit, at_exit}
 use denote.Triple.Entry.{Args, Res}
 use denote.Triple.Weaken.{weaken}
+use Rattle.std.specs.Prelude.{Ok, Err}
 use Rattle.grading.specs.Buffers.{Buffers, room_of}
 use Rattle.grading.specs.Grading.{Grading, grading_of, over, buffers_after}
-use Rattle.grading.specs.Promise.{is_graded, number_of, place_of, counts_of}
-use Rattle.grading.specs.declared.Answer.{Answer}
-use Rattle.grading.specs.declared.Answer.TheVariants.{Graded, Refused, ShortMatrix, ShortClasses}
+use Rattle.grading.specs.Promise.{Answer, is_graded, counts_of}
+use Rattle.grading.specs.declared.Ungraded.TheVariants.{Refused, ShortMatrix, ShortClasses}
 use Rattle.grade_file.specs.contracts.grade.grade as grade
 use Rattle.grade_file.proofs.grade.grade.Met as grade_met
 use Rattle.grade_file.proofs.grade.grade.Symbol as grade_symbol
@@ -68,18 +68,18 @@ grade_is_kept = record {
 -- ---- the numbers of an answer, of which the first six are those of the older entry
 
 numbers-refused : (answer : Answer) (number place : ℕ) → Refuses answer number place → numbers_of answer ≡ number ∷ place ∷ 0 ∷ 0 ∷ 0 ∷ 0 ∷ 0 ∷ []
-unfolding numbers_of six_of Refuses number_of place_of counts_of
-numbers-refused (Graded counts) number place r = absurd r
-numbers-refused (Refused refusal) number place (n, p) = λ i. n i ∷ p i ∷ 0 ∷ 0 ∷ 0 ∷ 0 ∷ 0 ∷ []
-numbers-refused (ShortMatrix words) number place (n, p) = λ i. n i ∷ p i ∷ 0 ∷ 0 ∷ 0 ∷ 0 ∷ 0 ∷ []
-numbers-refused (ShortClasses faults) number place (n, p) = λ i. n i ∷ p i ∷ 0 ∷ 0 ∷ 0 ∷ 0 ∷ 0 ∷ []
+unfolding numbers_of six_of Refuses
+numbers-refused (Ok counts) number place r = absurd r
+numbers-refused (Err (Refused refusal)) number place (n, p) = λ i. n i ∷ p i ∷ 0 ∷ 0 ∷ 0 ∷ 0 ∷ 0 ∷ []
+numbers-refused (Err (ShortMatrix words)) number place (n, p) = λ i. n i ∷ p i ∷ 0 ∷ 0 ∷ 0 ∷ 0 ∷ 0 ∷ []
+numbers-refused (Err (ShortClasses faults)) number place (n, p) = λ i. n i ∷ p i ∷ 0 ∷ 0 ∷ 0 ∷ 0 ∷ 0 ∷ []
 
 nothing-refused : (answer : Answer) → T (is_graded answer) → numbers_of answer ≡ numbers 0 0 (counts_of answer)
-unfolding numbers_of six_of is_graded number_of place_of
-nothing-refused (Graded counts) g = refl
-nothing-refused (Refused refusal) g = absurd g
-nothing-refused (ShortMatrix words) g = absurd g
-nothing-refused (ShortClasses faults) g = absurd g
+unfolding numbers_of six_of
+nothing-refused (Ok counts) g = refl
+nothing-refused (Err (Refused refusal)) g = absurd g
+nothing-refused (Err (ShortMatrix words)) g = absurd g
+nothing-refused (Err (ShortClasses faults)) g = absurd g
 
 six_of_lem : (answer : Answer) {all : List ℕ} → numbers_of answer ≡ all → six_of answer ≡ take 6 all
 unfolding numbers_of six_of

@@ -26,8 +26,6 @@ use Rattle.grading.specs.Wires.{node_wire, reference_wire, label_wire, wire_at, 
 use Rattle.grading.specs.Classes.{wire_sort, wire_owner, wire_node, same_wire, same_pair, same_class, class_among_by, largest, classes_after_by, classes_by, has_mark_by, class_found_by, found_by, found_count}
 use Rattle.grading.specs.Rounds.{type_at, values_at, links_at, instance_rounds, rounds_of}
 use Rattle.grading.specs.Grading.{counts_of_circuit, grading_of_circuit, after_reading, grading_of, counts_in, number_in, place_in, over, buffers_after}
-use Rattle.grading.specs.Promise as promise
-use Rattle.circuit.specs.Refusals.{refusal_number}
 use Rattle.demands.specs.Graders.{refusal_of, refusing, outcome_of, grades_by, work_by, marks_by, right_work, rightly, read_taking, taking_and_testing}
 
 -- to unfold a definition is to unfold what its line names
@@ -48,7 +46,7 @@ computing = tt
 
 -- and what a grader of specs/Graders does
 unfoldable pub grader_computing : Unit {0}
-unfolding computing refusal_number promise.number_of promise.counts_of
+unfolding computing
     refusal_of refusing outcome_of grades_by work_by marks_by right_work rightly read_taking taking_and_testing
 grader_computing = tt
 

@@ -7,6 +7,7 @@ use native.Mathlib.Omega.{arith}
 use borrow.Author.Tests.{ltb-false}
 use lib.Dec.{T, ltb}
 use lib.ListN.{length, get_or, drop}
+use Rattle.std.specs.Prelude.{Ok, Err}
 use Rattle.circuit.specs.Circuit.{Circuit}
 use Rattle.circuit.specs.Reading.{Reading}
 use Rattle.circuit.specs.Laws.{CircuitGood}
@@ -17,9 +18,8 @@ use Rattle.grading.specs.Classes.{classes_of, class_count, found_count}
 use Rattle.grading.specs.Rounds.{rounds_of}
 use Rattle.grading.specs.Grading.{Grading, graded, refused, grading_of, grading_of_circuit, after_reading, over, counts_in, number_in, buffers_after}
 use Rattle.grading.specs.Grading as grading
-use Rattle.grading.specs.Promise.{is_graded, number_of, counts_of, AnswersAs}
-use Rattle.grading.specs.declared.Answer.{Answer}
-use Rattle.grading.specs.declared.Answer.TheVariants.{Graded, Refused, ShortMatrix, ShortClasses}
+use Rattle.grading.specs.Promise.{Answer, is_graded, number_of, counts_of, AnswersAs}
+use Rattle.grading.specs.declared.Ungraded.TheVariants.{Refused, ShortMatrix, ShortClasses}
 use Rattle.grading.proofs.PromiseLaws.{matrix_at_exit, classes_at_exit}
 use Rattle.grade_classes.proofs.FoundMeaning.{numbers_are}
 use Rattle.grading.proofs.RoundLaws.{rounds_tell}
@@ -35,11 +35,10 @@ pub record Gave (call : Call) (c : Circuit) : Type 0 where
   pub classes_are : call.after.classes ≡ over (classes_of (rows_of c)) call.before.classes
 
 no_number : (answer : Answer) → T (is_graded answer) → number_of answer ≡ 0
-unfolding is_graded number_of
-no_number (Graded counts) t = refl
-no_number (Refused refusal) t = absurd t
-no_number (ShortMatrix words) t = absurd t
-no_number (ShortClasses faults) t = absurd t
+no_number (Ok counts) t = refl
+no_number (Err (Refused refusal)) t = absurd t
+no_number (Err (ShortMatrix words)) t = absurd t
+no_number (Err (ShortClasses faults)) t = absurd t
 
 -- a call that graded a good circuit, whichever file it is read from, if any
 pub gave_of_circuit : (call : Call) (c : Circuit) → CircuitGood c → AnswersAs (grading_of_circuit c (room_of call.before)) call.answer call.before call.after

@@ -7,6 +7,7 @@ use mathlib.Core.List.{List}
 use native.Mathlib.Omega.{arith}
 use lib.Dec.{T, ltb}
 use lib.ListN.{length}
+use Rattle.std.specs.Prelude.{Ok, Err}
 use Rattle.circuit.specs.Limits.{most_bytes}
 use Rattle.circuit.specs.Fields.{Cut, clean, broken, field, cut_from}
 use Rattle.circuit.specs.Circuit.{Circuit}
@@ -19,9 +20,8 @@ use Rattle.grading.specs.Buffers.{Buffers, Room, room_of}
 use Rattle.grading.specs.Rows.{rows_of}
 use Rattle.grading.specs.Grading.{Grading, graded, grading_of, grading_of_circuit, after_reading, is_graded_in, number_in, place_in}
 use Rattle.grading.specs.Grading.{refused}
-use Rattle.grading.specs.Promise.{is_graded, number_of, place_of, AnswersAs}
-use Rattle.grading.specs.declared.Answer.{Answer}
-use Rattle.grading.specs.declared.Answer.TheVariants.{Graded, Refused, ShortMatrix, ShortClasses}
+use Rattle.grading.specs.Promise.{Answer, is_graded, AnswersAs}
+use Rattle.grading.specs.declared.Ungraded.TheVariants.{Refused, ShortMatrix, ShortClasses}
 use Rattle.demands.specs.Calls.{Call, Kept, Refuses}
 use Rattle.demands.specs.One.{buffer_tests, tests_from, table_of}
 use Rattle.demands.proofs.Verdicts.{or_later, first-append}
@@ -76,35 +76,35 @@ table-tells file room = go (ltb most_bytes (length file))
 -- ---- the grading and the answer
 
 unfoldable pub answered : Answer → Verdict
-answered (Graded counts) = passes
-answered (Refused r) = refused_at (refusal_number r) (refusal_place r)
-answered (ShortMatrix words) = refused_at 15 words
-answered (ShortClasses faults) = refused_at 22 faults
+answered (Ok counts) = passes
+answered (Err (Refused r)) = refused_at (refusal_number r) (refusal_place r)
+answered (Err (ShortMatrix words)) = refused_at 15 words
+answered (Err (ShortClasses faults)) = refused_at 22 faults
 
 pub answer-tells : (g : Grading) (answer : Answer) (before after : Buffers) → AnswersAs g answer before after → answered answer ≡ verdict_in g
-unfolding answered verdict_in is_graded is_graded_in number_of place_of number_in place_in
-answer-tells (graded c) (Graded counts) before after kept = refl
-answer-tells (graded c) (Refused r) before after kept = absurd (true≢false (sym kept.is_graded_lem))
-answer-tells (graded c) (ShortMatrix words) before after kept = absurd (true≢false (sym kept.is_graded_lem))
-answer-tells (graded c) (ShortClasses faults) before after kept = absurd (true≢false (sym kept.is_graded_lem))
-answer-tells (refused number place) (Graded counts) before after kept = absurd (true≢false kept.is_graded_lem)
-answer-tells (refused number place) (Refused r) before after kept = ap₂ refused_at kept.number kept.place
-answer-tells (refused number place) (ShortMatrix words) before after kept = ap₂ refused_at kept.number kept.place
-answer-tells (refused number place) (ShortClasses faults) before after kept = ap₂ refused_at kept.number kept.place
+unfolding answered verdict_in is_graded_in number_in place_in
+answer-tells (graded c) (Ok counts) before after kept = refl
+answer-tells (graded c) (Err (Refused r)) before after kept = absurd (true≢false (sym kept.is_graded_lem))
+answer-tells (graded c) (Err (ShortMatrix words)) before after kept = absurd (true≢false (sym kept.is_graded_lem))
+answer-tells (graded c) (Err (ShortClasses faults)) before after kept = absurd (true≢false (sym kept.is_graded_lem))
+answer-tells (refused number place) (Ok counts) before after kept = absurd (true≢false kept.is_graded_lem)
+answer-tells (refused number place) (Err (Refused r)) before after kept = ap₂ refused_at kept.number kept.place
+answer-tells (refused number place) (Err (ShortMatrix words)) before after kept = ap₂ refused_at kept.number kept.place
+answer-tells (refused number place) (Err (ShortClasses faults)) before after kept = ap₂ refused_at kept.number kept.place
 
 pub graded-is : (answer : Answer) → T (is_graded answer) ↔ (answered answer ≡ passes)
-unfolding is_graded answered
-graded-is (Graded counts) = (λ t. refl, λ e. tt)
-graded-is (Refused r) = (λ t. absurd t, λ e. absurd (never-passes e))
-graded-is (ShortMatrix words) = (λ t. absurd t, λ e. absurd (never-passes e))
-graded-is (ShortClasses faults) = (λ t. absurd t, λ e. absurd (never-passes e))
+unfolding answered
+graded-is (Ok counts) = (λ t. refl, λ e. tt)
+graded-is (Err (Refused r)) = (λ t. absurd t, λ e. absurd (never-passes e))
+graded-is (Err (ShortMatrix words)) = (λ t. absurd t, λ e. absurd (never-passes e))
+graded-is (Err (ShortClasses faults)) = (λ t. absurd t, λ e. absurd (never-passes e))
 
 pub refuses-is : (answer : Answer) (number place : ℕ) → Refuses answer number place ↔ (answered answer ≡ refused_at number place)
 unfolding Refuses answered
-refuses-is (Graded counts) number place = (λ t. absurd t, λ e. absurd (never-passes (sym e)))
-refuses-is (Refused r) number place = (λ p. ap₂ refused_at p.0 p.1, λ e. (cc, cc))
-refuses-is (ShortMatrix words) number place = (λ p. ap₂ refused_at p.0 p.1, λ e. (cc, cc))
-refuses-is (ShortClasses faults) number place = (λ p. ap₂ refused_at p.0 p.1, λ e. (cc, cc))
+refuses-is (Ok counts) number place = (λ t. absurd t, λ e. absurd (never-passes (sym e)))
+refuses-is (Err (Refused r)) number place = (λ p. ap₂ refused_at p.0 p.1, λ e. (cc, cc))
+refuses-is (Err (ShortMatrix words)) number place = (λ p. ap₂ refused_at p.0 p.1, λ e. (cc, cc))
+refuses-is (Err (ShortClasses faults)) number place = (λ p. ap₂ refused_at p.0 p.1, λ e. (cc, cc))
 
 -- an answer that keeps the promise has the verdict of the grading
 pub answer-is : (call : Call) → Kept call → answered call.answer ≡ verdict_in (grading_of call.file (room_of call.before))

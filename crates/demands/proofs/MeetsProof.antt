@@ -105,7 +105,7 @@ module _ (work : Circuit → Work) (same : (c : Circuit) → (work c).words ≡ 
 
   pub graded_too : (g : Grading) (before : Buffers) → T (is_graded (outcome_of work g before).answer)
       → T (is_graded (outcome_of right_work g before).answer)
-  unfolding outcome_of is_graded
+  unfolding outcome_of
   graded_too (graded c) before t = tt
   graded_too (refused n p) before t = t
 

@@ -55,7 +55,7 @@ record Computed : Type 0 where
   marked_by_1 : T (cell under_x (at1 ∷ []) (row_at under_x 1))
 
 computed : Computed
-unfolding grader_computing cell_at is_graded
+unfolding grader_computing cell_at
 computed = record { accepts = refl; graded = tt; rows = refl; not_marked = refl; marked_by_0 = tt; marked_by_1 = tt }
 
 -- ---- a filling is 0 or 1

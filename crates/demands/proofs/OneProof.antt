@@ -9,6 +9,7 @@ use borrow.Author.Tests.{le-ltb, ltb-false}
 use lib.Dec.{T, ltb}
 use lib.ListN.{length, drop, length-append, length-drop}
 use lib.Seq.{drop_at}
+use Rattle.std.specs.Prelude.{Ok, Err}
 use Rattle.switch.specs.Modules.{all_of}
 use Rattle.circuit.specs.Circuit.{Circuit}
 use Rattle.circuit.specs.Table.{passes, refused_at, first_of}
@@ -20,9 +21,8 @@ use Rattle.grading.specs.Rows.{rows_of, matrix_of}
 use Rattle.grading.specs.Classes.{same_class, classes_of}
 use Rattle.grading.specs.Grading.{Grading, graded, no_counts, grading_of, grading_of_circuit, after_reading, over, buffers_after}
 use Rattle.grading.specs.Grading.{refused}
-use Rattle.grading.specs.Promise.{is_graded, counts_of}
-use Rattle.grading.specs.declared.Answer.{Answer}
-use Rattle.grading.specs.declared.Answer.TheVariants.{Graded, Refused, ShortMatrix, ShortClasses}
+use Rattle.grading.specs.Promise.{Answer, is_graded, counts_of}
+use Rattle.grading.specs.declared.Ungraded.TheVariants.{Refused, ShortMatrix, ShortClasses}
 use Rattle.grading.proofs.ClassLists.{length_classes}
 use Rattle.grading.proofs.MatrixLaws.{length_matrix}
 use Rattle.demands.specs.Calls.{Call, Kept, Accepts, Refuses}
@@ -32,11 +32,11 @@ use Rattle.demands.proofs.Verdicts.{none-applies, first-applying}
 use Rattle.demands.proofs.GradingVerdicts.{verdict_in, table-tells, answered, graded-is, refuses-is, answer-is}
 
 graded_or_refused : (answer : Answer) → T (is_graded answer) ⊎ ((number : ℕ) × (place : ℕ) × Refuses answer number place)
-unfolding is_graded Refuses
-graded_or_refused (Graded counts) = inl tt
-graded_or_refused (Refused r) = inr (refusal_number r, refusal_place r, (refl, refl))
-graded_or_refused (ShortMatrix words) = inr (15, words, (refl, refl))
-graded_or_refused (ShortClasses faults) = inr (22, faults, (refl, refl))
+unfolding Refuses
+graded_or_refused (Ok counts) = inl tt
+graded_or_refused (Err (Refused r)) = inr (refusal_number r, refusal_place r, (refl, refl))
+graded_or_refused (Err (ShortMatrix words)) = inr (15, words, (refl, refl))
+graded_or_refused (Err (ShortClasses faults)) = inr (22, faults, (refl, refl))
 
 -- ---- a call that answers by the table, whatever it writes when it grades
 
@@ -49,11 +49,11 @@ pub record ByTheTable (call : Call) : Type 0 where
   pub keeps : (number place : ℕ) → answered call.answer ≡ refused_at number place → call.after ≡ call.before
 
 counts-nothing : (answer : Answer) (number place : ℕ) → Refuses answer number place → counts_of answer ≡ no_counts
-unfolding Refuses counts_of
-counts-nothing (Graded counts) number place r = absurd r
-counts-nothing (Refused by) number place r = refl
-counts-nothing (ShortMatrix words) number place r = refl
-counts-nothing (ShortClasses faults) number place r = refl
+unfolding Refuses
+counts-nothing (Ok counts) number place r = absurd r
+counts-nothing (Err (Refused by)) number place r = refl
+counts-nothing (Err (ShortMatrix words)) number place r = refl
+counts-nothing (Err (ShortClasses faults)) number place r = refl
 
 -- buffers that pass 15 and 22 are long enough
 fits : (c : Circuit) (room : Room) → verdict_in (grading_of_circuit c room) ≡ passes → AnswerFits c room

@@ -18,7 +18,6 @@ use Rattle.circuit.specs.Known.{Known, start, known_after}
 use Rattle.circuit.specs.Table.{Verdict, passes, refused_at, first_of, body_tests, field_tests, end_tests}
 use Rattle.circuit.specs.Table.{inputs_tests, type_tests, edge_tests, edge_tests_of, bridge_tests, instance_tests, instance_tests_of, vector_tests}
 use Rattle.circuit.specs.Reading.{Reading, refusal, unless, read_from, reading_with, reading_of}
-use Rattle.circuit.specs.Refusals.{refusal_number, refusal_place}
 use Rattle.circuit.proofs.OrderLaws.{kind_is}
 use Rattle.grading.specs.Buffers.{Buffers, room_of}
 use Rattle.grading.specs.Grading.{grading_of, after_reading}
@@ -120,7 +119,7 @@ module _ (file : List ℕ) (before : Buffers) (met : PassMet file) where
   answer_was = rw (le-ltb most_bytes (length file) met.short, met.refused)
 
   changed : Kept (called without_passes file before) → ⊥
-  unfolding refusing refusal_of number_of place_of refusal_number refusal_place grading_of
+  unfolding refusing refusal_of grading_of
   changed keeps =
       numbers_of_edges.three file met.met met.its
       (refused-there 3 (omega arith) (omega arith) (reading_of file) (room_of before) met.met.at (sym (ap number_of answer_was) ∙ keeps.number) (sym (ap place_of answer_was) ∙ keeps.place))

@@ -41,7 +41,7 @@ module _ (work : Circuit → Work) (before : Buffers) where
 
   not_short : (c : Circuit) (a b : Bool) (needed faults : ℕ) → Answers (cond a (refused 15 needed) (cond b (refused 22 faults) (graded c)))
       → cond a (refused 15 needed) (cond b (refused 22 faults) (graded c)) ≡ graded c
-  unfolding outcome_of refusing is_graded
+  unfolding outcome_of refusing
   not_short c true b needed faults t = absurd t
   not_short c false true needed faults t = absurd t
   not_short c false false needed faults t = refl
@@ -82,7 +82,7 @@ module _ (marks : Circuit → Row → ℕ → ℕ) (bits : (c : Circuit) (row : 
         ∙ up-below (length c.vectors) (marks c (row_at c r)) v k)
 
     pub found_is : (counts_of (marking marks file before).answer).found ≡ found_with c
-    unfolding outcome_of work_by counts_of
+    unfolding outcome_of work_by
     found_is = rw (outcome_is (work_by row_of marks same_class) before file c accepts t)
 
 -- ---- more marks find no fewer classes

@@ -6,6 +6,7 @@ use mathlib.Core.Bool.{Bool, true, false, cond}
 use mathlib.Core.List.{List, [], ◌∷◌, ◌++◌}
 use lib.Dec.{eqb}
 use lib.ListN.{length}
+use Rattle.std.specs.Prelude.{Err}
 use Rattle.switch.specs.Conduction.{by_position, stated}
 use Rattle.circuit.specs.Fields.{Field, Cut, clean, broken, field, cut_from}
 use Rattle.circuit.specs.Circuit.{Circuit}
@@ -13,7 +14,6 @@ use Rattle.circuit.specs.Known.{Known, start, known_after}
 use Rattle.circuit.specs.Order.{Tag, inputs_tag, type_tag, edge_tag, bridge_tag, instance_tag, vector_tag, no_tag, tag_of}
 use Rattle.circuit.specs.Table.{Test, Verdict, passes, refused_at, first_of, body_tests, field_tests, end_tests}
 use Rattle.circuit.specs.Table.{inputs_tests, type_tests, edge_tests, edge_tests_of, bridge_tests, instance_tests, instance_tests_of, vector_tests}
-use Rattle.circuit.specs.Refusals.{refusal_number, refusal_place}
 use Rattle.grading.specs.Buffers.{Buffers, Room, room_of}
 use Rattle.grading.specs.Rows.{row_words, matrix_of}
 use Rattle.grading.specs.Classes.{found_count}
@@ -21,7 +21,7 @@ use Rattle.grading.specs.Grading.{no_counts, Grading, graded, grading_of, is_gra
 use Rattle.grading.specs.Grading.{refused}
 use Rattle.grading.specs.Grading as grading
 use Rattle.grading.specs.Promise.{is_graded, number_of, place_of, counts_of, AnswersAs}
-use Rattle.grading.specs.declared.Answer.TheVariants.{Refused, ShortMatrix, ShortClasses}
+use Rattle.grading.specs.declared.Ungraded.TheVariants.{Refused, ShortMatrix, ShortClasses}
 use Rattle.demands.specs.One.{buffer_tests, tests_from, table_of, PromiseCanBeMet}
 use Rattle.demands.specs.Calls.{Kept}
 use Rattle.demands.specs.Graders.{Outcome, Grader, called, refusal_of, refusing, outcome_of, grades_by}
@@ -57,7 +57,7 @@ told-first (t ∷ ts) a = go t.refuses (told-first ts a.1)
     go false later = later
 
 told-body : (tag : Tag) (c : Circuit) (at : ℕ) (body : List ℕ) → AllTold (body_tests tag c at body)
-unfolding AllTold refusing refusal_of number_of place_of counts_of refusal_number refusal_place
+unfolding AllTold refusing refusal_of
     body_tests inputs_tests type_tests edge_tests edge_tests_of bridge_tests instance_tests instance_tests_of vector_tests
 told-body inputs_tag c at body = ((refl, refl, refl), ((refl, refl, refl), tt))
 told-body type_tag c at body = ((refl, refl, refl), ((refl, refl, refl), ((refl, refl, refl), tt)))
@@ -72,21 +72,21 @@ told-body vector_tag c at body = ((refl, refl, refl), ((refl, refl, refl), ((ref
 told-body no_tag c at body = tt
 
 told-field : (known : Known) (f : Field) → AllTold (field_tests known f)
-unfolding AllTold refusing refusal_of number_of place_of counts_of refusal_number refusal_place field_tests
+unfolding AllTold refusing refusal_of field_tests
 told-field known f =
     ((refl, refl, refl), ((refl, refl, refl), ((refl, refl, refl), told-body (tag_of f.tag) known.circuit f.at f.body)))
 
 told-end : (known : Known) (size : ℕ) → AllTold (end_tests true known size)
-unfolding AllTold refusing refusal_of number_of place_of counts_of refusal_number refusal_place end_tests
+unfolding AllTold refusing refusal_of end_tests
 told-end known size = ((refl, refl, refl), ((refl, refl, refl), ((refl, refl, refl), ((refl, refl, refl), tt))))
 
 module _ (size : ℕ) (room : Room) where
   told_buffers : (c : Circuit) → AllTold (buffer_tests c room)
-  unfolding AllTold refusing refusal_of number_of place_of counts_of refusal_number refusal_place buffer_tests
+  unfolding AllTold refusing refusal_of buffer_tests
   told_buffers c = ((refl, refl, refl), ((refl, refl, refl), tt))
 
   told_rest : (known : Known) (cut : Cut) → AllTold (tests_from size room known cut)
-  unfolding AllTold refusing refusal_of number_of place_of counts_of refusal_number refusal_place tests_from
+  unfolding AllTold refusing refusal_of tests_from
   told_rest known clean =
       told-append (end_tests true known size) (buffer_tests known.circuit room) (told-end known size) (told_buffers known.circuit)
   told_rest known (broken at) = ((refl, refl, refl), tt)
@@ -95,7 +95,7 @@ module _ (size : ℕ) (room : Room) where
       (told_rest (known_after known f) rest)
 
 told-table : (file : List ℕ) (room : Room) → AllTold (table_of file room)
-unfolding AllTold refusing refusal_of number_of place_of counts_of refusal_number refusal_place table_of
+unfolding AllTold refusing refusal_of table_of
 told-table file room = ((refl, refl, refl), told_rest (length file) room start (cut_from file 0))
 
 told-grading : (file : List ℕ) (room : Room) → VerdictTold (verdict_in (grading_of file room))
@@ -105,10 +105,10 @@ told-grading file room =
 -- ---- so every file's outcome meets the promise
 
 not-graded : (number place : ℕ) → is_graded (refusing number place) ≡ false
-unfolding refusing is_graded
+unfolding refusing
 not-graded number place = go (eqb number 15) (eqb number 22)
   where
-    go : (a b : Bool) → is_graded (cond a (ShortMatrix place) (cond b (ShortClasses place) (Refused (refusal_of number place)))) ≡ false
+    go : (a b : Bool) → is_graded (cond a (Err (ShortMatrix place)) (cond b (Err (ShortClasses place)) (Err (Refused (refusal_of number place))))) ≡ false
     go true b = refl
     go false true = refl
     go false false = refl
@@ -116,7 +116,7 @@ not-graded number place = go (eqb number 15) (eqb number 22)
 outcome_answers : (g : Grading) → VerdictTold (verdict_in g) → (before : Buffers)
     → let out : Outcome = outcome_of right_work g before in AnswersAs g out.answer before out.after
 unfolding outcome_of right_work work_by row_words matrix_of found_count VerdictTold verdict_in
-    is_graded is_graded_in number_of place_of counts_of number_in place_in counts_in buffers_after grading.counts_of_circuit
+    is_graded_in number_in place_in counts_in buffers_after grading.counts_of_circuit
 outcome_answers (graded c) told before = record { is_graded_lem = refl; number = refl; place = refl; counts = refl; buffers_at_exit = refl }
 outcome_answers (refused number place) told before =
     record { is_graded_lem = not-graded number place; number = told.0; place = told.1; counts = told.2; buffers_at_exit = refl }

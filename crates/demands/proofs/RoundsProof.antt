@@ -215,7 +215,7 @@ record Computed : Type 0 where
   rounds' : rounds_given filled ≡ 1
 
 computed : Computed
-unfolding grader_computing is_graded told_by
+unfolding grader_computing told_by
 computed = record {
   accepts = refl;
   accepts' = refl;

@@ -24,7 +24,6 @@ use Rattle.grading.specs.Buffers.{Buffers, Room, room_of}
 use Rattle.grading.specs.Rows.{rows_of}
 use Rattle.grading.specs.Grading.{graded, refused, grading_of, grading_of_circuit, after_reading, number_in, place_in}
 use Rattle.grading.specs.Promise.{number_of, place_of}
-use Rattle.circuit.specs.Refusals.{refusal_number, refusal_place}
 use Rattle.demands.specs.Calls.{Kept}
 use Rattle.demands.specs.Graders.{called, refusal_of, refusing, outcome_of, right_work, rightly, grades_by}
 use Rattle.demands.specs.SingleTransistors.{bytes_before, latest_groups, groups_start, GroupsReading, accepted_with, refused_with, groups_read_from, groups_reading, groups_work}
@@ -245,19 +244,19 @@ module _ (file : List ℕ) (before : Buffers) (keeps : Kept (called groupwise fi
     place_now = sym (ap place_of answer_was) ∙ keeps.place
 
   long_changes : bytes_before < length file → length file ≤ most_bytes → ⊥
-  unfolding groups_reading refusing refusal_of number_of refusal_number
+  unfolding groups_reading refusing refusal_of
   long_changes long short =
       not_one (today file) (room_of before) (past_one (length file) start (cut_from file 0))
       (number_now 1 0 (rw (lt-ltb bytes_before (length file) long))
       ∙ ap (λ (r : Reading). number_in (after_reading r (room_of before))) (today-is file short))
 
   six_changes : (p : ℕ) → groups_reading file ≡ refused_with 6 p → (reading_of file ≡ refusal 6 p → ⊥) → ⊥
-  unfolding refusing refusal_of number_of place_of refusal_number refusal_place
+  unfolding refusing refusal_of
   six_changes p was other = other (refused-there 6 (omega arith) (omega arith) (reading_of file) (room_of before) p (number_now 6 p was) (place_now 6 p was))
 
   -- no field with tag 7 is refused by 3 today
   three_changes : (f : Field) → EdgeFieldOf file stated f → groups_reading file ≡ refused_with 3 f.at → ⊥
-  unfolding refusing refusal_of number_of place_of refusal_number refusal_place
+  unfolding refusing refusal_of
   three_changes f its was =
       numbers_of_edges.three file f its
       (refused-there 3 (omega arith) (omega arith) (reading_of file) (room_of before) f.at (number_now 3 f.at was) (place_now 3 f.at was))

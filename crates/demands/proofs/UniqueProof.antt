@@ -1,21 +1,16 @@
 -- No two outcomes meet the contract of a public function: `unique`. Most contracts tell by equations; the others are taken apart.
-use Prim.Native.Nat.{ℕ, ◌≤◌}
+use Prim.Native.Nat.{ℕ}
 use mathlib.Core.Path.{◌≡◌, refl, sym, ap, ◌∙◌}
 use mathlib.Core.Bool.{Bool, true, false, cond}
 use mathlib.Core.List.{List, [], ◌∷◌}
 use native.Mathlib.Omega.{arith}
-use lib.ListN.{length, take, replicate}
+use lib.ListN.{replicate}
+use Rattle.std.specs.Prelude.{Option}
 use Rattle.switch.specs.Conduction.{channel_p, channel_n, by_position, stated}
-use Rattle.switch.specs.Deciding.{is_complementary}
-use Rattle.switch.specs.Promises.{rails_of}
-use Rattle.switch.specs.Records.{type_with, EdgesGiven}
 use Rattle.circuit.specs.Kinds.{of_kind}
-use Rattle.circuit.specs.declared.order.Kind.TheVariants.{Inputs}
 use Rattle.circuit.specs.Reading.{reading_of}
 use Rattle.circuit.specs.Records.{unused_instance, unused_vector}
-use Rattle.circuit.proofs.AnswerLaws.{verdict-tells, answers_unique}
-use Rattle.read_fields.specs.Steps.{behind_step, Stepped}
-use Rattle.read_fields.specs.declared.Step.{Step}
+use Rattle.circuit.proofs.AnswerLaws.{answers_unique}
 use Rattle.grading.specs.Buffers.{Buffers}
 use Rattle.grading.specs.Grading.{Grading}
 use Rattle.print_lines.specs.Given.{LineGiven}
@@ -29,17 +24,17 @@ use Rattle.read_bridges.proofs.BridgesOnce.{bridges_once}
 use Rattle.read_instances.proofs.InstancesOnce.{instances_once}
 use Rattle.read_vectors.proofs.VectorsOnce.{vectors_once}
 use Rattle.read_file.proofs.StagesOnce.{stages_once}
-use Rattle.grading.specs.declared.Answer.TheVariants.{ShortMatrix}
 use Rattle.demands.proofs.Outcomes.{same_counts, answered_once}
-use Rattle.demands.proofs.StepsOnce.{step_once, next_once}
-use Rattle.demands.proofs.CanBeMet.{lent, lent_mut, empty_field, bare_type, edges-given, type_given, no_bridges, bridges-listed, codes_fit, codes_of_none}
-use Rattle.demands.proofs.CanBeMet.{rows-held, held_none, held-at-none, first_input, instance-given, reading_of_none, none_read, circuit-given}
+use Rattle.demands.proofs.StepsOnce.{stepped_once, sought_once}
+use Rattle.demands.proofs.CanBeMet.{lent, lent_mut, bare_type, edges-given, type_given, bridges-listed, codes_fit, codes_of_none}
+use Rattle.demands.proofs.CanBeMet.{held_none, held-at-none, no_signals, first_input, instance-given}
+use Rattle.demands.proofs.CanBeMet.{reading_of_none, none_read, circuit-given}
 
 both : {A B : Type 0} {one other : A × B} → one.0 ≡ other.0 → one.1 ≡ other.1 → one ≡ other
 both p q i = (p i, q i)
 
 -- lines given into a buffer: a count, and the buffer at exit
-given_once : {line out x y : List ℕ} {r s : ℕ} → LineGiven line out r x → LineGiven line out s y → (r ≡ s) × (x ≡ y)
+given_once : {line out x y : List ℕ} {r s : Option ℕ} → LineGiven line out r x → LineGiven line out s y → (r ≡ s) × (x ≡ y)
 given_once g h = (g.count_is ∙ sym h.count_is, g.after_is ∙ sym h.after_is)
 
 -- outcomes of the entries for C that grade: six numbers, or as many as have room, and the buffers at exit
@@ -69,9 +64,18 @@ unique = record {
   words_marks = record { asks_nothing = λ κs a. tt; one_outcome = λ κs a asked one other p q. both (p ∙ sym q) refl };
   words_first_mark = record { asks_nothing = λ κs a. tt; one_outcome = λ κs a asked one other p q. both (p ∙ sym q) refl };
   words_first_ones = record { asks_nothing = λ κs a. tt; one_outcome = λ κs a asked one other p q. both (p ∙ sym q) refl };
-  print_lines_put_byte = record { can_be_met = λ κs. ((lent_mut (0 ∷ []), (0, (0, tt))), omega arith); one_outcome = λ κs a asked one other p q. both (p.0 ∙ sym q.0) (ap (λ x. (x, (tt, (tt, tt)))) (p.1 ∙ sym q.1)) };
-  print_lines_put_bytes = record { can_be_met = λ κs. ((lent_mut [], (0, (lent [], tt))), omega arith); one_outcome = λ κs a asked one other p q. both (p.0 ∙ sym q.0) (ap (λ x. (x, (tt, (tt, tt)))) (p.1 ∙ sym q.1)) };
-  print_lines_put_number = record { can_be_met = λ κs. ((lent_mut (replicate 20 0), (0, (0, tt))), omega arith); one_outcome = λ κs a asked one other p q. both (p.0 ∙ sym q.0) (ap (λ x. (x, (tt, (tt, tt)))) (p.1 ∙ sym q.1)) };
+  print_lines_put_byte = record {
+    can_be_met = λ κs. ((lent_mut (0 ∷ []), (0, (0, tt))), omega arith);
+    one_outcome = λ κs a asked one other p q. both (p.0 ∙ sym q.0) (ap (λ x. (x, (tt, (tt, tt)))) (p.1 ∙ sym q.1));
+  };
+  print_lines_put_bytes = record {
+    can_be_met = λ κs. ((lent_mut [], (0, (lent [], tt))), omega arith);
+    one_outcome = λ κs a asked one other p q. both (p.0 ∙ sym q.0) (ap (λ x. (x, (tt, (tt, tt)))) (p.1 ∙ sym q.1));
+  };
+  print_lines_put_number = record {
+    can_be_met = λ κs. ((lent_mut (replicate 20 0), (0, (0, tt))), omega arith);
+    one_outcome = λ κs a asked one other p q. both (p.0 ∙ sym q.0) (ap (λ x. (x, (tt, (tt, tt)))) (p.1 ∙ sym q.1));
+  };
   print_lines_give = record {
     asks_nothing = λ κs a. tt;
     one_outcome = λ κs a asked one other p q. let same = given_once p q in both same.0 (λ i. (tt, (same.1 i, tt)));
@@ -80,109 +84,144 @@ unique = record {
     asks_nothing = λ κs a. tt;
     one_outcome = λ κs a asked one other p q. let same = given_once p q in both same.0 (λ i. (tt, (tt, (same.1 i, tt))));
   };
-  switch_edge_with = record { can_be_met = λ κs. ((0, (0, (0, (false, (false, tt))))), (omega arith, omega arith, omega arith)); one_outcome = λ κs a asked one other p q. both (p ∙ sym q) refl };
-  switch_first_of = record { asks_nothing = λ κs a. tt; one_outcome = λ κs a asked one other p q. both (p ∙ sym q) refl };
-  switch_second_of = record { asks_nothing = λ κs a. tt; one_outcome = λ κs a asked one other p q. both (p ∙ sym q) refl };
-  switch_label_of = record { asks_nothing = λ κs a. tt; one_outcome = λ κs a asked one other p q. both (p ∙ sym q) refl };
-  switch_gate_of = record { asks_nothing = λ κs a. tt; one_outcome = λ κs a asked one other p q. both (p ∙ sym q) refl };
-  switch_is_p = record { asks_nothing = λ κs a. tt; one_outcome = λ κs a asked one other p q. both (channel_once one.0 other.0 (p ∙ sym q)) refl };
-  switch_is_stated = record { asks_nothing = λ κs a. tt; one_outcome = λ κs a asked one other p q. both (tag_once one.0 other.0 (p ∙ sym q)) refl };
+  switch_edge_new = record {
+    can_be_met = λ κs. ((0, (0, (0, (false, (false, tt))))), (omega arith, omega arith, omega arith));
+    one_outcome = λ κs a asked one other p q. both (p ∙ sym q) refl;
+  };
+  switch_edge_first = record { asks_nothing = λ κs a. tt; one_outcome = λ κs a asked one other p q. both (p ∙ sym q) refl };
+  switch_edge_second = record { asks_nothing = λ κs a. tt; one_outcome = λ κs a asked one other p q. both (p ∙ sym q) refl };
+  switch_edge_label = record { asks_nothing = λ κs a. tt; one_outcome = λ κs a asked one other p q. both (p ∙ sym q) refl };
+  switch_edge_gate = record { asks_nothing = λ κs a. tt; one_outcome = λ κs a asked one other p q. both (p ∙ sym q) refl };
+  switch_edge_is_p = record {
+    asks_nothing = λ κs a. tt;
+    one_outcome = λ κs a asked one other p q. both (channel_once one.0 other.0 (p ∙ sym q)) refl;
+  };
+  switch_edge_is_stated = record {
+    asks_nothing = λ κs a. tt;
+    one_outcome = λ κs a asked one other p q. both (tag_once one.0 other.0 (p ∙ sym q)) refl;
+  };
   join_nodes_complementary = record {
-    Asked = λ κs a. EdgesGiven a.1.0 a.1.1.0 a.1.1.1.0 a.0.now;
-    Told = λ κs a r s. r ≡ is_complementary (type_with a.1.0 a.1.1.0 a.1.1.1.0 a.0.now);
-    asks = λ M 𝓤 𝓛 mem run κs a g. refl;
-    tells = λ M 𝓤 𝓛 mem run κs a g r s. refl;
-    sole = record { can_be_met = λ κs. ((lent [], (2, (2, (1, tt)))), edges-given); one_outcome = λ κs a asked one other p q. both (p ∙ sym q) refl };
+    can_be_met = λ κs. ((lent [], (2, (2, (1, tt)))), edges-given);
+    one_outcome = λ κs a asked one other p q. both (p ∙ sym q) refl;
   };
-  join_nodes_check_type = record { can_be_met = λ κs. ((bare_type, tt), type_given); one_outcome = λ κs a asked one other p q. both (p ∙ sym q) refl };
+  join_nodes_check_type = record {
+    can_be_met = λ κs. ((bare_type, tt), type_given);
+    one_outcome = λ κs a asked one other p q. both (p ∙ sym q) refl;
+  };
   join_nodes_joining = record {
-    Asked = λ κs a. EdgesGiven a.1.0 a.1.1.0 a.1.1.1.0 a.0.now;
-    Told = λ κs a r s. r ≡ rails_of (type_with a.1.0 a.1.1.0 a.1.1.1.0 a.0.now) a.1.1.1.1.0.now a.1.1.1.1.1.0.now;
-    asks = λ M 𝓤 𝓛 mem run κs a g. refl;
-    tells = λ M 𝓤 𝓛 mem run κs a g r s. refl;
-    sole = record { can_be_met = λ κs. ((lent [], (2, (2, (1, (lent (replicate 48 0), (lent (replicate 48 0), tt)))))), edges-given); one_outcome = λ κs a asked one other p q. both (p ∙ sym q) refl };
+    can_be_met = λ κs. ((lent [], (2, (2, (1, (lent (replicate 48 0), (lent (replicate 48 0), tt)))))), edges-given);
+    one_outcome = λ κs a asked one other p q. both (p ∙ sym q) refl;
   };
-  join_nodes_join_type = record { can_be_met = λ κs. ((bare_type, (lent (replicate 48 0), (lent (replicate 48 0), tt))), type_given); one_outcome = λ κs a asked one other p q. both (p ∙ sym q) refl };
+  join_nodes_join_type = record {
+    can_be_met = λ κs. ((bare_type, (lent (replicate 48 0), (lent (replicate 48 0), tt))), type_given);
+    one_outcome = λ κs a asked one other p q. both (p ∙ sym q) refl;
+  };
   join_nodes_output_planes = record { asks_nothing = λ κs a. tt; one_outcome = λ κs a asked one other p q. both (p ∙ sym q) refl };
-  circuit_is_kind = record { asks_nothing = λ κs a. tt; one_outcome = λ κs a asked one other p q. both (p ∙ sym q) refl };
-  circuit_states_channel = record { asks_nothing = λ κs a. tt; one_outcome = λ κs a asked one other p q. both (tag_once one.0 other.0 (p ∙ sym q)) refl };
-  circuit_is_between = record { asks_nothing = λ κs a. tt; one_outcome = λ κs a asked one other p q. both (p ∙ sym q) refl };
-  circuit_refuses = record { asks_nothing = λ κs a. tt; one_outcome = λ κs a asked one other p q. both (p ∙ sym q) refl };
-  circuit_or_if = record { asks_nothing = λ κs a. tt; one_outcome = λ κs a asked one other p q. both (verdict-tells one.0 other.0 (p ∙ sym q)) refl };
-  circuit_number_of = record { asks_nothing = λ κs a. tt; one_outcome = λ κs a asked one other p q. both (p ∙ sym q) refl };
-  circuit_place_of = record { asks_nothing = λ κs a. tt; one_outcome = λ κs a asked one other p q. both (p ∙ sym q) refl };
-  read_fields_reader_at = record {
-    Asked = λ κs a. a.1.0 ≤ length a.0.now;
-    Told = λ κs a r s. (r.file ≡ a.0) × (r.at ≡ a.1.0);
-    asks = λ M 𝓤 𝓛 mem run κs a g. refl;
-    tells = λ M 𝓤 𝓛 mem run κs a g r s. refl;
-    sole = record { can_be_met = λ κs. ((lent [], (0, tt)), omega arith); one_outcome = λ κs a asked one other p q. both (λ i. record { file = (p.0 ∙ sym q.0) i; at = (p.1 ∙ sym q.1) i }) refl };
+  circuit_states_channel = record {
+    asks_nothing = λ κs a. tt;
+    one_outcome = λ κs a asked one other p q. both (tag_once one.0 other.0 (p ∙ sym q)) refl;
   };
-  read_fields_next = record {
-    Asked = λ κs a. a.0.now.at ≤ length a.0.now.file.now;
-    Told = λ κs a r s. Stepped a.0.now s.0.now r;
-    asks = λ M 𝓤 𝓛 mem run κs a g. refl;
-    tells = λ M 𝓤 𝓛 mem run κs a g r s. refl;
-    sole = record {
-      can_be_met = λ κs. ((lent_mut (record { file = lent []; at = 0 }), tt), omega arith);
-      one_outcome = λ κs a asked one other p q.
-          let same = step_once a.0.now.file.now a.0.now.at one.0 other.0 p.stands q.stands in
-          both same (both (λ i. record {
-            file = (p.same_file ∙ sym q.same_file) i;
-            at = (p.moved ∙ ap (λ (t : Step). behind_step t a.0.now.at) same ∙ sym q.moved) i;
-          }) refl);
-    };
+  circuit_refusal_number = record { asks_nothing = λ κs a. tt; one_outcome = λ κs a asked one other p q. both (p ∙ sym q) refl };
+  circuit_refusal_place = record { asks_nothing = λ κs a. tt; one_outcome = λ κs a asked one other p q. both (p ∙ sym q) refl };
+  read_fields_field_byte = record { asks_nothing = λ κs a. tt; one_outcome = λ κs a asked one other p q. both (p ∙ sym q) refl };
+  read_fields_field_two_bytes = record { asks_nothing = λ κs a. tt; one_outcome = λ κs a asked one other p q. both (p ∙ sym q) refl };
+  read_fields_step_of_kind = record { asks_nothing = λ κs a. tt; one_outcome = λ κs a asked one other p q. both (p ∙ sym q) refl };
+  read_fields_reader_new = record {
+    asks_nothing = λ κs a. tt;
+    one_outcome = λ κs a asked one other p q. both (λ i. record { file = (p.0 ∙ sym q.0) i; at = (p.1 ∙ sym q.1) i }) refl;
   };
-  read_fields_step_at = record { can_be_met = λ κs. ((lent [], (0, tt)), omega arith); one_outcome = λ κs a asked one other p q. both (step_once a.0.now a.1.0 one.0 other.0 p q) refl };
-  read_fields_own_field = record { asks_nothing = λ κs a. tt; one_outcome = λ κs a asked one other p q. both (p ∙ sym q) refl };
-  read_fields_field_of = record { can_be_met = λ κs. ((lent [], (0, (Inputs, tt))), omega arith); one_outcome = λ κs a asked one other p q. both (next_once a.0.now a.1.0 (of_kind a.1.1.0) one.0 other.0 p q) refl };
-  read_fields_byte = record { can_be_met = λ κs. ((lent [], (empty_field, (0, tt))), omega arith); one_outcome = λ κs a asked one other p q. both (p ∙ sym q) refl };
-  read_fields_two_bytes = record { can_be_met = λ κs. ((lent [], (empty_field, (0, tt))), (omega arith, omega arith)); one_outcome = λ κs a asked one other p q. both (p ∙ sym q) refl };
-  read_types_no_type = record { asks_nothing = λ κs a. tt; one_outcome = λ κs a asked one other p q. both (p ∙ sym q) refl };
-  read_types_read_types = record { can_be_met = λ κs. ((lent [], (0, tt)), omega arith); one_outcome = λ κs a asked one other p q. both (types_once a.0.now a.1.0 one.0 other.0 p q) refl };
-  read_bridges_no_bridge = record { asks_nothing = λ κs a. tt; one_outcome = λ κs a asked one other p q. both (p ∙ sym q) refl };
-  read_bridges_lists_of = record {
-    can_be_met = λ κs. ((no_bridges, (0, tt)), bridges-listed);
-    one_outcome = λ κs a listed one other p q.
-        both (p listed.bridges listed.counted listed.within listed.ranges listed.is
-        ∙ sym (q listed.bridges listed.counted listed.within listed.ranges listed.is)) refl;
-  };
-  read_bridges_read_bridges = record { can_be_met = λ κs. ((lent [], (0, tt)), omega arith); one_outcome = λ κs a asked one other p q. both (bridges_once a.0.now a.1.0 one.0 other.0 p q) refl };
-  read_instances_no_instance = record { asks_nothing = λ κs a. tt; one_outcome = λ κs a asked one other p q. both (p ∙ sym q) refl };
-  read_instances_read_instances = record {
-    can_be_met = λ κs. ((lent [], (0, (0, (0, (held_none, tt))))), (omega arith, (omega arith, held-at-none)));
+  read_fields_reader_step = record {
+    asks_nothing = λ κs a. tt;
     one_outcome = λ κs a asked one other p q.
-        both (instances_once a.0.now a.1.0 a.1.1.0 a.1.1.1.0 a.1.1.1.1.0 asked.1.1 one.0 other.0 p q) refl;
+        let same = stepped_once one.0 other.0 p q in (same.0, both same.1 (λ i. (same.2 i, tt)));
   };
-  read_vectors_no_vector = record { asks_nothing = λ κs a. tt; one_outcome = λ κs a asked one other p q. both (p ∙ sym q) refl };
-  read_vectors_read_vectors = record { can_be_met = λ κs. ((lent [], (0, (0, tt))), (omega arith, omega arith)); one_outcome = λ κs a asked one other p q. both (vectors_once a.0.now a.1.0 a.1.1.0 one.0 other.0 p q) refl };
-  read_file_read_stages = record { asks_nothing = λ κs a. tt; one_outcome = λ κs a asked one other p q. both (stages_once a.1.0 a.0.now one.0 other.0 p q) refl };
-  read_file_read = record { asks_nothing = λ κs a. tt; one_outcome = λ κs a asked one other p q. both (answers_unique (reading_of a.0.now) one.0 other.0 p q) refl };
+  read_fields_reader_next_of = record {
+    asks_nothing = λ κs a. tt;
+    one_outcome = λ κs a asked one other p q.
+        let same = sought_once (of_kind a.1.0) one.0 other.0 p q in (same.0, both same.1 (λ i. (same.2 i, (tt, tt))));
+  };
+  read_types_read_types = record {
+    can_be_met = λ κs. ((lent [], (0, tt)), omega arith);
+    one_outcome = λ κs a asked one other p q. both (types_once a.0.now a.1.0 one.0 other.0 p q) refl;
+  };
+  read_bridges_lists_of = record {
+    can_be_met = λ κs. ((lent [], tt), bridges-listed);
+    one_outcome = λ κs a listed one other p q.
+        both (p listed.bridges listed.within listed.ranges listed.are ∙ sym (q listed.bridges listed.within listed.ranges listed.are)) refl;
+  };
+  read_bridges_read_bridges = record {
+    can_be_met = λ κs. ((lent [], (0, tt)), omega arith);
+    one_outcome = λ κs a asked one other p q. both (bridges_once a.0.now a.1.0 one.0 other.0 p q) refl;
+  };
+  read_instances_read_instances = record {
+    can_be_met = λ κs. ((lent [], (0, (held_none, tt))), (omega arith, (omega arith, held-at-none)));
+    one_outcome = λ κs a asked one other p q. both (instances_once a.0.now a.1.0 a.1.1.0 asked.1.1 one.0 other.0 p q) refl;
+  };
+  read_vectors_read_vectors = record {
+    can_be_met = λ κs. ((lent [], (0, (0, tt))), (omega arith, omega arith));
+    one_outcome = λ κs a asked one other p q. both (vectors_once a.0.now a.1.0 a.1.1.0 one.0 other.0 p q) refl;
+  };
+  read_file_read_stages = record {
+    asks_nothing = λ κs a. tt;
+    one_outcome = λ κs a asked one other p q. both (stages_once a.1.0 a.0.now one.0 other.0 p q) refl;
+  };
+  read_file_read = record {
+    asks_nothing = λ κs a. tt;
+    one_outcome = λ κs a asked one other p q. both (answers_unique (reading_of a.0.now) one.0 other.0 p q) refl;
+  };
+  grading_ungraded_number = record { asks_nothing = λ κs a. tt; one_outcome = λ κs a asked one other p q. both (p ∙ sym q) refl };
+  grading_ungraded_place = record { asks_nothing = λ κs a. tt; one_outcome = λ κs a asked one other p q. both (p ∙ sym q) refl };
   grading_number_of = record { asks_nothing = λ κs a. tt; one_outcome = λ κs a asked one other p q. both (p ∙ sym q) refl };
   grading_place_of = record { asks_nothing = λ κs a. tt; one_outcome = λ κs a asked one other p q. both (p ∙ sym q) refl };
-  grading_counts_of = record { asks_nothing = λ κs a. tt; one_outcome = λ κs a asked one other p q. both (same_counts one.0 other.0 (p ∙ sym q)) refl };
-  grading_pack = record { can_be_met = λ κs. ((0, (0, (0, (0, tt)))), (omega arith, omega arith, omega arith, omega arith)); one_outcome = λ κs a asked one other p q. both (p ∙ sym q) refl };
+  grading_counts_of = record {
+    asks_nothing = λ κs a. tt;
+    one_outcome = λ κs a asked one other p q. both (same_counts one.0 other.0 (p ∙ sym q)) refl;
+  };
+  grading_pack = record {
+    can_be_met = λ κs. ((0, (0, (0, (0, tt)))), (omega arith, omega arith, omega arith, omega arith));
+    one_outcome = λ κs a asked one other p q. both (p ∙ sym q) refl;
+  };
   grading_instance_in = record { asks_nothing = λ κs a. tt; one_outcome = λ κs a asked one other p q. both (p ∙ sym q) refl };
   grading_kind_in = record { asks_nothing = λ κs a. tt; one_outcome = λ κs a asked one other p q. both (p ∙ sym q) refl };
   grading_first_in = record { asks_nothing = λ κs a. tt; one_outcome = λ κs a asked one other p q. both (p ∙ sym q) refl };
   grading_second_in = record { asks_nothing = λ κs a. tt; one_outcome = λ κs a asked one other p q. both (p ∙ sym q) refl };
   grade_rows_list_rows = record {
-    can_be_met = λ κs. ((unused_instance, (bare_type, (lent [], (0, (lent_mut [], (0, tt)))))), ((omega arith, omega arith, omega arith), omega (arith, codes_of_none 2 1 [])));
-    one_outcome = λ κs a asked one other p q. both (p.end ∙ sym q.end) (ap (λ x. (tt, (tt, (tt, (tt, (x, (tt, tt))))))) (p.listed ∙ sym q.listed));
+    can_be_met = λ κs. (
+      (unused_instance, (bare_type, (lent [], (0, (lent_mut [], (0, tt)))))),
+      ((omega arith, omega arith, omega arith), omega (arith, codes_of_none 2 1 [])),
+    );
+    one_outcome = λ κs a asked one other p q.
+        both (p.end ∙ sym q.end) (ap (λ x. (tt, (tt, (tt, (tt, (x, (tt, tt))))))) (p.listed ∙ sym q.listed));
   };
-  grade_rows_rows_of = record { can_be_met = λ κs. ((circuit-given.0, tt), circuit-given.1); one_outcome = λ κs a given one other p q. both (p given.circuit given.is given.good ∙ sym (q given.circuit given.is given.good)) refl };
+  grade_rows_rows_of = record {
+    can_be_met = λ κs. ((circuit-given.0, tt), circuit-given.1);
+    one_outcome = λ κs a given one other p q. both (p given.circuit given.is given.good ∙ sym (q given.circuit given.is given.good)) refl;
+  };
   grade_inputs_put_signals = record {
-    can_be_met = λ κs. ((lent (replicate 256 unused_vector), (0, (lent_mut (record { ones = replicate 768 0; zeros = replicate 768 0 }), tt))), (omega arith, (refl, refl)));
-    one_outcome = λ κs a asked one other p q. both refl (λ i. (tt, (tt, (record { ones = (p.0 ∙ sym q.0) i; zeros = (p.1 ∙ sym q.1) i }, tt))));
+    can_be_met = λ κs. ((lent (replicate 256 unused_vector), (0, (lent_mut no_signals, tt))), (omega arith, (refl, refl)));
+    one_outcome = λ κs a asked one other p q.
+        both refl (λ i. (tt, (tt, (record { ones = (p.0 ∙ sym q.0) i; zeros = (p.1 ∙ sym q.1) i }, tt))));
   };
   grade_marks_mark_instance = record {
-    can_be_met = λ κs. ((bare_type, (record { type_number = 0; choice = 0; references = first_input }, (0, (0, (lent [], (lent_mut (record { ones = replicate 768 0; zeros = replicate 768 0 }), (lent_mut [], tt))))))), instance-given);
+    can_be_met = λ κs. (
+      (
+        bare_type,
+        (
+          record { type_number = 0; choice = 0; references = first_input },
+          (0, (0, (lent [], (lent_mut no_signals, (lent_mut [], tt))))),
+        ),
+      ),
+      instance-given,
+    );
     one_outcome = λ κs a asked one other p q.
         both (p.rounds_are ∙ sym q.rounds_are)
         (λ i. (tt, (tt, (tt, (tt, (tt, ((p.signals_are ∙ sym q.signals_are) i, ((p.rows_are ∙ sym q.rows_are) i, tt))))))));
   };
   grade_classes_write_keys = record {
-    can_be_met = λ κs. ((lent_mut (replicate 2048 0), (0, (0, (0, (unused_instance, (0, tt)))))), ((omega arith, omega arith, omega arith), codes_fit (replicate 2048 0)));
+    can_be_met = λ κs. (
+      (lent_mut (replicate 2048 0), (0, (0, (0, (unused_instance, (0, tt)))))),
+      ((omega arith, omega arith, omega arith), codes_fit (replicate 2048 0)),
+    );
     one_outcome = λ κs a asked one other p q. both refl (λ i. ((p ∙ sym q) i, (tt, (tt, (tt, (tt, (tt, tt)))))));
   };
   grade_classes_class_rows = record {
@@ -211,7 +250,7 @@ unique = record {
   };
   print_report_first_line = record {
     asks_nothing = λ κs a. tt;
-    one_outcome = λ κs a asked one other p q. let same = given_once p q in both same.0 (λ i. (tt, (tt, (tt, (tt, (same.1 i, tt))))));
+    one_outcome = λ κs a asked one other p q. let same = given_once p q in both same.0 (λ i. (tt, (same.1 i, tt)));
   };
   print_report_row_line = record {
     asks_nothing = λ κs a. tt;
@@ -222,9 +261,9 @@ unique = record {
     one_outcome = λ κs a asked one other p q. let same = given_once p q in both same.0 (λ i. (tt, (same.1 i, tt)));
   };
   print_report_report_piece = record {
-    can_be_met = λ κs. ((ShortMatrix 0, (lent [], (lent [], (lent [], (0, (lent_mut [], tt)))))), rows-held);
+    asks_nothing = λ κs a. tt;
     one_outcome = λ κs a asked one other p q.
-        let same = one_piece _ _ _ _ _ _ _ _ p.of_held q.of_held in both same.0 (λ i. (tt, (tt, (tt, (tt, (tt, (same.1 i, tt)))))));
+        let same = one_piece _ _ _ _ _ _ _ _ p.of_held q.of_held in both same.0 (λ i. (tt, (tt, (same.1 i, tt))));
   };
   print_circuit_show_piece = record {
     asks_nothing = λ κs a. tt;
@@ -233,11 +272,13 @@ unique = record {
   };
   togyamiru_grade = record {
     asks_nothing = λ κs a. tt;
-    one_outcome = λ κs a asked one other p q. let same = entry_once p q in both refl (λ i. (tt, ((same.1 i).matrix, ((same.1 i).classes, (same.0 i, tt)))));
+    one_outcome = λ κs a asked one other p q.
+        let same = entry_once p q in both refl (λ i. (tt, ((same.1 i).matrix, ((same.1 i).classes, (same.0 i, tt)))));
   };
   togyamiru_grade_numbers = record {
     asks_nothing = λ κs a. tt;
-    one_outcome = λ κs a asked one other p q. let same = numbers_once p q in both refl (λ i. (tt, ((same.1 i).matrix, ((same.1 i).classes, (same.0 i, tt)))));
+    one_outcome = λ κs a asked one other p q.
+        let same = numbers_once p q in both refl (λ i. (tt, ((same.1 i).matrix, ((same.1 i).classes, (same.0 i, tt)))));
   };
   bench_check = record { asks_nothing = λ κs a. tt; one_outcome = λ κs a asked one other p q. both (p ∙ sym q) refl };
   togyamiru_rows = record {

@@ -22,7 +22,7 @@ abbrev Computed : List ℕ → Type 0
 Computed file = (reading_of file ≡ accepted (circuit_of file)) × T (is_graded (called rightly file blank).answer)
 
 computed : Computed at_driver × Computed at_both × Computed at_input
-unfolding grader_computing told_by is_graded
+unfolding grader_computing told_by
 computed = ((refl, tt), (refl, tt), (refl, tt))
 
 graded_file : (file : List ℕ) → Computed file → GradedFile file

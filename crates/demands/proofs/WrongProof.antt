@@ -29,7 +29,7 @@ unfolding grader_computing
     label_marked marked_by lower_node put_in in_node_order handed_on swept sweeps_once is_one unlike one_plane_marked one_plane
     is_zero same_level unequal_ends marks_floating rows_found counts_rows packed63 spills packed_first wraps goes_on
     changes_output watches_outputs held row_values_at level_at held_level held_marked holds_levels
-    same_as_written counts_twice same_label_too counts_labels zero_for_x zeroed reads_x_as_zero keeps_apart without_instance mixes_inner input_of_instance splits_inputs is_graded clearing_next writes_past clears_first
+    same_as_written counts_twice same_label_too counts_labels zero_for_x zeroed reads_x_as_zero keeps_apart without_instance mixes_inner input_of_instance splits_inputs clearing_next writes_past clears_first
 wrong_computing = tt
 
 -- ---- where an outcome differs from the promise, the promise is not met

@@ -13,7 +13,7 @@ use Rattle.circuit.proofs.CircuitLaws.{accepted-is-good}
 use Rattle.grading.specs.Buffers.{Buffers, room_of}
 use Rattle.grading.specs.Rounds.{DistanceIn, rounds_of}
 use Rattle.grading.specs.Grading.{Grading, graded, refused, grading_of}
-use Rattle.grading.specs.Promise.{is_graded, counts_of}
+use Rattle.grading.specs.Promise.{is_graded}
 use Rattle.grading.proofs.RoundLaws.{rounds_tell}
 use Rattle.demands.specs.Calls.{Call, Accepts}
 use Rattle.demands.specs.Two.{Found, ClassesTell}
@@ -53,7 +53,7 @@ module _ (rounds : Circuit → ℕ) where
 
     -- the clause on classes says nothing of rounds
     classes_carried : (g : Grading) → ClassesTell (called_by right_work g) c → ClassesTell (called_by (with_rounds rounds) g) c
-    unfolding outcome_of with_rounds counts_of
+    unfolding outcome_of with_rounds
     classes_carried (refused number place) tells = tells
     classes_carried (graded d) tells = record {
       same = tells.same;
@@ -135,7 +135,7 @@ record Computed : Type 0 where
   without_x : RoundsWrong skips_x (nand_under ("0X" ∷ [])) 1 0
 
 computed : Computed
-unfolding grader_computing told_by is_graded with_rounds greatest_at greatest_by sweep_in_place sweeps_from output_distance is_x
+unfolding grader_computing told_by with_rounds greatest_at greatest_by sweep_in_place sweeps_from output_distance is_x
     counts_sweeps counts_the_last_round first_instance_only last_instance_only counts_nodes instances_with_faults from_supply_only from_ground_only
     sum_of_both_rails first_vectors_only last_vector_only outputs_only under_every_setting skips_x
 computed = record {

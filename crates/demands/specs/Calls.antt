@@ -1,14 +1,13 @@
 -- What the demands speak of: accepted files, calls of `grade` with what they were given and what they gave, and what stands in the buffers
 -- then.
-use Rattle.std.specs.Prelude.{ℕ, ◌+◌, ◌*◌, ◌/◌, ◌%◌, ◌≡◌, List, T, get_or}
+use Rattle.std.specs.Prelude.{ℕ, ◌+◌, ◌*◌, ◌/◌, ◌%◌, ◌≡◌, List, T, get_or, Ok, Err}
 use Rattle.words.specs.Bits.{bit}
 use Rattle.circuit.specs.Circuit.{Circuit}
 use Rattle.circuit.specs.Reading.{accepted, reading_of}
 use Rattle.circuit.specs.Refusals.{refusal_number, refusal_place}
 use Rattle.grading.specs.Buffers.{Buffers}
-use Rattle.grading.specs.Promise.{is_graded, Promise}
-use Rattle.grading.specs.declared.Answer.{Answer}
-use Rattle.grading.specs.declared.Answer.TheVariants.{Graded, Refused, ShortMatrix, ShortClasses}
+use Rattle.grading.specs.Promise.{Answer, is_graded, Promise}
+use Rattle.grading.specs.declared.Ungraded.TheVariants.{Refused, ShortMatrix, ShortClasses}
 
 -- a file that is read as this circuit
 abbrev pub Accepts : List ℕ → Circuit → Type 0
@@ -33,10 +32,10 @@ pub record GradedAs (call : Call) (c : Circuit) : Type 0 where
 
 -- refused with this number at this place
 unfoldable pub Refuses : Answer → ℕ → ℕ → Type 0
-Refuses (Graded counts) number place = ⊥
-Refuses (Refused refusal) number place = (refusal_number refusal ≡ number) × (refusal_place refusal ≡ place)
-Refuses (ShortMatrix words) number place = (15 ≡ number) × (words ≡ place)
-Refuses (ShortClasses faults) number place = (22 ≡ number) × (faults ≡ place)
+Refuses (Ok counts) number place = ⊥
+Refuses (Err (Refused refusal)) number place = (refusal_number refusal ≡ number) × (refusal_place refusal ≡ place)
+Refuses (Err (ShortMatrix words)) number place = (15 ≡ number) × (words ≡ place)
+Refuses (Err (ShortClasses faults)) number place = (22 ≡ number) × (faults ≡ place)
 
 -- the cell of a row and a vector, both counted from 0: vector v, from 1, is bit (v - 1) mod 64 of word floor((v - 1) / 64) of its row's
 -- four

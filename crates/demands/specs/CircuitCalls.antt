@@ -10,9 +10,8 @@ use Rattle.circuit.specs.Records.{circuit_record}
 use Rattle.circuit.specs.Laws.{CircuitGood}
 use Rattle.circuit.specs.declared.Circuit.{Circuit as CircuitRecord}
 use Rattle.grading.specs.Buffers.{Buffers, buffers_of}
-use Rattle.grading.specs.Promise.{is_graded}
+use Rattle.grading.specs.Promise.{Answer, is_graded}
 use Rattle.grading.specs.CircuitPromise.{PromiseOfCircuit}
-use Rattle.grading.specs.declared.Answer.{Answer}
 use Rattle.grade_file.specs.contracts.grade.grade_circuit as grade_circuit
 use Rattle.grade_file.proofs.grade.grade_circuit.Reads as grade_circuit_reads
 use Rattle.demands.specs.Calls.{Call, Kept, Accepts}

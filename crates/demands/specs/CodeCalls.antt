@@ -22,8 +22,7 @@ use denote.Triple.Clauses.{Ended, Lasts, AtExit, closing}
 use denote.Triple.Spec.{Meets}
 use Rattle.grading.specs.Buffers.{Buffers, buffers_of}
 use Rattle.grading.specs.Grading.{over}
-use Rattle.grading.specs.Promise.{is_graded, number_of, place_of, counts_of}
-use Rattle.grading.specs.declared.Answer.{Answer}
+use Rattle.grading.specs.Promise.{Answer, is_graded, number_of, place_of, counts_of}
 use Rattle.grade_file.specs.contracts.grade.grade as grade
 use Rattle.grade_file.proofs.grade.grade.Reads as grade_reads
 use Rattle.grade_file.proofs.grade.grade.Symbol as grade_symbol

@@ -1,6 +1,6 @@
 -- Graders as functions, to try against the promise of `grade`: what they answer and leave in the buffers, a right one, and where a wrong
 -- one may differ.
-use Rattle.std.specs.Prelude.{ℕ, Bool, true, cond, List, [], map, eqb, ltb, length, get_or}
+use Rattle.std.specs.Prelude.{ℕ, Bool, true, cond, List, [], map, eqb, ltb, length, get_or, Ok, Err}
 use Rattle.words.specs.Bits.{of_bool}
 use Rattle.words.specs.Rows.{row_of}
 use Rattle.switch.specs.Conduction.{Value}
@@ -21,8 +21,8 @@ use Rattle.grading.specs.Rows.{Row, rows_of, row_values, mark_of}
 use Rattle.grading.specs.Classes.{same_class, largest, classes_by, found_by}
 use Rattle.grading.specs.Rounds.{rounds_of}
 use Rattle.grading.specs.Grading.{Grading, graded, refused, grading_of, after_reading, over}
-use Rattle.grading.specs.declared.Answer.{Answer}
-use Rattle.grading.specs.declared.Answer.TheVariants.{Graded, Refused, ShortMatrix, ShortClasses}
+use Rattle.grading.specs.Promise.{Answer}
+use Rattle.grading.specs.declared.Ungraded.TheVariants.{Refused, ShortMatrix, ShortClasses}
 use Rattle.demands.specs.Calls.{Call, Kept}
 
 -- ---- graders
@@ -55,7 +55,7 @@ refusal_of n p =
     (cond (eqb n 12) (EmptyList p) (cond (eqb n 13) (TooManyFaults p) (Unfinished p)))))))))))))
 
 unfoldable pub refusing : ℕ → ℕ → Answer
-refusing n p = cond (eqb n 15) (ShortMatrix p) (cond (eqb n 22) (ShortClasses p) (Refused (refusal_of n p)))
+refusing n p = cond (eqb n 15) (Err (ShortMatrix p)) (cond (eqb n 22) (Err (ShortClasses p)) (Err (Refused (refusal_of n p))))
 
 -- ---- a grader by what it works out of the circuit; it refuses by the table
 
@@ -70,7 +70,7 @@ unfoldable pub outcome_of : (Circuit → Work) → Grading → Buffers → Outco
 outcome_of work (refused n p) before = record { answer = refusing n p; after = before }
 outcome_of work (graded c) before =
     let w = work c in record {
-      answer = Graded (record {
+      answer = Ok (record {
         vectors = length c.vectors;
         faults = length (rows_of c);
         classes = w.count_of_classes;

@@ -1,16 +1,13 @@
 -- No two outcomes of a call meet the contract of a public function. A field for each public function of each library, save those that
 -- docs/OPEN.md lists with what they leave open; .ci/parts/7-statements holds the names together. No clause is repeated here: a field speaks
 -- of the contract that the kit makes of the function's own `requires` and `ensures` (CodeCalls), so the kernel compares.
-use Rattle.std.specs.Prelude.{◌≡◌}
-use seplogic.Ra.Ura.{Ura}
-use base.Logic.{SProp}
-use prog.Memory.{Memory}
-use prog.Routine.{Routine}
-use types.Logic.{Logic}
+use Rattle.std.specs.Prelude.{ℕ, ◌≡◌, Option, Some, None}
 use contract.Lifetimes.{Lfts}
-use contract.Monad.{Fun, fact}
 use denote.Triple.Entry.{Args, Res}
-use denote.Triple.Clauses.{Ended, AtExit, at_exit, Clauses}
+use denote.Triple.Clauses.{Ended, at_exit}
+use Rattle.read_fields.specs.declared.Field.{Field}
+use Rattle.read_fields.specs.declared.Step.{Step}
+use Rattle.read_fields.specs.declared.Step.TheVariants.{Whole, Broken, End}
 use Rattle.demands.specs.CodeCalls.{AskedBy, ToldBy, AsksNothing, AtReturn}
 use Rattle.words.specs.contracts.marks as words_marks
 use Rattle.words.proofs.marks.Reads as words_marks_reads
@@ -28,76 +25,66 @@ use Rattle.print_lines.specs.contracts.give as print_lines_give
 use Rattle.print_lines.proofs.give.Reads as print_lines_give_reads
 use Rattle.print_lines.specs.contracts.refusal_line as print_lines_refusal_line
 use Rattle.print_lines.proofs.refusal_line.Reads as print_lines_refusal_line_reads
-use Rattle.switch.specs.contracts.edges.edge_with as switch_edge_with
-use Rattle.switch.proofs.edges.edge_with.Reads as switch_edge_with_reads
-use Rattle.switch.specs.contracts.edges.first_of as switch_first_of
-use Rattle.switch.proofs.edges.first_of.Reads as switch_first_of_reads
-use Rattle.switch.specs.contracts.edges.second_of as switch_second_of
-use Rattle.switch.proofs.edges.second_of.Reads as switch_second_of_reads
-use Rattle.switch.specs.contracts.edges.label_of as switch_label_of
-use Rattle.switch.proofs.edges.label_of.Reads as switch_label_of_reads
-use Rattle.switch.specs.contracts.edges.gate_of as switch_gate_of
-use Rattle.switch.proofs.edges.gate_of.Reads as switch_gate_of_reads
-use Rattle.switch.specs.contracts.edges.is_p as switch_is_p
-use Rattle.switch.proofs.edges.is_p.Reads as switch_is_p_reads
-use Rattle.switch.specs.contracts.edges.is_stated as switch_is_stated
-use Rattle.switch.proofs.edges.is_stated.Reads as switch_is_stated_reads
+use Rattle.switch.specs.contracts.Edge.new as switch_edge_new
+use Rattle.switch.proofs.Edge.new.Reads as switch_edge_new_reads
+use Rattle.switch.specs.contracts.Edge.first as switch_edge_first
+use Rattle.switch.proofs.Edge.first.Reads as switch_edge_first_reads
+use Rattle.switch.specs.contracts.Edge.second as switch_edge_second
+use Rattle.switch.proofs.Edge.second.Reads as switch_edge_second_reads
+use Rattle.switch.specs.contracts.Edge.label as switch_edge_label
+use Rattle.switch.proofs.Edge.label.Reads as switch_edge_label_reads
+use Rattle.switch.specs.contracts.Edge.gate as switch_edge_gate
+use Rattle.switch.proofs.Edge.gate.Reads as switch_edge_gate_reads
+use Rattle.switch.specs.contracts.Edge.is_p as switch_edge_is_p
+use Rattle.switch.proofs.Edge.is_p.Reads as switch_edge_is_p_reads
+use Rattle.switch.specs.contracts.Edge.is_stated as switch_edge_is_stated
+use Rattle.switch.proofs.Edge.is_stated.Reads as switch_edge_is_stated_reads
 use Rattle.join_nodes.specs.contracts.complementary.complementary as join_nodes_complementary
+use Rattle.join_nodes.proofs.complementary.complementary.Reads as join_nodes_complementary_reads
 use Rattle.join_nodes.specs.contracts.complementary.check_type as join_nodes_check_type
 use Rattle.join_nodes.proofs.complementary.check_type.Reads as join_nodes_check_type_reads
 use Rattle.join_nodes.specs.contracts.rails.joining as join_nodes_joining
+use Rattle.join_nodes.proofs.rails.joining.Reads as join_nodes_joining_reads
 use Rattle.join_nodes.specs.contracts.rails.join_type as join_nodes_join_type
 use Rattle.join_nodes.proofs.rails.join_type.Reads as join_nodes_join_type_reads
 use Rattle.join_nodes.specs.contracts.rails.output_planes as join_nodes_output_planes
 use Rattle.join_nodes.proofs.rails.output_planes.Reads as join_nodes_output_planes_reads
-use Rattle.circuit.specs.contracts.order.is_kind as circuit_is_kind
-use Rattle.circuit.proofs.order.is_kind.Reads as circuit_is_kind_reads
 use Rattle.circuit.specs.contracts.order.states_channel as circuit_states_channel
 use Rattle.circuit.proofs.order.states_channel.Reads as circuit_states_channel_reads
-use Rattle.circuit.specs.contracts.ranges.is_between as circuit_is_between
-use Rattle.circuit.proofs.ranges.is_between.Reads as circuit_is_between_reads
-use Rattle.circuit.specs.contracts.refusal.refuses as circuit_refuses
-use Rattle.circuit.proofs.refusal.refuses.Reads as circuit_refuses_reads
-use Rattle.circuit.specs.contracts.refusal.or_if as circuit_or_if
-use Rattle.circuit.proofs.refusal.or_if.Reads as circuit_or_if_reads
-use Rattle.circuit.specs.contracts.refusal.number_of as circuit_number_of
-use Rattle.circuit.proofs.refusal.number_of.Reads as circuit_number_of_reads
-use Rattle.circuit.specs.contracts.refusal.place_of as circuit_place_of
-use Rattle.circuit.proofs.refusal.place_of.Reads as circuit_place_of_reads
-use Rattle.read_fields.specs.contracts.cursor.reader_at as read_fields_reader_at
-use Rattle.read_fields.specs.contracts.cursor.next as read_fields_next
-use Rattle.read_fields.specs.contracts.step_at as read_fields_step_at
-use Rattle.read_fields.proofs.step_at.Reads as read_fields_step_at_reads
-use Rattle.read_fields.specs.contracts.own_field as read_fields_own_field
-use Rattle.read_fields.proofs.own_field.Reads as read_fields_own_field_reads
-use Rattle.read_fields.specs.contracts.field_of as read_fields_field_of
-use Rattle.read_fields.proofs.field_of.Reads as read_fields_field_of_reads
-use Rattle.read_fields.specs.contracts.byte as read_fields_byte
-use Rattle.read_fields.proofs.byte.Reads as read_fields_byte_reads
-use Rattle.read_fields.specs.contracts.two_bytes as read_fields_two_bytes
-use Rattle.read_fields.proofs.two_bytes.Reads as read_fields_two_bytes_reads
-use Rattle.read_types.specs.contracts.types.no_type as read_types_no_type
-use Rattle.read_types.proofs.types.no_type.Reads as read_types_no_type_reads
+use Rattle.circuit.specs.contracts.refusal.Refusal.number as circuit_refusal_number
+use Rattle.circuit.proofs.refusal.Refusal.number.Reads as circuit_refusal_number_reads
+use Rattle.circuit.specs.contracts.refusal.Refusal.place as circuit_refusal_place
+use Rattle.circuit.proofs.refusal.Refusal.place.Reads as circuit_refusal_place_reads
+use Rattle.read_fields.specs.contracts.Field.byte as read_fields_field_byte
+use Rattle.read_fields.proofs.Field.byte.Reads as read_fields_field_byte_reads
+use Rattle.read_fields.specs.contracts.Field.two_bytes as read_fields_field_two_bytes
+use Rattle.read_fields.proofs.Field.two_bytes.Reads as read_fields_field_two_bytes_reads
+use Rattle.read_fields.specs.contracts.Step.of_kind as read_fields_step_of_kind
+use Rattle.read_fields.proofs.Step.of_kind.Reads as read_fields_step_of_kind_reads
+use Rattle.read_fields.specs.contracts.cursor.Reader.new as read_fields_reader_new
+use Rattle.read_fields.proofs.cursor.Reader.new.Reads as read_fields_reader_new_reads
+use Rattle.read_fields.specs.contracts.cursor.Reader.step as read_fields_reader_step
+use Rattle.read_fields.proofs.cursor.Reader.step.Reads as read_fields_reader_step_reads
+use Rattle.read_fields.specs.contracts.cursor.Reader.next_of as read_fields_reader_next_of
+use Rattle.read_fields.proofs.cursor.Reader.next_of.Reads as read_fields_reader_next_of_reads
 use Rattle.read_types.specs.contracts.types.read_types as read_types_read_types
 use Rattle.read_types.proofs.types.read_types.Reads as read_types_read_types_reads
-use Rattle.read_bridges.specs.contracts.no_bridge as read_bridges_no_bridge
-use Rattle.read_bridges.proofs.no_bridge.Reads as read_bridges_no_bridge_reads
 use Rattle.read_bridges.specs.contracts.lists.lists_of as read_bridges_lists_of
 use Rattle.read_bridges.proofs.lists.lists_of.Reads as read_bridges_lists_of_reads
 use Rattle.read_bridges.specs.contracts.read_bridges as read_bridges_read_bridges
 use Rattle.read_bridges.proofs.read_bridges.Reads as read_bridges_read_bridges_reads
-use Rattle.read_instances.specs.contracts.no_instance as read_instances_no_instance
-use Rattle.read_instances.proofs.no_instance.Reads as read_instances_no_instance_reads
 use Rattle.read_instances.specs.contracts.read_instances as read_instances_read_instances
 use Rattle.read_instances.proofs.read_instances.Reads as read_instances_read_instances_reads
-use Rattle.read_vectors.specs.contracts.no_vector as read_vectors_no_vector
-use Rattle.read_vectors.proofs.no_vector.Reads as read_vectors_no_vector_reads
 use Rattle.read_vectors.specs.contracts.read_vectors as read_vectors_read_vectors
 use Rattle.read_vectors.proofs.read_vectors.Reads as read_vectors_read_vectors_reads
 use Rattle.read_file.specs.contracts.read.read_stages as read_file_read_stages
 use Rattle.read_file.proofs.read.read_stages.Reads as read_file_read_stages_reads
 use Rattle.read_file.specs.contracts.read.read as read_file_read
 use Rattle.read_file.proofs.read.read.Reads as read_file_read_reads
+use Rattle.grading.specs.contracts.Ungraded.number as grading_ungraded_number
+use Rattle.grading.proofs.Ungraded.number.Reads as grading_ungraded_number_reads
+use Rattle.grading.specs.contracts.Ungraded.place as grading_ungraded_place
+use Rattle.grading.proofs.Ungraded.place.Reads as grading_ungraded_place_reads
 use Rattle.grading.specs.contracts.answers.number_of as grading_number_of
 use Rattle.grading.proofs.answers.number_of.Reads as grading_number_of_reads
 use Rattle.grading.specs.contracts.answers.place_of as grading_place_of
@@ -167,23 +154,35 @@ pub record SoleWhereMet (F : Ended) (Asked : AskedBy F) (Told : ToldBy F) : Type
   pub can_be_met : (κs : Lfts F.signature.lifetimes) → (a : Args F.signature κs) × Asked κs a
   pub one_outcome : OneOutcome F Asked Told
 
-abbrev pub ClausesOf : Ended → Type 2
-ClausesOf F = (M : Type 1) (𝓤 : Ura M) → (𝓛 : Logic 𝓤) → (Memory → SProp 𝓤) → (Routine → Fun 𝓤) → Clauses 𝓤 F
+-- ---- what is handed out of what was lent
 
--- a function with a slice of records, or a struct that holds a slice, in its signature: of its clauses as they are written, and what they
--- are equal to, in every model of the logic
-pub record SoleByClauses (F : Ended) (clauses : ClausesOf F) : Type 2 where
-  pub Asked : AskedBy F
-  pub Told : ToldBy F
-  pub asks : (M : Type 1) (𝓤 : Ura M) (𝓛 : Logic 𝓤) (mem : Memory → SProp 𝓤) (run : Routine → Fun 𝓤)
-      (κs : Lfts F.signature.lifetimes) (a : Args F.signature κs) (g : (clauses M 𝓤 𝓛 mem run κs a).ghost)
-      → (clauses M 𝓤 𝓛 mem run κs a).requires g ≡ fact 𝓤 (Asked κs a)
-  pub tells : (M : Type 1) (𝓤 : Ura M) (𝓛 : Logic 𝓤) (mem : Memory → SProp 𝓤) (run : Routine → Fun 𝓤)
-      (κs : Lfts F.signature.lifetimes) (a : Args F.signature κs) (g : (clauses M 𝓤 𝓛 mem run κs a).ghost)
-      (r : Res F.signature κs) (s : AtExit F κs) → (clauses M 𝓤 𝓛 mem run κs a).ensures g r s ≡ fact 𝓤 (Told κs a r s)
-  pub sole : SoleWhereMet F Asked Told
+-- where a slice lies: a block, and a place in it
+abbrev pub Address : Type 0
+Address = ℕ × ℕ
 
-pub record Unique : Type 2 where
+-- a field whose body lies at another address; and so what the reader tells
+abbrev pub field_at : Address → Field → Field
+field_at p f = record { at = f.at; tag = f.tag; body = record { ref_ptr = p; now = f.body.now } }
+
+abbrev pub step_at : Address → Step → Step
+step_at p (Whole f) = Whole (field_at p f)
+step_at p Broken = Broken
+step_at p End = End
+
+abbrev pub found_at : Address → Option Field → Option Field
+found_at p (Some f) = Some (field_at p f)
+found_at p None = None
+
+-- a function that asks nothing and hands out a slice, of which no clause says where it lies: one outcome is the other with its slice at
+-- some address
+pub record SoleButForAddress (F : Ended) (Asked : AskedBy F) (Told : ToldBy F)
+    (moved : (κs : Lfts F.signature.lifetimes) → Address → Res F.signature κs → Res F.signature κs) : Type 0 where
+  pub asks_nothing : AsksNothing F Asked
+  pub one_outcome : (κs : Lfts F.signature.lifetimes) (a : Args F.signature κs) → Asked κs a → (one other : AtReturn F κs a)
+      → Told κs a one.0 (at_exit F κs a one.1) → Told κs a other.0 (at_exit F κs a other.1)
+      → (p : Address) × (one ≡ (moved κs p other.0, other.1))
+
+pub record Unique : Type 0 where
   pub words_marks : Sole words_marks.ended words_marks_reads.Asked words_marks_reads.Learnt
   pub words_first_mark : Sole words_first_mark.ended words_first_mark_reads.Asked words_first_mark_reads.Learnt
   pub words_first_ones : Sole words_first_ones.ended words_first_ones_reads.Asked words_first_ones_reads.Learnt
@@ -194,48 +193,47 @@ pub record Unique : Type 2 where
   pub print_lines_give : Sole print_lines_give.ended print_lines_give_reads.Asked print_lines_give_reads.Learnt
   pub print_lines_refusal_line :
       Sole print_lines_refusal_line.ended print_lines_refusal_line_reads.Asked print_lines_refusal_line_reads.Learnt
-  pub switch_edge_with : SoleWhereMet switch_edge_with.ended switch_edge_with_reads.Asked switch_edge_with_reads.Learnt
-  pub switch_first_of : Sole switch_first_of.ended switch_first_of_reads.Asked switch_first_of_reads.Learnt
-  pub switch_second_of : Sole switch_second_of.ended switch_second_of_reads.Asked switch_second_of_reads.Learnt
-  pub switch_label_of : Sole switch_label_of.ended switch_label_of_reads.Asked switch_label_of_reads.Learnt
-  pub switch_gate_of : Sole switch_gate_of.ended switch_gate_of_reads.Asked switch_gate_of_reads.Learnt
-  pub switch_is_p : Sole switch_is_p.ended switch_is_p_reads.Asked switch_is_p_reads.Learnt
-  pub switch_is_stated : Sole switch_is_stated.ended switch_is_stated_reads.Asked switch_is_stated_reads.Learnt
-  pub join_nodes_complementary : SoleByClauses join_nodes_complementary.ended (λ M 𝓤. join_nodes_complementary.clauses {M = M} {𝓤 = 𝓤})
+  pub switch_edge_new : SoleWhereMet switch_edge_new.ended switch_edge_new_reads.Asked switch_edge_new_reads.Learnt
+  pub switch_edge_first : Sole switch_edge_first.ended switch_edge_first_reads.Asked switch_edge_first_reads.Learnt
+  pub switch_edge_second : Sole switch_edge_second.ended switch_edge_second_reads.Asked switch_edge_second_reads.Learnt
+  pub switch_edge_label : Sole switch_edge_label.ended switch_edge_label_reads.Asked switch_edge_label_reads.Learnt
+  pub switch_edge_gate : Sole switch_edge_gate.ended switch_edge_gate_reads.Asked switch_edge_gate_reads.Learnt
+  pub switch_edge_is_p : Sole switch_edge_is_p.ended switch_edge_is_p_reads.Asked switch_edge_is_p_reads.Learnt
+  pub switch_edge_is_stated : Sole switch_edge_is_stated.ended switch_edge_is_stated_reads.Asked switch_edge_is_stated_reads.Learnt
+  pub join_nodes_complementary :
+      SoleWhereMet join_nodes_complementary.ended join_nodes_complementary_reads.Asked join_nodes_complementary_reads.Learnt
   pub join_nodes_check_type : SoleWhereMet join_nodes_check_type.ended join_nodes_check_type_reads.Asked join_nodes_check_type_reads.Learnt
-  pub join_nodes_joining : SoleByClauses join_nodes_joining.ended (λ M 𝓤. join_nodes_joining.clauses {M = M} {𝓤 = 𝓤})
+  pub join_nodes_joining : SoleWhereMet join_nodes_joining.ended join_nodes_joining_reads.Asked join_nodes_joining_reads.Learnt
   pub join_nodes_join_type : SoleWhereMet join_nodes_join_type.ended join_nodes_join_type_reads.Asked join_nodes_join_type_reads.Learnt
   pub join_nodes_output_planes :
       Sole join_nodes_output_planes.ended join_nodes_output_planes_reads.Asked join_nodes_output_planes_reads.Learnt
-  pub circuit_is_kind : Sole circuit_is_kind.ended circuit_is_kind_reads.Asked circuit_is_kind_reads.Learnt
   pub circuit_states_channel : Sole circuit_states_channel.ended circuit_states_channel_reads.Asked circuit_states_channel_reads.Learnt
-  pub circuit_is_between : Sole circuit_is_between.ended circuit_is_between_reads.Asked circuit_is_between_reads.Learnt
-  pub circuit_refuses : Sole circuit_refuses.ended circuit_refuses_reads.Asked circuit_refuses_reads.Learnt
-  pub circuit_or_if : Sole circuit_or_if.ended circuit_or_if_reads.Asked circuit_or_if_reads.Learnt
-  pub circuit_number_of : Sole circuit_number_of.ended circuit_number_of_reads.Asked circuit_number_of_reads.Learnt
-  pub circuit_place_of : Sole circuit_place_of.ended circuit_place_of_reads.Asked circuit_place_of_reads.Learnt
-  pub read_fields_reader_at : SoleByClauses read_fields_reader_at.ended (λ M 𝓤. read_fields_reader_at.clauses {M = M} {𝓤 = 𝓤})
-  pub read_fields_next : SoleByClauses read_fields_next.ended (λ M 𝓤. read_fields_next.clauses {M = M} {𝓤 = 𝓤})
-  pub read_fields_step_at : SoleWhereMet read_fields_step_at.ended read_fields_step_at_reads.Asked read_fields_step_at_reads.Learnt
-  pub read_fields_own_field : Sole read_fields_own_field.ended read_fields_own_field_reads.Asked read_fields_own_field_reads.Learnt
-  pub read_fields_field_of : SoleWhereMet read_fields_field_of.ended read_fields_field_of_reads.Asked read_fields_field_of_reads.Learnt
-  pub read_fields_byte : SoleWhereMet read_fields_byte.ended read_fields_byte_reads.Asked read_fields_byte_reads.Learnt
-  pub read_fields_two_bytes : SoleWhereMet read_fields_two_bytes.ended read_fields_two_bytes_reads.Asked read_fields_two_bytes_reads.Learnt
-  pub read_types_no_type : Sole read_types_no_type.ended read_types_no_type_reads.Asked read_types_no_type_reads.Learnt
+  pub circuit_refusal_number : Sole circuit_refusal_number.ended circuit_refusal_number_reads.Asked circuit_refusal_number_reads.Learnt
+  pub circuit_refusal_place : Sole circuit_refusal_place.ended circuit_refusal_place_reads.Asked circuit_refusal_place_reads.Learnt
+  pub read_fields_field_byte : Sole read_fields_field_byte.ended read_fields_field_byte_reads.Asked read_fields_field_byte_reads.Learnt
+  pub read_fields_field_two_bytes :
+      Sole read_fields_field_two_bytes.ended read_fields_field_two_bytes_reads.Asked read_fields_field_two_bytes_reads.Learnt
+  pub read_fields_step_of_kind :
+      Sole read_fields_step_of_kind.ended read_fields_step_of_kind_reads.Asked read_fields_step_of_kind_reads.Learnt
+  pub read_fields_reader_new : Sole read_fields_reader_new.ended read_fields_reader_new_reads.Asked read_fields_reader_new_reads.Learnt
+  pub read_fields_reader_step :
+      SoleButForAddress read_fields_reader_step.ended read_fields_reader_step_reads.Asked read_fields_reader_step_reads.Learnt
+      (λ κs. step_at)
+  pub read_fields_reader_next_of :
+      SoleButForAddress read_fields_reader_next_of.ended read_fields_reader_next_of_reads.Asked read_fields_reader_next_of_reads.Learnt
+      (λ κs. found_at)
   pub read_types_read_types : SoleWhereMet read_types_read_types.ended read_types_read_types_reads.Asked read_types_read_types_reads.Learnt
-  pub read_bridges_no_bridge : Sole read_bridges_no_bridge.ended read_bridges_no_bridge_reads.Asked read_bridges_no_bridge_reads.Learnt
   pub read_bridges_lists_of : SoleWhereMet read_bridges_lists_of.ended read_bridges_lists_of_reads.Asked read_bridges_lists_of_reads.Learnt
   pub read_bridges_read_bridges :
       SoleWhereMet read_bridges_read_bridges.ended read_bridges_read_bridges_reads.Asked read_bridges_read_bridges_reads.Learnt
-  pub read_instances_no_instance :
-      Sole read_instances_no_instance.ended read_instances_no_instance_reads.Asked read_instances_no_instance_reads.Learnt
   pub read_instances_read_instances :
       SoleWhereMet read_instances_read_instances.ended read_instances_read_instances_reads.Asked read_instances_read_instances_reads.Learnt
-  pub read_vectors_no_vector : Sole read_vectors_no_vector.ended read_vectors_no_vector_reads.Asked read_vectors_no_vector_reads.Learnt
   pub read_vectors_read_vectors :
       SoleWhereMet read_vectors_read_vectors.ended read_vectors_read_vectors_reads.Asked read_vectors_read_vectors_reads.Learnt
   pub read_file_read_stages : Sole read_file_read_stages.ended read_file_read_stages_reads.Asked read_file_read_stages_reads.Learnt
   pub read_file_read : Sole read_file_read.ended read_file_read_reads.Asked read_file_read_reads.Learnt
+  pub grading_ungraded_number : Sole grading_ungraded_number.ended grading_ungraded_number_reads.Asked grading_ungraded_number_reads.Learnt
+  pub grading_ungraded_place : Sole grading_ungraded_place.ended grading_ungraded_place_reads.Asked grading_ungraded_place_reads.Learnt
   pub grading_number_of : Sole grading_number_of.ended grading_number_of_reads.Asked grading_number_of_reads.Learnt
   pub grading_place_of : Sole grading_place_of.ended grading_place_of_reads.Asked grading_place_of_reads.Learnt
   pub grading_counts_of : Sole grading_counts_of.ended grading_counts_of_reads.Asked grading_counts_of_reads.Learnt
@@ -263,7 +261,7 @@ pub record Unique : Type 2 where
   pub print_report_rounds_line :
       Sole print_report_rounds_line.ended print_report_rounds_line_reads.Asked print_report_rounds_line_reads.Learnt
   pub print_report_report_piece :
-      SoleWhereMet print_report_report_piece.ended print_report_report_piece_reads.Asked print_report_report_piece_reads.Learnt
+      Sole print_report_report_piece.ended print_report_report_piece_reads.Asked print_report_report_piece_reads.Learnt
   pub print_circuit_show_piece :
       Sole print_circuit_show_piece.ended print_circuit_show_piece_reads.Asked print_circuit_show_piece_reads.Learnt
   pub togyamiru_grade : Sole togyamiru_grade.ended togyamiru_grade_reads.Asked togyamiru_grade_reads.Learnt

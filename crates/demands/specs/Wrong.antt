@@ -24,8 +24,7 @@ use Rattle.grading.specs.Wires.{Wire, ground_wire, supply_wire, input_wire, outp
 use Rattle.grading.specs.Wires.{End, one_end, other_end, wire_of, leaks}
 use Rattle.grading.specs.Classes.{same_pair, same_class, has_mark_by}
 use Rattle.grading.specs.Grading.{Grading, graded, refused, grading_of}
-use Rattle.grading.specs.declared.Answer.{Answer}
-use Rattle.grading.specs.Promise.{is_graded}
+use Rattle.grading.specs.Promise.{Answer, is_graded}
 use Rattle.demands.specs.Graders.{Grader, MeetsPromise, refusing, testing, Work, grades_by, Packing, work_by, marks_by, right_work}
 use Rattle.demands.specs.Graders.{rightly}
 

@@ -1,11 +1,13 @@
 // Reading a file: its start, the stages in file order, and then the ending.
-ghost use Rattle.std.specs.Prelude.{◌≡◌, length, Some};
+ghost use Rattle.std.specs.Prelude.{◌≡◌, ◌≤◌, length, take, Some};
+ghost use Rattle.circuit.specs.Limits.{most_bridges};
+ghost use Rattle.circuit.specs.Fields.{two_bytes};
 ghost use Rattle.circuit.specs.Table.{first_of, inputs_tests};
 ghost use Rattle.circuit.specs.Reading.{reading_of};
 ghost use Rattle.circuit.specs.Records.{circuit_record, empty_circuit};
 ghost use Rattle.circuit.specs.Answers.{Answers};
-ghost use Rattle.circuit.specs.Fields.{two_bytes};
 ghost use Rattle.read_fields.specs.Gathers.{JudgedAs};
+ghost use Rattle.read_bridges.specs.ListSums.{ListedBridges, SummedTo};
 ghost use Rattle.read_file.specs.ReadStages.{ReadByStages};
 ghost use Rattle.read_file.specs.Whole.{StartRead, whole_of};
 
@@ -14,7 +16,7 @@ use circuit::limits::{MOST_BRIDGES, MOST_BYTES, MOST_INSTANCES, MOST_TYPES, MOST
 use circuit::order::Kind;
 use circuit::refusal::Refusal;
 use circuit::{Bridge, Circuit, Instance, Reading, Vector};
-use read_bridges::lists::lists_of;
+use read_bridges::lists::{ListSum, lists_of};
 use read_bridges::{Bridges, read_bridges};
 use read_fields::Field;
 use read_fields::cursor::Reader;
@@ -138,6 +140,14 @@ fn read_start(file: &[u8], vector_wanted: bool) -> Start
     }
 }
 
+// The user lists in sum. By value: bridges that are lent where the circuit is put together would keep a place on the stack beside it, 1,072 bytes more.
+fn lists_in(bridges: Bridges) -> [ListSum; 128]
+    requires { (bridges.count ≤ most_bridges) × ListedBridges (take bridges.count bridges.all) }
+    ensures { SummedTo (take bridges.count bridges.all) result }
+{
+    lists_of(&bridges.all[..bridges.count])
+}
+
 // Any bytes at all, of which a vector is wanted or not; the first refusal counts, and beside it stands what was read before it.
 // Every stage is called, also after a refusal: it then stands at a field that is not its own, and reads nothing. With a way out at each refusal the compiler would keep a place on the stack for the circuit at each.
 pub fn read_stages(file: &[u8], vector_wanted: bool) -> Reading
@@ -146,7 +156,7 @@ pub fn read_stages(file: &[u8], vector_wanted: bool) -> Reading
     let start = read_start(file, vector_wanted);
     let types = read_types(file, start.at);
     let bridges = read_bridges(file, types.at);
-    let lists = lists_of(&bridges.all[..bridges.count]);
+    let lists = lists_in(bridges);
     let held = Held {
         inputs: start.inputs,
         types: &types.all[..types.count],

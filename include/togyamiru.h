@@ -3,7 +3,7 @@
  * memset alone.
  *
  * The functions are thread-safe: a call touches what it is lent and its own stack, and nothing else. There is no heap, no static data, no input or output.
- * A call takes at most 64,952 bytes of stack, whatever the file holds, as measured by bench/stack.c; TOGYAMIRU_MOST_STACK is enough.
+ * A call takes at most 63,320 bytes of stack, whatever the file holds, as measured by bench/stack.c; TOGYAMIRU_MOST_STACK is enough.
  *
  * What a caller owes: each pointer is not null and is aligned for its type, also where the length is 0; it points to that many elements, which
  * nothing else reads or writes during the call; no two of the buffers and the answer overlap, and none overlaps the file. Nothing checks that.

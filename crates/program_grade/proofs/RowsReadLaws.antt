@@ -1,16 +1,17 @@
 -- The rows of the circuit that was read: those of each file of which the reading tells; a refusal tells of no circuit.
 use Prim.Native.Nat.{ℕ}
-use mathlib.Core.Path.{◌≡◌, sym, ap, subst, ◌∙◌}
-use mathlib.Core.Bool.{true, true≢false}
+use mathlib.Core.Path.{◌≡◌, ap, subst, ◌∙◌}
+use mathlib.Core.Bool.{true}
 use mathlib.Core.List.{List}
 use lib.ListN.{length, get_or}
+use Rattle.std.specs.Prelude.{Some}
 use Rattle.words.proofs.Tables.{length-table}
 use Rattle.circuit.specs.Circuit.{Circuit}
 use Rattle.circuit.specs.Records.{padded, circuit_record}
 use Rattle.circuit.specs.Reading.{Reading, accepted, reading_of}
 use Rattle.circuit.specs.Answers.{Tells}
 use Rattle.circuit.specs.Refusals.{verdict_of}
-use Rattle.circuit.specs.Verdicts.{is_refused}
+use Rattle.circuit.specs.declared.refusal.Refusal.{Refusal}
 use Rattle.circuit.specs.Laws.{CircuitGood}
 use Rattle.circuit.specs.declared.Reading.{Reading as ReadingRecord}
 use Rattle.circuit.proofs.CircuitLaws.{accepted-is-good}
@@ -23,11 +24,11 @@ module _ (reading : ReadingRecord) where
   told : (file : List ℕ) (c : Circuit) → Tells (reading_of file) reading → reading_of file ≡ accepted c → Tells (accepted c) reading
   told file c tells reads = subst (λ (read : Reading). Tells read reading) reads tells
 
-  pub none_read : (codes : List ℕ) → length codes ≡ 2048 → is_refused (verdict_of reading.refusal) ≡ true → RowsRead reading codes
-  unfolding Tells is_refused
-  none_read codes many refused = record {
+  pub none_read : (codes : List ℕ) → length codes ≡ 2048 → (why : Refusal) → reading.refusal ≡ Some why → RowsRead reading codes
+  unfolding Tells
+  none_read codes many why refused = record {
     many = many;
-    listed = λ file c tells reads. absurd (true≢false (sym refused ∙ ap is_refused (told file c tells reads).0));
+    listed = λ file c tells reads. let passed = (told file c tells reads).0 in let fails = ap verdict_of refused in cc;
   }
 
   pub all_read : (codes : List ℕ) → CircuitGiven reading.circuit

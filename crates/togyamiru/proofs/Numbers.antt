@@ -6,8 +6,7 @@ use native.Mathlib.Omega.{arith}
 use lib.ListN.{length, take, drop_of_length-le}
 use Rattle.grading.specs.Buffers.{Buffers}
 use Rattle.grading.specs.Grading.{Counts, Grading, number_in, place_in, over}
-use Rattle.grading.specs.Promise.{Answer, number_of, place_of, counts_meant, counts_of, AnswersAs}
-use Rattle.grading.specs.declared.Counts.{Counts as CountsRecord}
+use Rattle.grading.specs.Promise.{Answer, place_of, counts_of, AnswersAs}
 use Rattle.togyamiru.specs.Entry.{six_numbers, EntryMeets}
 use Rattle.togyamiru.specs.NumbersEntry.{all_numbers, numbers_of, NumbersMeet}
 

@@ -1,8 +1,7 @@
 -- The rows of a file, listed or refused: each keeps the promise of `togyamiru_rows`, and no two outcomes keep it. Assumes nothing.
 use Prim.Native.Nat.{ℕ, ◌<◌, ◌≤◌}
 use mathlib.Core.Path.{◌≡◌, refl, sym, ap, ◌∙◌}
-use mathlib.Core.Bool.{true, false}
-use mathlib.Core.List.{List, [], ◌∷◌, ◌++◌}
+use mathlib.Core.List.{List, ◌++◌}
 use native.Mathlib.Omega.{arith}
 use borrow.Author.Tests.{lt-ltb, le-ltb}
 use lib.ListN.{length, take, drop}
@@ -18,8 +17,7 @@ use Rattle.circuit.specs.declared.Circuit.{Circuit as CircuitRecord}
 use Rattle.circuit.proofs.TypeLaws.{take_padded}
 use Rattle.grading.specs.Buffers.{room_for, no_buffers}
 use Rattle.grading.specs.Rows.{rows_of}
-use Rattle.grading.specs.Grading.{Counts, Grading, counts_of_circuit, after_reading, counts_in, number_in, place_in, over}
-use Rattle.grading.specs.Promise.{Answer, number_of, place_of, counts_meant, counts_of}
+use Rattle.grading.specs.Grading.{Counts, counts_of_circuit, after_reading, counts_in, number_in, place_in, over}
 use Rattle.grading.specs.declared.Counts.{Counts as CountsRecord}
 use Rattle.grading.specs.declared.Ungraded.TheVariants.{Refused, ShortClasses}
 use Rattle.grading.proofs.CodeLaws.{length-codes}
@@ -27,7 +25,7 @@ use Rattle.grading.proofs.RowLaws.{few_rows}
 use Rattle.grade_file.proofs.Assembly.{faults_are}
 use Rattle.grade_file.proofs.GradingLaws.{refused_answers, Accepted, good_here}
 use Rattle.grading.specs.Codes.{codes_of}
-use Rattle.togyamiru.specs.RowsEntry.{rows_after_reading, three_numbers, rows_buffer_after, RowsMeets, RowsPromise}
+use Rattle.togyamiru.specs.RowsEntry.{rows_after_reading, rows_buffer_after, RowsPromise}
 use Rattle.togyamiru.specs.RowsModel.{RowsAnswered, RowsAnswer}
 
 -- ---- values put at the front of a buffer
@@ -76,22 +74,6 @@ module _ (file : List ℕ) (m : CircuitRecord) (here : Accepted file m) where
         faults = told ∙ same_faults;
         rows_at_exit = put ∙ ap (λ (text : List ℕ). over text rows) all;
       }
-
--- ---- its three numbers
-
--- three numbers in a row
-abbrev three : ℕ → ℕ → ℕ → List ℕ
-three n p faults = n ∷ p ∷ faults ∷ []
-
-pub three-numbers : (g : Grading) (answer : Answer) (rows rows' : List ℕ) (n p : ℕ) (counts : CountsRecord) → RowsAnswered g answer rows rows'
-    → n ≡ number_of answer → p ≡ place_of answer → counts_meant counts ≡ counts_of answer → RowsMeets g rows (n ∷ p ∷ counts.faults ∷ []) rows'
-unfolding three_numbers
-three-numbers g answer rows rows' n p counts lists is-n is-p are = record {
-  answer_at_exit = ap (λ (k : ℕ). three k p counts.faults) (is-n ∙ lists.number)
-      ∙ ap (λ (k : ℕ). three (number_in g) k counts.faults) (is-p ∙ lists.place)
-      ∙ ap (three (number_in g) (place_in g)) (ap (λ (c : Counts). c.faults) are ∙ lists.faults);
-  rows_at_exit = lists.rows_at_exit;
-}
 
 -- ---- one outcome only
 

@@ -32,6 +32,7 @@ pub fn togyamiru_grade_numbers(
 }
 
 // Lists the rows of a file in a lent buffer, a number each. The answer is three numbers: the refusal's number and its place, 0 and 0 where there is none, and the count of faults.
+#[tactic(auto, unfolding(crate::specs::RowsEntry::three_numbers))]
 pub fn togyamiru_rows(file: &[u8], rows: &mut [u32], answer: &mut [u64; 3])
     ensures { RowsPromise file.now rows.old answer.new rows.new }
 {

@@ -1,17 +1,12 @@
 -- `program_grade::rows_read` meets its contract: a reading that is not refused tells of a circuit. Assumes nothing.
 use Prim.Native.Nat.{ℕ}
-use mathlib.Core.Path.{ap, ◌∙◌}
 use lib.ListN.{length-replicate}
-use Rattle.circuit.specs.Refusals.{verdict_of}
-use Rattle.circuit.specs.Verdicts.{is_refused}
-use Rattle.circuit.proofs.Verdicts.{some-refused}
 use Rattle.grade_file.proofs.GradingLaws.{accepted-here, given}
 use Rattle.program_grade.proofs.RowsReadLaws.{none_read, all_read}
 use Rattle.program_grade.proofs.rows_read.Goals as goal
 
 pub returns-in-Some : goal.returns-in-Some
-returns-in-Some c =
-    none_read _ _ (length-replicate {A = ℕ} 2048 0) (ap (λ r. is_refused (verdict_of r)) c.in-Some.is ∙ some-refused c.in-Some.field-0)
+returns-in-Some c = none_read _ _ (length-replicate {A = ℕ} 2048 0) _ c.in-Some.is
 
 pub rows_of-requires : goal.rows_of-requires
 rows_of-requires c = given _ _ (accepted-here c.requires.file c.args.reading c.in-None.is c.requires.tells)

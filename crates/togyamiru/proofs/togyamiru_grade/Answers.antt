@@ -4,7 +4,4 @@ use Rattle.togyamiru.proofs.Numbers.{six_numbers_lem}
 use Rattle.togyamiru.proofs.togyamiru_grade.Goals as goal
 
 pub returns : goal.returns
-returns c =
-    let given = c in
-    let start = given in
-    six_numbers_lem _ _ _ start.args.answer.now _ given.togyamiru_grade_numbers.ensures (search rules)
+returns c = six_numbers_lem _ _ _ c.args.answer.now _ c.togyamiru_grade_numbers.ensures (search rules)

@@ -77,9 +77,7 @@ numbers-refused (Err (ShortClasses faults)) number place (n, p) = λ i. n i ∷ 
 nothing-refused : (answer : Answer) → T (is_graded answer) → numbers_of answer ≡ numbers 0 0 (counts_of answer)
 unfolding numbers_of six_of
 nothing-refused (Ok counts) g = refl
-nothing-refused (Err (Refused refusal)) g = absurd g
-nothing-refused (Err (ShortMatrix words)) g = absurd g
-nothing-refused (Err (ShortClasses faults)) g = absurd g
+nothing-refused (Err why) g = absurd g
 
 six_of_lem : (answer : Answer) {all : List ℕ} → numbers_of answer ≡ all → six_of answer ≡ take 6 all
 unfolding numbers_of six_of

@@ -19,7 +19,6 @@ use Rattle.grading.specs.Rounds.{rounds_of}
 use Rattle.grading.specs.Grading.{Grading, graded, refused, grading_of, grading_of_circuit, after_reading, over, counts_in, number_in, buffers_after}
 use Rattle.grading.specs.Grading as grading
 use Rattle.grading.specs.Promise.{Answer, is_graded, number_of, counts_of, AnswersAs}
-use Rattle.grading.specs.declared.Ungraded.TheVariants.{Refused, ShortMatrix, ShortClasses}
 use Rattle.grading.proofs.PromiseLaws.{matrix_at_exit, classes_at_exit}
 use Rattle.grade_classes.proofs.FoundMeaning.{numbers_are}
 use Rattle.grading.proofs.RoundLaws.{rounds_tell}
@@ -36,9 +35,7 @@ pub record Gave (call : Call) (c : Circuit) : Type 0 where
 
 no_number : (answer : Answer) → T (is_graded answer) → number_of answer ≡ 0
 no_number (Ok counts) t = refl
-no_number (Err (Refused refusal)) t = absurd t
-no_number (Err (ShortMatrix words)) t = absurd t
-no_number (Err (ShortClasses faults)) t = absurd t
+no_number (Err why) t = absurd t
 
 -- a call that graded a good circuit, whichever file it is read from, if any
 pub gave_of_circuit : (call : Call) (c : Circuit) → CircuitGood c → AnswersAs (grading_of_circuit c (room_of call.before)) call.answer call.before call.after

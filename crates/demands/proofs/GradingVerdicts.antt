@@ -14,13 +14,12 @@ use Rattle.circuit.specs.Circuit.{Circuit}
 use Rattle.circuit.specs.Known.{Known, start, known_after}
 use Rattle.circuit.specs.Table.{Verdict, passes, refused_at, first_of, field_tests, end_tests}
 use Rattle.circuit.specs.Reading.{Reading, accepted, refusal, unless, read_from, reading_with}
-use Rattle.circuit.specs.Refusals.{refusal_number, refusal_place}
 use Rattle.circuit.proofs.Tested.{never-passes}
 use Rattle.grading.specs.Buffers.{Buffers, Room, room_of}
 use Rattle.grading.specs.Rows.{rows_of}
 use Rattle.grading.specs.Grading.{Grading, graded, grading_of, grading_of_circuit, after_reading, is_graded_in, number_in, place_in}
 use Rattle.grading.specs.Grading.{refused}
-use Rattle.grading.specs.Promise.{Answer, is_graded, AnswersAs}
+use Rattle.grading.specs.Promise.{Answer, is_graded, number_why, place_why, AnswersAs}
 use Rattle.grading.specs.declared.Ungraded.TheVariants.{Refused, ShortMatrix, ShortClasses}
 use Rattle.demands.specs.Calls.{Call, Kept, Refuses}
 use Rattle.demands.specs.One.{buffer_tests, tests_from, table_of}
@@ -77,27 +76,19 @@ table-tells file room = go (ltb most_bytes (length file))
 
 unfoldable pub answered : Answer → Verdict
 answered (Ok counts) = passes
-answered (Err (Refused r)) = refused_at (refusal_number r) (refusal_place r)
-answered (Err (ShortMatrix words)) = refused_at 15 words
-answered (Err (ShortClasses faults)) = refused_at 22 faults
+answered (Err why) = refused_at (number_why why) (place_why why)
 
 pub answer-tells : (g : Grading) (answer : Answer) (before after : Buffers) → AnswersAs g answer before after → answered answer ≡ verdict_in g
 unfolding answered verdict_in is_graded_in number_in place_in
 answer-tells (graded c) (Ok counts) before after kept = refl
-answer-tells (graded c) (Err (Refused r)) before after kept = absurd (true≢false (sym kept.is_graded_lem))
-answer-tells (graded c) (Err (ShortMatrix words)) before after kept = absurd (true≢false (sym kept.is_graded_lem))
-answer-tells (graded c) (Err (ShortClasses faults)) before after kept = absurd (true≢false (sym kept.is_graded_lem))
+answer-tells (graded c) (Err why) before after kept = absurd (true≢false (sym kept.is_graded_lem))
 answer-tells (refused number place) (Ok counts) before after kept = absurd (true≢false kept.is_graded_lem)
-answer-tells (refused number place) (Err (Refused r)) before after kept = ap₂ refused_at kept.number kept.place
-answer-tells (refused number place) (Err (ShortMatrix words)) before after kept = ap₂ refused_at kept.number kept.place
-answer-tells (refused number place) (Err (ShortClasses faults)) before after kept = ap₂ refused_at kept.number kept.place
+answer-tells (refused number place) (Err why) before after kept = ap₂ refused_at kept.number kept.place
 
 pub graded-is : (answer : Answer) → T (is_graded answer) ↔ (answered answer ≡ passes)
 unfolding answered
 graded-is (Ok counts) = (λ t. refl, λ e. tt)
-graded-is (Err (Refused r)) = (λ t. absurd t, λ e. absurd (never-passes e))
-graded-is (Err (ShortMatrix words)) = (λ t. absurd t, λ e. absurd (never-passes e))
-graded-is (Err (ShortClasses faults)) = (λ t. absurd t, λ e. absurd (never-passes e))
+graded-is (Err why) = (λ t. absurd t, λ e. absurd (never-passes e))
 
 pub refuses-is : (answer : Answer) (number place : ℕ) → Refuses answer number place ↔ (answered answer ≡ refused_at number place)
 unfolding Refuses answered

@@ -51,9 +51,7 @@ pub record ByTheTable (call : Call) : Type 0 where
 counts-nothing : (answer : Answer) (number place : ℕ) → Refuses answer number place → counts_of answer ≡ no_counts
 unfolding Refuses
 counts-nothing (Ok counts) number place r = absurd r
-counts-nothing (Err (Refused by)) number place r = refl
-counts-nothing (Err (ShortMatrix words)) number place r = refl
-counts-nothing (Err (ShortClasses faults)) number place r = refl
+counts-nothing (Err why) number place r = refl
 
 -- buffers that pass 15 and 22 are long enough
 fits : (c : Circuit) (room : Room) → verdict_in (grading_of_circuit c room) ≡ passes → AnswerFits c room

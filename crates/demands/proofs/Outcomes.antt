@@ -5,14 +5,15 @@ use mathlib.Core.List.{List}
 use native.Mathlib.Omega.{arith}
 use Rattle.std.specs.Prelude.{Option, Some, Ok, Err}
 use Rattle.circuit.specs.Table.{refused_at}
-use Rattle.circuit.specs.Refusals.{refusal_number, refusal_place}
+use Rattle.circuit.specs.Refusals.{refusal_number}
 use Rattle.circuit.specs.declared.refusal.Refusal.{Refusal}
 use Rattle.circuit.proofs.AnswerLaws.{verdict-tells}
 use Rattle.circuit.proofs.Tested.{never-passes}
 use Rattle.grading.specs.Buffers.{Buffers, room_of}
 use Rattle.grading.specs.Grading.{Grading, grading_of}
-use Rattle.grading.specs.Promise.{Answer, counts_of, counts_meant, AnswersAs}
+use Rattle.grading.specs.Promise.{Answer, number_why, place_why, counts_of, counts_meant, AnswersAs}
 use Rattle.grading.specs.declared.Counts.{Counts as CountsRecord}
+use Rattle.grading.specs.declared.Ungraded.{Ungraded}
 use Rattle.grading.specs.declared.Ungraded.TheVariants.{Refused, ShortMatrix, ShortClasses}
 use Rattle.demands.specs.One.{OneOutcomeOnly}
 use Rattle.demands.proofs.GradingVerdicts.{answered, answer-tells}
@@ -29,28 +30,24 @@ same_number e = cc
 same_place : {n p m q : ℕ} → refused_at n p ≡ refused_at m q → p ≡ q
 same_place e = cc
 
-same_refusal : (r s : Refusal)
-    → refused_at (refusal_number r) (refusal_place r) ≡ refused_at (refusal_number s) (refusal_place s) → r ≡ s
-same_refusal r s v = let e : ◌≡◌ {A = Option Refusal} (Some r) (Some s) = verdict-tells (Some r) (Some s) v in cc
+-- the number tells which reason it is, and the place what it holds
+same_why : (r s : Ungraded) → refused_at (number_why r) (place_why r) ≡ refused_at (number_why s) (place_why s) → r ≡ s
+same_why (Refused r) (Refused s) v = let e : ◌≡◌ {A = Option Refusal} (Some r) (Some s) = verdict-tells (Some r) (Some s) v in cc
+same_why (Refused r) (ShortMatrix words) v = absurd (omega (arith, same_number v, most r))
+same_why (Refused r) (ShortClasses faults) v = absurd (omega (arith, same_number v, most r))
+same_why (ShortMatrix words) (Refused s) v = absurd (omega (arith, same_number v, most s))
+same_why (ShortMatrix words) (ShortMatrix others) v = ap ShortMatrix (same_place v)
+same_why (ShortMatrix words) (ShortClasses faults) v = absurd (omega (arith, same_number v))
+same_why (ShortClasses faults) (Refused s) v = absurd (omega (arith, same_number v, most s))
+same_why (ShortClasses faults) (ShortMatrix words) v = absurd (omega (arith, same_number v))
+same_why (ShortClasses faults) (ShortClasses others) v = ap ShortClasses (same_place v)
 
 pub same_answer : (a b : Answer) → answered a ≡ answered b → counts_of a ≡ counts_of b → a ≡ b
 unfolding answered
 same_answer (Ok counts) (Ok others) v e = ap (λ (r : CountsRecord). Ok r) (same_counts counts others e)
-same_answer (Ok counts) (Err (Refused s)) v e = absurd (never-passes (sym v))
-same_answer (Ok counts) (Err (ShortMatrix words)) v e = absurd (never-passes (sym v))
-same_answer (Ok counts) (Err (ShortClasses faults)) v e = absurd (never-passes (sym v))
-same_answer (Err (Refused r)) (Ok others) v e = absurd (never-passes v)
-same_answer (Err (Refused r)) (Err (Refused s)) v e = ap (λ (t : Refusal). Err (Refused t)) (same_refusal r s v)
-same_answer (Err (Refused r)) (Err (ShortMatrix words)) v e = absurd (omega (arith, same_number v, most r))
-same_answer (Err (Refused r)) (Err (ShortClasses faults)) v e = absurd (omega (arith, same_number v, most r))
-same_answer (Err (ShortMatrix words)) (Ok others) v e = absurd (never-passes v)
-same_answer (Err (ShortMatrix words)) (Err (Refused s)) v e = absurd (omega (arith, same_number v, most s))
-same_answer (Err (ShortMatrix words)) (Err (ShortMatrix words')) v e = ap (λ (n : ℕ). Err (ShortMatrix n)) (same_place v)
-same_answer (Err (ShortMatrix words)) (Err (ShortClasses faults)) v e = absurd (omega (arith, same_number v))
-same_answer (Err (ShortClasses faults)) (Ok others) v e = absurd (never-passes v)
-same_answer (Err (ShortClasses faults)) (Err (Refused s)) v e = absurd (omega (arith, same_number v, most s))
-same_answer (Err (ShortClasses faults)) (Err (ShortMatrix words)) v e = absurd (omega (arith, same_number v))
-same_answer (Err (ShortClasses faults)) (Err (ShortClasses faults')) v e = ap (λ (n : ℕ). Err (ShortClasses n)) (same_place v)
+same_answer (Ok counts) (Err why) v e = absurd (never-passes (sym v))
+same_answer (Err why) (Ok others) v e = absurd (never-passes v)
+same_answer (Err why) (Err other) v e = ap (λ (r : Ungraded). Err r) (same_why why other v)
 
 -- one answer to a grading, and one way to leave the buffers
 pub answered_once : {g : Grading} {a b : Answer} {before after after' : Buffers} → AnswersAs g a before after → AnswersAs g b before after'

@@ -1,5 +1,6 @@
--- Grading a circuit instance by instance: what stands in signals, matrix, codes and rounds after the first instances (`Turned`), that one turn of the loop goes from
--- one instance to the next, given what each call answers, that after the last the circuit's rows are marked, and that with those classed it is graded. Assumes nothing.
+-- Grading a circuit instance by instance: what stands in signals, matrix, codes and rounds after the first instances (`Turned`), that one
+-- turn of the loop goes from one instance to the next, given what each call answers, that after the last the circuit's rows are marked, and
+-- that with those classed it is graded. Assumes nothing.
 use Prim.Native.Nat.{ℕ, suc, ◌+◌, ◌-◌, ◌*◌, ◌/◌, ◌<◌, ◌≤◌, max}
 use mathlib.Core.Path.{◌≡◌, refl, sym, ap, ap₂, ◌∙◌}
 use mathlib.Core.List.{List, ◌++◌, map, map-append}
@@ -39,7 +40,8 @@ use Rattle.grading.specs.Grading.{over, counts_of_circuit}
 use Rattle.grading.specs.Codes.{code_of, CodesFit}
 use Rattle.grading.proofs.ValueLaws.{InstanceAt, good_at, type_at, type-ranges}
 use Rattle.grading.proofs.RecordReads.{bridges_few, references_of, reference_at_lem, instance_is, type_read_lem}
-use Rattle.grading.proofs.RowLaws.{rows_before, grown as rows_grown, rows_all, length_rows, rows_grow, rows_few, rows_within, few_rows, faults_at}
+use Rattle.grading.proofs.RowLaws.{rows_before, grown as rows_grown, rows_all, length_rows, rows_grow}
+use Rattle.grading.proofs.RowLaws.{rows_few, rows_within, few_rows, faults_at}
 use Rattle.grading.proofs.FaultRanges.{faults-fit}
 use Rattle.grading.proofs.MatrixLaws.{length_matrix, matrix_append}
 use Rattle.grade_rows.specs.Model.{instance_codes, RowsListed}
@@ -61,8 +63,8 @@ use Rattle.grade_file.specs.Model.{RowsMarked, Graded}
 
 -- ---- after the first instances
 
--- what the loop changes: signals, the matrix, codes with keys in the place of those that are marked, the most rounds so far, and where the next
--- instance and its rows begin
+-- what the loop changes: signals, the matrix, codes with keys in the place of those that are marked, the most rounds so far, and where the
+-- next instance and its rows begin
 pub record State : Type 0 where
   pub signals : Signals
   pub matrix : List ℕ
@@ -259,7 +261,9 @@ module _ (m : CircuitRecord) (told : CircuitGiven m) (matrix₀ matrix' codes' :
       found_is =
           classed.found_is
           ∙ ap (λ (n : ℕ). found_from matrix' classes' 0 n 0) many
-          ∙ sym (found_all whole told.good matrix' classes' (rw matrix_here (words_are whole (rows_of whole) _)) (rw classes_are (numbers_are (rows_of whole) _)))
+          ∙ sym
+          (found_all whole told.good matrix' classes' (rw matrix_here (words_are whole (rows_of whole) _))
+          (rw classes_are (numbers_are (rows_of whole) _)))
 
 -- ---- one instance
 
@@ -445,7 +449,8 @@ module _ (m : CircuitRecord) (told : CircuitGiven m) (matrix₀ : List ℕ) (roo
     -- what the calls of a turn answer
     module _ (signals' : Signals) (part' : List ℕ) (its-rounds : ℕ)
         (marked : InstanceMarked type' its.references i m.vector_count its_codes s.signals signals' part' its-rounds)
-        (codes' : List ℕ) (keyed : codes' ≡ written codes s.from (keys_of codes (i + 1) type'.output (label_numbers its.references) s.from to))
+        (codes' : List ℕ)
+        (keyed : codes' ≡ written codes s.from (keys_of codes (i + 1) type'.output (label_numbers its.references) s.from to))
         (rounds' : ℕ) (greatest : rounds' ≡ max s.rounds its-rounds) where
       stand : Bridge
       stand = nodes 0 0
@@ -500,7 +505,8 @@ module _ (m : CircuitRecord) (told : CircuitGiven m) (matrix₀ : List ℕ) (roo
       keys_here : keys_of codes (i + 1) type'.output labels s.from to ≡ map row_key new
       keys_here =
           rw (references_are d good m is i h e, output_is d good m is i h e u, add-one i)
-          (keys_are d (suc i) (inst d good m is i h) codes s.from to stand (faults-fit d good i no_instance h) (omega (arith, long)) codes_here)
+          (keys_are d (suc i) (inst d good m is i h) codes s.from to stand (faults-fit d good i no_instance h) (omega (arith, long))
+          codes_here)
 
       old_here : take s.from codes ≡ map row_key (rows_before d i)
       old_here =

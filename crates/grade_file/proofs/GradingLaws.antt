@@ -1,5 +1,5 @@
--- The answer to a file, a refusal of reading or what its circuit answers; and that to a circuit, a refusal of the matrix or of the class buffer, or its grading.
--- Each keeps the promise. Assumes nothing.
+-- The answer to a file, a refusal of reading or what its circuit answers; and that to a circuit, a refusal of the matrix or of the class
+-- buffer, or its grading. Each keeps the promise. Assumes nothing.
 use Prim.Native.Nat.{ℕ, ◌*◌, ◌<◌, ◌≤◌}
 use mathlib.Core.Path.{◌≡◌, refl, ap, subst}
 use mathlib.Core.Bool.{true}

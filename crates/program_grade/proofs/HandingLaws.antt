@@ -1,4 +1,5 @@
--- A file's report as it is handed over: what the program holds gives pieces of it, none of which is empty before the last line. Assumes nothing.
+-- A file's report as it is handed over: what the program holds gives pieces of it, none of which is empty before the last line. Assumes
+-- nothing.
 use Prim.Native.Nat.{ℕ, ◌≤◌, ◌<◌}
 use mathlib.Core.Path.{◌≡◌, sym, subst}
 use mathlib.Core.List.{List}
@@ -26,13 +27,16 @@ module _ {from : ℕ} {buffer : List ℕ} {piece : Piece} {after : List ℕ} whe
   pub piece_of_file : {file : List ℕ} {answer : Answer} {codes matrix classes : List ℕ} → FileHeld file answer codes matrix classes
       → ReportPiece answer codes matrix classes from buffer piece after → PieceOfFile file from buffer piece after
   piece_of_file {file} held given =
-      subst (λ (room : Room). PieceOfReport (grading_of file room) from buffer piece after) held.room (given.of_report file held.before held.outcome)
+      subst (λ (room : Room). PieceOfReport (grading_of file room) from buffer piece after) held.room
+      (given.of_report file held.before held.outcome)
 
   -- 512 bytes are room for each line, so that a piece is empty only past the last
-  pub moves : (file : List ℕ) → PieceOfFile file from buffer piece after → from < line_count (grading_of_file file) → 512 ≤ length buffer → 0 < piece.count
+  pub moves : (file : List ℕ) → PieceOfFile file from buffer piece after → from < line_count (grading_of_file file) → 512 ≤ length buffer
+      → 0 < piece.count
   moves file given more room =
       let fits = lines_fit file room_for_all from more in
-      piece-some (report_line (grading_of_file file)) (line_count (grading_of_file file)) from buffer piece after given more fits.0 (omega (arith, fits.1, room))
+      piece-some (report_line (grading_of_file file)) (line_count (grading_of_file file)) from buffer piece after given more fits.0
+      (omega (arith, fits.1, room))
 
 -- its lines, one behind the other, are the report
 pub all_reported : (before after : Output) (old new : Option (List ℕ)) → AllPut (text_told line_of_file lines_of_file) before after old new

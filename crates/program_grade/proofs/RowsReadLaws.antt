@@ -32,7 +32,8 @@ module _ (reading : ReadingRecord) where
   }
 
   pub all_read : (codes : List ℕ) → CircuitGiven reading.circuit
-      → ((c : Circuit) → reading.circuit ≡ circuit_record c → CircuitGood c → codes ≡ padded 2048 0 (codes_of (rows_of c))) → RowsRead reading codes
+      → ((c : Circuit) → reading.circuit ≡ circuit_record c → CircuitGood c → codes ≡ padded 2048 0 (codes_of (rows_of c)))
+      → RowsRead reading codes
   unfolding Tells padded
   all_read codes given are = record {
     many = ap length (are given.circuit given.is given.good) ∙ length-table 2048 (λ (i : ℕ). get_or (codes_of (rows_of given.circuit)) i 0);

@@ -1,4 +1,5 @@
--- The numbers of an answer that keeps the promise of `grade` are those of the grading: all of them, as many as have room, and the first six.
+-- The numbers of an answer that keeps the promise of `grade` are those of the grading: all of them, as many as have room, and the first
+-- six.
 use Prim.Native.Nat.{ℕ}
 use mathlib.Core.Path.{◌≡◌, ap, ◌∙◌}
 use mathlib.Core.List.{List, [], ◌∷◌, ◌++◌}

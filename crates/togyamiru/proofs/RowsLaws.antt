@@ -57,8 +57,9 @@ module _ (file : List ℕ) (m : CircuitRecord) (here : Accepted file m) where
       let test = lt-ltb (length rows) (length (rows_of here.circuit)) (rw same_faults at short) in
       rw (here.reads, test, same_faults) record { number = refl; place = refl; faults = refl; rows_at_exit = refl }
 
-  pub rows_listed : (rows : List ℕ) → m.faults ≤ length rows → (codes rows' : List ℕ) → codes ≡ padded 2048 0 (codes_of (rows_of here.circuit))
-      → rows' ≡ over (take m.faults codes) rows → (counts : CountsRecord) → counts.faults ≡ m.faults → RowsAnswer file rows (Ok counts) rows'
+  pub rows_listed : (rows : List ℕ) → m.faults ≤ length rows → (codes rows' : List ℕ)
+      → codes ≡ padded 2048 0 (codes_of (rows_of here.circuit)) → rows' ≡ over (take m.faults codes) rows
+      → (counts : CountsRecord) → counts.faults ≡ m.faults → RowsAnswer file rows (Ok counts) rows'
   unfolding rows_after_reading rows_buffer_after number_in place_in counts_in counts_of_circuit
   rows_listed rows fits codes rows' are put counts told =
       let c = here.circuit in

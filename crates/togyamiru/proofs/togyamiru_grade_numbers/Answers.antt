@@ -1,5 +1,5 @@
--- `togyamiru::togyamiru_grade_numbers` meets its contract: the numbers of the answer in their order, as many as have room, and the buffers as grading
--- leaves them. Assumes nothing.
+-- `togyamiru::togyamiru_grade_numbers` meets its contract: the numbers of the answer in their order, as many as have room, and the buffers as
+-- grading leaves them. Assumes nothing.
 use Rattle.togyamiru.proofs.Numbers.{numbers_met}
 use Rattle.togyamiru.proofs.togyamiru_grade_numbers.Goals as goal
 

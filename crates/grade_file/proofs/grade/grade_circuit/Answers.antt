@@ -1,5 +1,5 @@
--- `grade_file::grade::grade_circuit` meets its contract: a matrix or a class buffer that is too short, or the circuit graded; each for every good circuit
--- that the record tells. Assumes nothing.
+-- `grade_file::grade::grade_circuit` meets its contract: a matrix or a class buffer that is too short, or the circuit graded; each for every
+-- good circuit that the record tells. Assumes nothing.
 use native.Mathlib.Omega.{arith}
 use Rattle.grading.proofs.RowLaws.{few_rows}
 use Rattle.grade_file.proofs.Assembly.{faults_are}
@@ -19,4 +19,5 @@ returns-then-classes-faults c = λ meant is good. short_classes meant _ is _ c.i
 
 pub returns : goal.returns
 returns c = λ meant is good.
-    graded_answers meant _ is _ c.if-matrix-words.false c.if-classes-faults.false c.fill_buffers.result _ (c.fill_buffers.ensures meant is good)
+    graded_answers meant _ is _ c.if-matrix-words.false c.if-classes-faults.false c.fill_buffers.result _
+    (c.fill_buffers.ensures meant is good)

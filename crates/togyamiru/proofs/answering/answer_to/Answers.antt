@@ -1,4 +1,5 @@
--- `togyamiru::answering::answer_to` meets its contract: the reading tells what the file says, and is listed or graded as asked. Assumes nothing.
+-- `togyamiru::answering::answer_to` meets its contract: the reading tells what the file says, and is listed or graded as asked. Assumes
+-- nothing.
 use Rattle.togyamiru.proofs.answering.answer_to.Goals as goal
 
 pub returns-in-Rows : goal.returns-in-Rows

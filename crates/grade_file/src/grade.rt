@@ -85,6 +85,7 @@ fn fill_buffers(c: Circuit, matrix: &mut [u64], classes: &mut [u16]) -> Counts
 }
 
 // A circuit that reading gives: the counts, with the matrix and the classes written, or the buffer that is too short, with both as they were.
+// That reading gives it is asked (`CircuitGiven`, and `Read` of a reading), and no invariant of the type: `show_piece` promises its lines of any record at all.
 pub fn grade_circuit(c: Circuit, matrix: &mut [u64], classes: &mut [u16]) -> Answer
     requires { CircuitGiven c }
     ensures { PromiseOfCircuit c (buffers_of matrix.old classes.old) result (buffers_of matrix.new classes.new) }

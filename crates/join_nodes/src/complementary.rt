@@ -70,7 +70,7 @@ fn settings_of(labels: u8) -> usize
     1 << labels
 }
 
-// Whether a type is complementary, told by a lent slice of its edges and its three numbers, which stay apart as in the contract that `Unique` of `demands` names.
+// Whether a type is complementary, told by a lent slice of its edges and its three numbers. They stay apart: edges are handed on as one list of records, as docs/DECISIONS.md has it under Language forms.
 pub fn complementary(edges: &[Edge], highest: u8, output: u8, labels: u8) -> bool
     requires { EdgesGiven highest output labels edges.now }
     ensures { result ≡ is_complementary (type_with highest output labels edges.now) }

@@ -8,7 +8,7 @@ use crate::edges::spread;
 use crate::rounds::Network;
 use switch::{Edge, ModuleType, Planes, Rails};
 
-// Under which of 256 vectors each node is joined to supply, and to ground, and in how many rounds, by a lent slice of a type's edges and its three numbers, which stay apart as in the contract that `Unique` of `demands` names.
+// Under which of 256 vectors each node is joined to supply, and to ground, and in how many rounds, by a lent slice of a type's edges and its three numbers, apart as in `complementary`.
 pub fn joining(
     edges: &[Edge],
     highest: u8,

@@ -46,6 +46,7 @@ fn one_line(reading: &Reading, n: usize, out: &mut [u8]) -> Option<usize>
 pub fn show_piece(reading: Reading, from: usize, out: &mut [u8]) -> Piece
     ensures { ListingPiece reading from out.old result out.new }
 {
+    // no range: how many lines there are is known only where one past the last is asked for
     let mut next = from;
     let mut count = 0;
     while let Some(given) = one_line(&reading, next, &mut out[count..]) {

@@ -2,7 +2,6 @@
 ghost use Rattle.std.specs.Prelude.{◌≡◌, ◌≤◌, length, take};
 
 // The first places, as many as a count says, or all where it says more: a record may have any count.
-// Not by the methods of a circuit and a type that lend them, which do not say that there are no more than places.
 pub fn used<T, const N: usize>(places: &[T; N], count: usize) -> &[T]
     ensures used { result.now ≡ take count places.now }
     ensures few { length result.now ≤ N }

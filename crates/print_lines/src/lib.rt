@@ -45,7 +45,7 @@ fn digits(n: u64) -> usize
     n.max(1).ilog10() as usize + 1
 }
 
-// A number in decimal. It has at most 20 digits.
+// A number in decimal. It has at most 20 digits. By hand, since of `write!` no contract says what was written where it answers Err.
 pub fn put_number(out: &mut [u8], at: usize, n: u64) -> usize
     requires { at + 20 ≤ length out.old }
     ensures { (result ≡ at + length (decimal n)) × (out.new ≡ written out.old at (decimal n)) }

@@ -66,6 +66,7 @@ pub fn tell_file<T: Telling + Drop, R: Eprint, W: Write>(
 {
     let text = T::of(file);
     let mut handed = Handed { lines: 0 };
+    // no range: how many pieces there are depends on the room
     loop {
         let piece = text.piece(handed.lines, out);
         if piece.count == 0 {

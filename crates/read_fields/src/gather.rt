@@ -29,6 +29,7 @@ pub fn gather<'a, T: Copy, J: Fn(Field<'a>, usize) -> Result<T, Refusal>>(
     ensures { GatheredAs file.now (of_kind kind) from (λ f n item. J.post judge f n (Ok item)) (λ f n refusal. J.post judge f n (Err refusal)) all.old all.new result }
 {
     let mut reader = Reader::new(file, from);
+    // counted by hand: an iterator over the fields could not say where the reader stands at its end
     let mut count = 0;
     while let Some(f) = reader.next_of(kind) {
         match judge(f, count) {

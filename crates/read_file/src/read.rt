@@ -148,7 +148,7 @@ fn lists_in(bridges: Bridges) -> [ListSum; 128]
     lists_of(&bridges.all[..bridges.count])
 }
 
-// Any bytes at all, of which a vector is wanted or not; the first refusal counts, and beside it stands what was read before it.
+// Any bytes at all, of which a vector is wanted or not, which is a part of the promise (`reading_with`) and chooses no step; the first refusal counts, and beside it stands what was read before it.
 // Every stage is called, also after a refusal: it then stands at a field that is not its own, and reads nothing. With a way out at each refusal the compiler would keep a place on the stack for the circuit at each.
 pub fn read_stages(file: &[u8], vector_wanted: bool) -> Reading
     ensures { ReadByStages vector_wanted file.now result }

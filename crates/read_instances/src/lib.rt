@@ -123,6 +123,7 @@ pub fn read_instances(file: &[u8], from: usize, held: Held) -> Instances
     requires { (from ≤ length file.now) × ((held.inputs ≤ 64) × HeldAt held) }
     ensures { (ts : List TypeMeant) (bs : List Listed) → TypesAndLists ts bs held.entry → InstancesRead file.now from held.entry.inputs ts bs result }
 {
+    // not by `gather`: of what a function that is passed in adds up, as the faults, a proof knows nothing afterwards
     let mut reader = Reader::new(file, from);
     let mut all = [Instance::default(); MOST_INSTANCES];
     let mut count = 0;

@@ -101,6 +101,7 @@ pub fn read_types(file: &[u8], from: usize) -> Types
     requires { from ≤ length file.now }
     ensures { TypesRead file.now from result }
 {
+    // not by `gather`: the reader goes on through each type's edges
     let mut reader = Reader::new(file, from);
     let mut all = [ModuleType::default(); MOST_TYPES];
     let mut count = 0;

@@ -1,11 +1,10 @@
 -- A file's report as it is handed over: what the program holds gives pieces of it, none of which is empty before the last line. Assumes
 -- nothing.
 use Prim.Native.Nat.{ℕ, ◌≤◌, ◌<◌}
-use mathlib.Core.Path.{◌≡◌, sym, subst}
+use mathlib.Core.Path.{◌≡◌, subst}
 use mathlib.Core.List.{List}
 use native.Mathlib.Omega.{arith}
 use lib.ListN.{length}
-use Rattle.std.specs.Prelude.{Option}
 use Rattle.print_lines.specs.declared.Piece.{Piece}
 use Rattle.print_lines.proofs.PieceLaws.{piece-some}
 use Rattle.grading.specs.Buffers.{Room, room_for_all}
@@ -13,10 +12,8 @@ use Rattle.grading.specs.Grading.{grading_of}
 use Rattle.grading.specs.Promise.{Answer}
 use Rattle.print_report.specs.Report.{report_line, line_count}
 use Rattle.print_report.specs.Promise.{PieceOfReport, ReportPiece}
-use Rattle.print_report.proofs.ReportLaws.{lines_fit, report_is_lines}
-use Rattle.program_io.specs.Telling.{text_told, AllPut}
-use Rattle.program_io.specs.declared.output.Output.{Output}
-use Rattle.program_grade.specs.Handing.{grading_of_file, line_of_file, lines_of_file, report_of_file, InputsReported}
+use Rattle.print_report.proofs.ReportLaws.{lines_fit}
+use Rattle.program_grade.specs.Handing.{grading_of_file}
 use Rattle.program_grade.specs.Held.{FileHeld}
 
 -- a piece of the file's report
@@ -37,10 +34,3 @@ module _ {from : ℕ} {buffer : List ℕ} {piece : Piece} {after : List ℕ} whe
       let fits = lines_fit file room_for_all from more in
       piece-some (report_line (grading_of_file file)) (line_count (grading_of_file file)) from buffer piece after given more fits.0
       (omega (arith, fits.1, room))
-
--- its lines, one behind the other, are the report
-pub all_reported : (before after : Output) (old new : Option (List ℕ)) → AllPut (text_told line_of_file lines_of_file) before after old new
-    → InputsReported before after old new
-all_reported before after old new put =
-    let same : text_told line_of_file lines_of_file ≡ report_of_file = λ i file. sym (report_is_lines (grading_of_file file)) i in
-    subst (λ (text : List ℕ → List ℕ). AllPut text before after old new) same put

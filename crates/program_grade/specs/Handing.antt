@@ -2,7 +2,8 @@
 use Rattle.std.specs.Prelude.{ℕ, ◌≡◌, List, length, Option}
 use Rattle.print_lines.specs.Handing.{TextHandsOn, TextHanded}
 use Rattle.print_lines.specs.declared.Piece.{Piece}
-use Rattle.program_io.specs.Telling.{FilePut, InputPut, AllPut}
+use Rattle.program_io.specs.Outputs.{TextPut}
+use Rattle.program_io.specs.Telling.{InputPut, AllPut}
 use Rattle.program_io.specs.declared.output.Output.{Output}
 use Rattle.circuit.specs.Circuit.{Circuit}
 use Rattle.circuit.specs.Records.{padded}
@@ -40,15 +41,15 @@ report_of_file file = report_of (grading_of_file file)
 
 -- in a writer that says its bytes the report stands behind what stood
 abbrev pub ReportPut : List ℕ → Output → Output → Option (List ℕ) → Option (List ℕ) → Type 0
-ReportPut = FilePut report_of_file
+ReportPut file before after old new = TextPut before after old new (report_of_file file)
 
 -- and of an input nothing, or a heading and the report of some bytes
 abbrev pub InputReported : Output → Output → Option (List ℕ) → Option (List ℕ) → Type 0
-InputReported = InputPut report_of_file
+InputReported = InputPut ReportPut
 
 -- and of one input or more that of each, one behind the other
 abbrev pub InputsReported : Output → Output → Option (List ℕ) → Option (List ℕ) → Type 0
-InputsReported = AllPut report_of_file
+InputsReported = AllPut InputReported
 
 -- the rows, as numbers, of the circuit that was read
 pub record RowsRead (reading : ReadingRecord) (codes : List ℕ) : Type 0 where

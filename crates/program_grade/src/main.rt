@@ -2,14 +2,15 @@
 #![tactic(auto)]
 
 ghost use Rattle.grading.specs.Given.{Read};
-ghost use Rattle.program_grade.specs.Handing.{line_of_file, lines_of_file, InputsReported, RowsRead};
+ghost use Rattle.program_grade.specs.Handing.{line_of_file, lines_of_file, HandsOn, AllHanded, ReportPut, InputsReported, RowsRead};
 ghost use Rattle.program_grade.specs.Held.{FileHeld};
+ghost use Rattle.program_grade.specs.Told.{report_is_told};
 
 use circuit::Reading;
 use circuit::limits::{MOST_BYTES, MOST_FAULTS};
 use grade_file::grade::grade_read;
 use grade_rows::rows_of;
-use grading::Answer;
+use grading::{Answer, Counts};
 use print_lines::Piece;
 use print_report::{Held, report_piece};
 use program_io::output::Printer;
@@ -35,7 +36,7 @@ fn rows_read(reading: Reading) -> [u32; MOST_FAULTS]
     }
 }
 
-// What grading left of a file: its answer, the rows as numbers, the matrix and the classes.
+// What grading left of a file: its answer, the rows as numbers, the matrix and the classes. One is made for all files, so that its arrays are set to 0 once.
 #[derive(Drop)]
 struct Report {
     answer: Answer,
@@ -49,19 +50,18 @@ impl Telling for Report {
 
     ghost total = { lines_of_file };
 
+    ghost hands_on = { HandsOn };
+
+    ghost all_handed = { AllHanded };
+
+    ghost put = { ReportPut };
+
     ghost is_of = { λ report file. FileHeld file report.answer report.codes report.matrix report.classes };
 
-    fn of(file: &[u8]) -> Report {
+    fn hold(&mut self, file: &[u8]) {
         let reading = read_stages(file, true);
-        let mut matrix = [0u64; MOST_WORDS];
-        let mut classes = [0u16; MOST_FAULTS];
-        let answer = grade_read(reading, &mut matrix, &mut classes);
-        Report {
-            answer,
-            codes: rows_read(reading),
-            matrix,
-            classes,
-        }
+        self.answer = grade_read(reading, &mut self.matrix, &mut self.classes);
+        self.codes = rows_read(reading);
     }
 
     fn piece(&self, from: usize, out: &mut [u8]) -> Piece {
@@ -73,13 +73,25 @@ impl Telling for Report {
         };
         report_piece(&held, from, out)
     }
+
+    ghost hands_on_is = { λ file lines piece out. (λ told. told, λ told. told) };
+
+    ghost all_handed_is = { λ file lines. (λ told. told, λ told. told) };
+
+    ghost put_is = { report_is_told };
 }
 
 // Prints the report of each input.
 fn grade<R: Env + Files + Input + Eprint, W: Write>(printer: &mut Printer<R, W>, file: &mut [u8])
     ensures { InputsReported printer.old.output printer.new.output (W.contents printer.old.writer) (W.contents printer.new.writer) }
 {
-    tell_inputs::<Report, R, W>(printer, file);
+    let mut report = Report {
+        answer: Ok(Counts::default()),
+        codes: [0u32; MOST_FAULTS],
+        matrix: [0u64; MOST_WORDS],
+        classes: [0u16; MOST_FAULTS],
+    };
+    tell_inputs(printer, &mut report, file);
 }
 
 fn main(rt: HostRuntime) {

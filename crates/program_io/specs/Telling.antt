@@ -15,24 +15,25 @@ pub record PieceTold (line : ℕ → List ℕ) (total from : ℕ) (buffer : List
 abbrev pub text_told : (List ℕ → ℕ → List ℕ) → (List ℕ → ℕ) → List ℕ → List ℕ
 text_told line total file = text_from (line file) 0 (total file)
 
-module _ (text : List ℕ → List ℕ) where
-  -- in a writer that says its bytes all that a file tells stands behind what stood
-  abbrev pub FilePut : List ℕ → Output → Output → Option (List ℕ) → Option (List ℕ) → Type 0
-  FilePut file before after old new = TextPut before after old new (text file)
+-- in a writer that says its bytes all that a file tells stands behind what stood
+abbrev pub FilePut : (List ℕ → List ℕ) → List ℕ → Output → Output → Option (List ℕ) → Option (List ℕ) → Type 0
+FilePut text file before after old new = TextPut before after old new (text file)
 
-  -- and of an input nothing, or a heading and what some bytes tell. That there is nothing only where it could not be read, and that the
-  -- bytes are those that were read, is left to reading
-  abbrev pub InputPut : Output → Output → Option (List ℕ) → Option (List ℕ) → Type 0
-  InputPut before after old new =
-      ((after ≡ before) × (new ≡ old))
-      ⊎ ((headed : Output) × (mid : Option (List ℕ)) × (file : List ℕ)
-      × HeadingPut before headed old mid × FilePut file headed after mid new)
+-- and of an input nothing, or a heading and what some bytes tell. That there is nothing only where it could not be read, and that the
+-- bytes are those that were read, is left to reading
+abbrev pub InputPut : (List ℕ → Output → Output → Option (List ℕ) → Option (List ℕ) → Type 0)
+    → Output → Output → Option (List ℕ) → Option (List ℕ) → Type 0
+InputPut Put before after old new =
+    ((after ≡ before) × (new ≡ old))
+    ⊎ ((headed : Output) × (mid : Option (List ℕ)) × (file : List ℕ)
+    × HeadingPut before headed old mid × Put file headed after mid new)
 
+module _ (OnePut : Output → Output → Option (List ℕ) → Option (List ℕ) → Type 0) where
   -- and of so many inputs that of each, one behind the other
   unfoldable pub InputsPut : ℕ → Output → Output → Option (List ℕ) → Option (List ℕ) → Type 0
   InputsPut zero before after old new = (after ≡ before) × (new ≡ old)
   InputsPut (suc count) before after old new =
-      (between : Output) × (mid : Option (List ℕ)) × InputsPut count before between old mid × InputPut between after mid new
+      (between : Output) × (mid : Option (List ℕ)) × InputsPut count before between old mid × OnePut between after mid new
 
   -- a program has one input or more
   abbrev pub AllPut : Output → Output → Option (List ℕ) → Option (List ℕ) → Type 0

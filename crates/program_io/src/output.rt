@@ -20,9 +20,9 @@ pub struct Output {
 // Standard output, what is known of it, and the runtime that tells of a failure on standard error.
 #[derive(Drop)]
 pub struct Printer<'a, R, W> {
-    pub(crate) rt: &'a R,
-    pub(crate) writer: W,
-    pub(crate) output: Output,
+    pub rt: &'a R,
+    pub writer: W,
+    pub output: Output,
 }
 
 impl<'a, R: Eprint, W: Write> Printer<'a, R, W> {

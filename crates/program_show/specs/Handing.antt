@@ -3,7 +3,8 @@ use Rattle.std.specs.Prelude.{ℕ, List, length, Option}
 use Rattle.print_lines.specs.Pieces.{line_in}
 use Rattle.print_lines.specs.Handing.{TextHandsOn, TextHanded}
 use Rattle.print_lines.specs.declared.Piece.{Piece}
-use Rattle.program_io.specs.Telling.{text_told, FilePut, InputPut, AllPut}
+use Rattle.program_io.specs.Outputs.{TextPut}
+use Rattle.program_io.specs.Telling.{text_told, InputPut, AllPut}
 use Rattle.program_io.specs.declared.output.Output.{Output}
 use Rattle.print_circuit.specs.Listing.{listing_of_file}
 
@@ -28,12 +29,12 @@ listing_text = text_told listing_line listing_length
 
 -- in a writer that says its bytes the listing stands behind what stood
 abbrev pub ListingPut : List ℕ → Output → Output → Option (List ℕ) → Option (List ℕ) → Type 0
-ListingPut = FilePut listing_text
+ListingPut file before after old new = TextPut before after old new (listing_text file)
 
 -- and of an input nothing, or a heading and the listing of some bytes
 abbrev pub InputListed : Output → Output → Option (List ℕ) → Option (List ℕ) → Type 0
-InputListed = InputPut listing_text
+InputListed = InputPut ListingPut
 
 -- and of one input or more that of each, one behind the other
 abbrev pub InputsListed : Output → Output → Option (List ℕ) → Option (List ℕ) → Type 0
-InputsListed = AllPut listing_text
+InputsListed = AllPut InputListed

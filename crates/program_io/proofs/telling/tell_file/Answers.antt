@@ -6,18 +6,19 @@ use Rattle.program_io.proofs.PutLaws.{put_begins, put_piece, put_ends}
 use Rattle.program_io.proofs.telling.tell_file.Goals as goal
 
 pub loop-piece-init : goal.loop-piece-init
-loop-piece-init g c = record { held = c.of-text.ensures; handing = handing-begins refl c.requires; put = put_begins _ _ refl refl }
+loop-piece-init g c =
+    let none = c.none_handed-handed.ensures in
+    record { held = c.hold.ensures; handing = handing-begins none c.requires; put = put_begins _ _ refl none }
 
 pub hand_out-handed-requires : goal.hand_out-handed-requires
 hand_out-handed-requires g c =
     let turn = c.loop-piece.invariant in
-    hands_next turn.handing (c.piece-piece.ensures _ turn.held).given
+    (g.met.T.Telling.hands_on_is _ _ _ _).1 (hands_next turn.handing (c.piece-piece.ensures _ turn.held).given)
 
 pub loop-piece-smaller : goal.loop-piece-smaller
 loop-piece-smaller g c =
     let turn = c.loop-piece.invariant in
-    let more = less_left turn.handing (c.piece-piece.ensures _ turn.held).given (omega arith) in
-    rw c.hand_out-handed.ensures.lines more
+    less_left turn.handing (c.piece-piece.ensures _ turn.held).given (omega arith)
 
 pub loop-piece-preserved : goal.loop-piece-preserved
 loop-piece-preserved g c =
@@ -26,7 +27,7 @@ loop-piece-preserved g c =
     let handed = c.hand_out-handed.ensures in
     record {
       held = turn.held;
-      handing = rw handed.lines (handing_goes_on turn.handing given refl);
+      handing = handing_goes_on turn.handing given handed.lines;
       put = rw handed.lines (put_piece turn.put (hands_next turn.handing given) handed.put);
     }
 
@@ -34,10 +35,10 @@ pub returns-clause-handed : goal.returns-clause-handed
 returns-clause-handed g c =
     let turn = c.loop-piece.invariant in
     let told = c.piece-piece.ensures _ turn.held in
-    handing_ends turn.handing told.given told.moves (omega arith)
+    (g.met.T.Telling.all_handed_is _ _).1 (handing_ends turn.handing told.given told.moves (omega arith))
 
 pub returns-clause-put : goal.returns-clause-put
 returns-clause-put g c =
     let turn = c.loop-piece.invariant in
     let told = c.piece-piece.ensures _ turn.held in
-    put_ends _ turn.put (handing_ends turn.handing told.given told.moves (omega arith))
+    (g.met.T.Telling.put_is _ _ _ _ _).1 (put_ends _ turn.put (handing_ends turn.handing told.given told.moves (omega arith)))

@@ -9,10 +9,10 @@ use Rattle.program_io.proofs.telling.tell_file.Given as goal
 abbrev pub invariant-loop-piece : goal.invariant-loop-piece
 invariant-loop-piece g l = record {
   held : g.T.Telling.is_of l.text l.file;
-  handing : HandingOver (g.T.Telling.total l.file) l.handed.lines l.handed.lines l.initial.out l.out;
+  handing : HandingOver (g.T.Telling.total l.file) l.handed.lines l.next l.initial.out l.out;
   put : TextPut l.initial.printer.output l.printer.output (g.W.Write.contents l.initial.printer.writer) (g.W.Write.contents l.printer.writer)
       (text_from (g.T.Telling.line l.file) 0 l.handed.lines);
 }
 
 abbrev pub decreases-loop-piece : goal.decreases-loop-piece
-decreases-loop-piece g l = g.T.Telling.total l.file - l.handed.lines
+decreases-loop-piece g l = g.T.Telling.total l.file - l.next

@@ -42,14 +42,14 @@ fn one_line(reading: &Reading, n: usize, out: &mut [u8]) -> Option<usize>
     }
 }
 
-// The piece of a file's listing that begins with line `from`.
-pub fn show_piece(reading: Reading, from: usize, out: &mut [u8]) -> Piece
-    ensures { ListingPiece reading from out.old result out.new }
+// The piece of a file's listing that begins with line `from`. The record is lent: handed over it would be copied for each piece, 17 KB.
+pub fn show_piece(reading: &Reading, from: usize, out: &mut [u8]) -> Piece
+    ensures { ListingPiece reading.now from out.old result out.new }
 {
     // no range: how many lines there are is known only where one past the last is asked for
     let mut next = from;
     let mut count = 0;
-    while let Some(given) = one_line(&reading, next, &mut out[count..]) {
+    while let Some(given) = one_line(reading, next, &mut out[count..]) {
         next += 1;
         count += given;
     }

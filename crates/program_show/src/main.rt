@@ -43,7 +43,7 @@ impl Telling for Listing {
     }
 
     fn piece(&self, from: usize, out: &mut [u8]) -> Piece {
-        match self.reading {
+        match &self.reading {
             Some(reading) => show_piece(reading, from, out),
             None => Piece {
                 next: from,

@@ -46,21 +46,23 @@ fn letters_only(body: &[u8]) -> bool
     only
 }
 
-// The vector that letters tell.
+// The vector that letters tell. Two tests and no match: of a match the compiler makes jumps, and reading letters in no order takes twice the time.
 #[tactic(auto, using(crate::proofs::VectorLaws::planes))]
 fn vector_of(letters: &[u8]) -> Vector
     requires { length letters.now ≤ 64 }
     ensures { result ≡ vector_record (vector_in letters.now) }
 {
-    let mut vector = Vector::default();
-    for (i, letter) in letters.iter().enumerate() {
-        match letter {
-            b'1' => vector.ones |= 1 << i,
-            b'0' => vector.zeros |= 1 << i,
-            _ => {}
+    let mut ones: u64 = 0;
+    let mut zeros: u64 = 0;
+    for (i, &letter) in letters.iter().enumerate() {
+        if letter == b'1' {
+            ones |= 1 << i;
+        }
+        if letter == b'0' {
+            zeros |= 1 << i;
         }
     }
-    vector
+    Vector { ones, zeros }
 }
 
 // The vector of a field with this many inputs and after `count` vectors, or the first test that refuses it.

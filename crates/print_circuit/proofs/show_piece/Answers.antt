@@ -55,7 +55,7 @@ loop-given-smaller c =
     let asked = c.one_line.ensures in
     let inside = there so_far asked c.in-Some.is in
     let bytes = (given-some (asked.given inside) c.in-Some.given c.in-Some.is).count_is in
-    omega (arith, bytes, filled_at (listing_told c.args.reading) c.loop-given.next (listing_filled c.args.reading) inside, (grows so_far asked c.in-Some.is).0)
+    omega (arith, bytes, filled_at (listing_told c.args.reading.now) c.loop-given.next (listing_filled c.args.reading.now) inside, (grows so_far asked c.in-Some.is).0)
 
 pub loop-given-preserved : goal.loop-given-preserved
 loop-given-preserved c = (grows c.loop-given.invariant c.one_line.ensures c.in-Some.is).1
@@ -63,7 +63,7 @@ loop-given-preserved c = (grows c.loop-given.invariant c.one_line.ensures c.in-S
 pub returns : goal.returns
 unfolding line_in
 returns c =
-    let lines : List (List ℕ) = listing_told c.args.reading in
+    let lines : List (List ℕ) = listing_told c.args.reading.now in
     let filled : (n : ℕ) → n < length lines → 0 < length (line_in lines n) = λ (n : ℕ) (h : n < length lines). filled_at lines n (listing_filled _) h in
     let piece = ends c.loop-given.invariant c.one_line.ensures c.in_default.is in
     record {

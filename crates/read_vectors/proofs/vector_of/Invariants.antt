@@ -5,4 +5,4 @@ use Rattle.read_vectors.proofs.VectorLaws.{plane_to}
 use Rattle.read_vectors.proofs.vector_of.Given as goal
 
 abbrev pub invariant-loop-i : goal.invariant-loop-i
-invariant-loop-i l = (l.vector.ones ≡ plane_to is_at1 l.letters l.i) × (l.vector.zeros ≡ plane_to is_at0 l.letters l.i)
+invariant-loop-i l = (l.ones ≡ plane_to is_at1 l.letters l.i) × (l.zeros ≡ plane_to is_at0 l.letters l.i)

@@ -96,7 +96,7 @@ instance-given = record {
     most = λ l h. omega (arith, first-is-one l h);
   };
   placed = omega arith;
-  room = refl;
+  room = omega arith;
   codes = codes_fit [];
 }
 

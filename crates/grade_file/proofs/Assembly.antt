@@ -47,7 +47,7 @@ use Rattle.grading.proofs.MatrixLaws.{length_matrix, matrix_append}
 use Rattle.grade_rows.specs.Model.{instance_codes, RowsListed}
 use Rattle.grade_rows.proofs.InstanceCodes.{codes_long as length-codes, listed_to, listed_long, listed_at, listed_fit}
 use Rattle.grade_marks.specs.Model.{ReferencesFit, InstanceWords, instance_words, with_output, rows_words, InstanceGiven, InstanceMarked}
-use Rattle.grade_marks.proofs.Parts.{part_is}
+use Rattle.grade_marks.proofs.Parts.{part_is, written_over}
 use Rattle.grade_inputs.specs.declared.Signals.{Signals}
 use Rattle.grade_inputs.specs.Inputs.{ones_of, zeros_of, input_words}
 use Rattle.grade_marks.proofs.SignalMeaning.{signals_at, words_of, references_long, signals_start, signals_more}
@@ -448,7 +448,7 @@ module _ (m : CircuitRecord) (told : CircuitGiven m) (matrix₀ : List ℕ) (roo
 
     -- what the calls of a turn answer
     module _ (signals' : Signals) (part' : List ℕ) (its-rounds : ℕ)
-        (marked : InstanceMarked type' its.references i m.vector_count its_codes s.signals signals' part' its-rounds)
+        (marked : InstanceMarked type' its.references i m.vector_count its_codes s.signals signals' its_part part' its-rounds)
         (codes' : List ℕ)
         (keyed : codes' ≡ written codes s.from (keys_of codes (i + 1) type'.output (label_numbers its.references) s.from to))
         (rounds' : ℕ) (greatest : rounds' ≡ max s.rounds its-rounds) where
@@ -470,10 +470,17 @@ module _ (m : CircuitRecord) (told : CircuitGiven m) (matrix₀ : List ℕ) (roo
       grown : rows_before d (suc i) ≡ rows_before d i ++ new
       grown = rows_grown d i h no_instance (inst d good m is i h) refl
 
-      -- the matrix
+      -- the matrix, whose part is written over whole
+      part_room : length its_part ≡ 4 * length its_codes
+      part_room = omega (arith, length-between s.matrix (4 * s.from) (4 * to) matrix_room, its_many)
+
+      all_written : part' ≡ rows_words its_codes read.rails read.labels m.vector_count
+      unfolding rows_words
+      all_written = marked.rows_are ∙ written_over its_part _ (length-table (4 * length its_codes) _ ∙ sym part_room)
+
       texts : part' ≡ join_lists (map (row_words d) new)
       texts =
-          marked.rows_are
+          all_written
           ∙ ap (λ (r : InstanceWords). rows_words its_codes r.rails r.labels m.vector_count) words_here
           ∙ ap (rows_words its_codes its_words.rails its_words.labels) (vectors_are d m is)
           ∙ rows_words_lem d i (inst d good m is i h) (at d good m is i h) its_codes stand (omega (arith, its_many, long))
@@ -481,7 +488,7 @@ module _ (m : CircuitRecord) (told : CircuitGiven m) (matrix₀ : List ℕ) (roo
 
       part_many : length part' ≡ 4 * to - 4 * s.from
       unfolding rows_words
-      part_many = ap length marked.rows_are ∙ length-table (4 * length its_codes) _ ∙ omega (arith, its_many)
+      part_many = ap length all_written ∙ length-table (4 * length its_codes) _ ∙ omega (arith, its_many)
 
       matrix_next : put_mid (4 * s.from) (4 * to - 4 * s.from) s.matrix part' ≡ written matrix₀ 0 (matrix_to d (suc i))
       matrix_next =

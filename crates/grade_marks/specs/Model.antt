@@ -122,18 +122,20 @@ rows_word rows rails labels vectors i = bit_and (mark_word rails labels (get_or 
 unfoldable pub rows_words : List ℕ → Rails → LabelPlanes → ℕ → List ℕ
 rows_words rows rails labels vectors = table (4 * length rows) (rows_word rows rails labels vectors)
 
--- what marking an instance asks, with t its type's record: its type and references are in range, the matrix has room for its rows and no
--- more, and there is room for its output
+-- what marking an instance asks, with t its type's record: its type and references are in range, the matrix has room for its rows, and
+-- there is room for its output
 pub record InstanceGiven (t : TypeRecord) (references : List ReferenceRecord) (place : ℕ) (rows matrix : List ℕ) : Type 0 where
   pub sound : TypeGiven t
   pub tied : ReferencesFit (take t.labels references)
   pub placed : place < 128
-  pub room : length matrix ≡ 4 * length rows
+  pub room : 4 * length rows ≤ length matrix
   pub codes : CodesFit rows 0 (length rows)
 
--- an instance marked, with t its type's record: its rows are the matrix, its output's planes are put behind the signals, and its rounds
+-- an instance marked, with t its type's record: its rows are put at the front of the matrix, its output's planes behind the signals, and its
+-- rounds
 pub record InstanceMarked (t : TypeRecord) (references : List ReferenceRecord) (place vectors : ℕ) (rows : List ℕ)
-    (signals signals' : Signals) (matrix' : List ℕ) (rounds : ℕ) : Type 0 where
-  pub rows_are : let read = instance_words (type_of t) references signals in matrix' ≡ rows_words rows read.rails read.labels vectors
+    (signals signals' : Signals) (matrix matrix' : List ℕ) (rounds : ℕ) : Type 0 where
+  pub rows_are :
+      let read = instance_words (type_of t) references signals in matrix' ≡ written matrix 0 (rows_words rows read.rails read.labels vectors)
   pub signals_are : signals' ≡ with_output signals place (instance_words (type_of t) references signals).rails t.output
   pub rounds_are : rounds ≡ (instance_words (type_of t) references signals).rails.rounds

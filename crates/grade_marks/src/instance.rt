@@ -1,5 +1,6 @@
 // One instance: from each label's planes and each node's words for each rail, four words each, its rows, and the planes of its output.
-ghost use Rattle.std.specs.Prelude.{◌≡◌, ◌*◌, ◌<◌, length};
+ghost use Rattle.std.specs.Prelude.{◌≡◌, ◌*◌, ◌<◌, ◌≤◌, length};
+ghost use Rattle.words.specs.Written.{written};
 ghost use Rattle.grading.specs.Codes.{CodesFit};
 ghost use Rattle.grade_marks.specs.Model.{with_output, rows_words, InstanceGiven, InstanceMarked};
 
@@ -22,7 +23,7 @@ fn put_output(rails: &Rails, node: usize, place: usize, signals: &mut Signals)
     }
 }
 
-// Marks an instance whose nodes are joined: its rows in their part of the matrix, and its output behind the signals. The answer is the rounds that joining them took.
+// Marks an instance whose nodes are joined: its rows at the front of the matrix, and its output behind the signals. The answer is the rounds that joining them took.
 fn mark_joined(
     rails: Rails,
     labels: &LabelPlanes,
@@ -34,10 +35,10 @@ fn mark_joined(
     matrix: &mut [u64],
 ) -> usize
     requires output_bound { (output < 32) × (place < 128) }
-    requires matrix_len { length matrix.old ≡ 4 * length rows.now }
+    requires matrix_len { 4 * length rows.now ≤ length matrix.old }
     requires codes_fit { CodesFit rows.now 0 (length rows.now) }
     ensures output_put { signals.new ≡ with_output signals.old place rails output }
-    ensures rows_put { matrix.new ≡ rows_words rows.now rails labels.now vectors }
+    ensures rows_put { matrix.new ≡ written matrix.old 0 (rows_words rows.now rails labels.now vectors) }
     ensures rounds_are { result ≡ rails.rounds }
 {
     put_output(&rails, output, place, signals);
@@ -45,7 +46,7 @@ fn mark_joined(
     rails.rounds
 }
 
-// Marks the instance at a place: its rows in their part of the matrix, and its output behind the signals. The answer is the rounds that joining its nodes took.
+// Marks the instance at a place: its rows at the front of the matrix, and its output behind the signals. The answer is the rounds that joining its nodes took.
 #[tactic(auto, using(switch::proofs::Ranges::given_type))]
 pub fn mark_instance(
     t: ModuleType,
@@ -57,7 +58,7 @@ pub fn mark_instance(
     matrix: &mut [u64],
 ) -> usize
     requires { InstanceGiven t one.references place rows.now matrix.old }
-    ensures { InstanceMarked t one.references place vectors rows.now signals.old signals.new matrix.new result }
+    ensures { InstanceMarked t one.references place vectors rows.now signals.old signals.new matrix.old matrix.new result }
 {
     let labels = label_planes(&one.references[..t.labels as usize], signals);
     // joined nodes are handed over whole, so that the compiler keeps no second copy of them: as a local they take 768 bytes of stack more

@@ -1,5 +1,6 @@
 // The rows of the matrix: four words for each fault, from both rails' words of its nodes and both planes of its label.
-ghost use Rattle.std.specs.Prelude.{◌≡◌, ◌*◌, ◌<◌, length};
+ghost use Rattle.std.specs.Prelude.{◌≡◌, ◌*◌, ◌<◌, ◌≤◌, length};
+ghost use Rattle.words.specs.Written.{written};
 ghost use Rattle.grading.specs.Codes.{CodeFits, CodesFit};
 ghost use Rattle.grade_marks.specs.Model.{mark_word, vectors_in, row_under_masks, rows_words};
 
@@ -44,7 +45,7 @@ fn write_row(row: u32, masks: &[u64; 4], rails: &Rails, labels: &LabelPlanes, wo
     }
 }
 
-// The rows of an instance.
+// The rows of an instance, from the matrix's front on.
 pub fn write_rows(
     rows: &[u32],
     vectors: usize,
@@ -52,9 +53,9 @@ pub fn write_rows(
     labels: &LabelPlanes,
     matrix: &mut [u64],
 )
-    requires matrix_len { length matrix.old ≡ 4 * length rows.now }
+    requires matrix_len { 4 * length rows.now ≤ length matrix.old }
     requires codes_fit { CodesFit rows.now 0 (length rows.now) }
-    ensures { matrix.new ≡ rows_words rows.now rails.now labels.now vectors }
+    ensures { matrix.new ≡ written matrix.old 0 (rows_words rows.now rails.now labels.now vectors) }
 {
     let masks: [u64; 4] = array::from_fn(|w| vectors_in(vectors, w));
     for (r, row) in rows.iter().enumerate() {

@@ -82,7 +82,7 @@ module _ (c : In-loop-i) where
       → RowsListed c.loop-i.codes c.loop-i.from its_codes to codes
       → (signals' : Signals) (part' : List ℕ) (its-rounds : ℕ)
       → InstanceMarked its_type one.references place whole.vector_count (between c.loop-i.from to codes) c.loop-i.signals
-      signals' part' its-rounds
+      signals' (between (4 * c.loop-i.from) (4 * to) c.loop-i.matrix) part' its-rounds
       → (codes' : List ℕ)
       → codes' ≡ written codes c.loop-i.from (keys_of codes (place + 1) its_type.output (label_numbers one.references) c.loop-i.from to)
       → (rounds' : ℕ) → rounds' ≡ max c.loop-i.rounds its-rounds

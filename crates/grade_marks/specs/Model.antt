@@ -131,11 +131,12 @@ pub record InstanceGiven (t : TypeRecord) (references : List ReferenceRecord) (p
   pub room : 4 * length rows ≤ length matrix
   pub codes : CodesFit rows 0 (length rows)
 
--- an instance marked, with t its type's record: its rows are put at the front of the matrix, its output's planes behind the signals, and its
--- rounds
+-- an instance marked, with t its type's record: its rows are put at the front of the matrix, its output's planes behind the signals, and
+-- its rounds
 pub record InstanceMarked (t : TypeRecord) (references : List ReferenceRecord) (place vectors : ℕ) (rows : List ℕ)
     (signals signals' : Signals) (matrix matrix' : List ℕ) (rounds : ℕ) : Type 0 where
   pub rows_are :
-      let read = instance_words (type_of t) references signals in matrix' ≡ written matrix 0 (rows_words rows read.rails read.labels vectors)
+      let read = instance_words (type_of t) references signals in
+      matrix' ≡ written matrix 0 (rows_words rows read.rails read.labels vectors)
   pub signals_are : signals' ≡ with_output signals place (instance_words (type_of t) references signals).rails t.output
   pub rounds_are : rounds ≡ (instance_words (type_of t) references signals).rails.rounds

@@ -100,6 +100,11 @@ unique = record {
     asks_nothing = λ κs a. tt;
     one_outcome = λ κs a asked one other p q. both (tag_once one.0 other.0 (p ∙ sym q)) refl;
   };
+  switch_edge_default = record {
+    asks_nothing = λ κs a. tt;
+    one_outcome = λ κs a asked one other p q. both (λ i. record { code = (p ∙ sym q) i }) refl;
+  };
+  switch_module_type_default = record { asks_nothing = λ κs a. tt; one_outcome = λ κs a asked one other p q. both (p ∙ sym q) refl };
   join_nodes_complementary = record {
     can_be_met = λ κs. ((lent [], (2, (2, (1, tt)))), edges-given);
     one_outcome = λ κs a asked one other p q. both (p ∙ sym q) refl;
@@ -121,8 +126,28 @@ unique = record {
     asks_nothing = λ κs a. tt;
     one_outcome = λ κs a asked one other p q. both (tag_once one.0 other.0 (p ∙ sym q)) refl;
   };
+  circuit_kind_from = record { asks_nothing = λ κs a. tt; one_outcome = λ κs a asked one other p q. both (p ∙ sym q) refl };
   circuit_refusal_number = record { asks_nothing = λ κs a. tt; one_outcome = λ κs a asked one other p q. both (p ∙ sym q) refl };
   circuit_refusal_place = record { asks_nothing = λ κs a. tt; one_outcome = λ κs a asked one other p q. both (p ∙ sym q) refl };
+  circuit_bridge_default = record {
+    asks_nothing = λ κs a. tt;
+    one_outcome = λ κs a asked one other p q.
+        both
+        (λ i. record {
+          list = (p.0 ∙ sym q.0) i;
+          kind = (p.1.0 ∙ sym q.1.0) i;
+          first = (p.1.1.0 ∙ sym q.1.1.0) i;
+          second = (p.1.1.1 ∙ sym q.1.1.1) i;
+        })
+        refl;
+  };
+  circuit_reference_default = record { asks_nothing = λ κs a. tt; one_outcome = λ κs a asked one other p q. both (p ∙ sym q) refl };
+  circuit_instance_default = record { asks_nothing = λ κs a. tt; one_outcome = λ κs a asked one other p q. both (p ∙ sym q) refl };
+  circuit_vector_default = record {
+    asks_nothing = λ κs a. tt;
+    one_outcome = λ κs a asked one other p q.
+        both (λ i. record { ones = (p.0 ∙ sym q.0) i; zeros = (p.1 ∙ sym q.1) i }) refl;
+  };
   read_fields_field_byte = record { asks_nothing = λ κs a. tt; one_outcome = λ κs a asked one other p q. both (p ∙ sym q) refl };
   read_fields_field_two_bytes = record { asks_nothing = λ κs a. tt; one_outcome = λ κs a asked one other p q. both (p ∙ sym q) refl };
   read_fields_step_of_kind = record { asks_nothing = λ κs a. tt; one_outcome = λ κs a asked one other p q. both (p ∙ sym q) refl };
@@ -149,6 +174,11 @@ unique = record {
     one_outcome = λ κs a listed one other p q.
         both (p listed.bridges listed.within listed.ranges listed.are ∙ sym (q listed.bridges listed.within listed.ranges listed.are)) refl;
   };
+  read_bridges_list_sum_default = record {
+    asks_nothing = λ κs a. tt;
+    one_outcome = λ κs a asked one other p q.
+        both (λ i. record { count = (p.0 ∙ sym q.0) i; nodes = (p.1.0 ∙ sym q.1.0) i; labels = (p.1.1 ∙ sym q.1.1) i }) refl;
+  };
   read_bridges_read_bridges = record {
     can_be_met = λ κs. ((lent [], (0, tt)), omega arith);
     one_outcome = λ κs a asked one other p q. both (bridges_once a.0.now a.1.0 one.0 other.0 p q) refl;
@@ -171,6 +201,20 @@ unique = record {
   };
   grading_ungraded_number = record { asks_nothing = λ κs a. tt; one_outcome = λ κs a asked one other p q. both (p ∙ sym q) refl };
   grading_ungraded_place = record { asks_nothing = λ κs a. tt; one_outcome = λ κs a asked one other p q. both (p ∙ sym q) refl };
+  grading_counts_default = record {
+    asks_nothing = λ κs a. tt;
+    one_outcome = λ κs a asked one other p q.
+        both
+        (λ i. record {
+          vectors = (p.0 ∙ sym q.0) i;
+          faults = (p.1.0 ∙ sym q.1.0) i;
+          classes = (p.1.1.0 ∙ sym q.1.1.0) i;
+          found = (p.1.1.1.0 ∙ sym q.1.1.1.0) i;
+          rounds = (p.1.1.1.1 ∙ sym q.1.1.1.1) i;
+        })
+        refl;
+  };
+  grading_ungraded_from = record { asks_nothing = λ κs a. tt; one_outcome = λ κs a asked one other p q. both (p ∙ sym q) refl };
   grading_number_of = record { asks_nothing = λ κs a. tt; one_outcome = λ κs a asked one other p q. both (p ∙ sym q) refl };
   grading_place_of = record { asks_nothing = λ κs a. tt; one_outcome = λ κs a asked one other p q. both (p ∙ sym q) refl };
   grading_counts_of = record {
@@ -264,6 +308,11 @@ unique = record {
     asks_nothing = λ κs a. tt;
     one_outcome = λ κs a asked one other p q.
         let same = one_piece _ _ _ _ _ _ _ _ p.of_held q.of_held in both same.0 (λ i. (tt, (tt, (same.1 i, tt))));
+  };
+  program_io_output_default = record {
+    asks_nothing = λ κs a. tt;
+    one_outcome = λ κs a asked one other p q.
+        both (λ i. record { is_lost = (p.0 ∙ sym q.0) i; has_report = (p.1 ∙ sym q.1) i }) refl;
   };
   print_circuit_show_piece = record {
     asks_nothing = λ κs a. tt;

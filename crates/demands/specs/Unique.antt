@@ -39,6 +39,10 @@ use Rattle.switch.specs.contracts.Edge.is_p as switch_edge_is_p
 use Rattle.switch.proofs.Edge.is_p.Reads as switch_edge_is_p_reads
 use Rattle.switch.specs.contracts.Edge.is_stated as switch_edge_is_stated
 use Rattle.switch.proofs.Edge.is_stated.Reads as switch_edge_is_stated_reads
+use Rattle.switch.specs.contracts.EdgeDefault.default as switch_edge_default
+use Rattle.switch.proofs.EdgeDefault.default.Reads as switch_edge_default_reads
+use Rattle.switch.specs.contracts.ModuleTypeDefault.default as switch_module_type_default
+use Rattle.switch.proofs.ModuleTypeDefault.default.Reads as switch_module_type_default_reads
 use Rattle.join_nodes.specs.contracts.complementary.complementary as join_nodes_complementary
 use Rattle.join_nodes.proofs.complementary.complementary.Reads as join_nodes_complementary_reads
 use Rattle.join_nodes.specs.contracts.complementary.check_type as join_nodes_check_type
@@ -51,10 +55,20 @@ use Rattle.join_nodes.specs.contracts.rails.output_planes as join_nodes_output_p
 use Rattle.join_nodes.proofs.rails.output_planes.Reads as join_nodes_output_planes_reads
 use Rattle.circuit.specs.contracts.order.states_channel as circuit_states_channel
 use Rattle.circuit.proofs.order.states_channel.Reads as circuit_states_channel_reads
+use Rattle.circuit.specs.contracts.order.KindFromU8.from as circuit_kind_from
+use Rattle.circuit.proofs.order.KindFromU8.from.Reads as circuit_kind_from_reads
 use Rattle.circuit.specs.contracts.refusal.Refusal.number as circuit_refusal_number
 use Rattle.circuit.proofs.refusal.Refusal.number.Reads as circuit_refusal_number_reads
 use Rattle.circuit.specs.contracts.refusal.Refusal.place as circuit_refusal_place
 use Rattle.circuit.proofs.refusal.Refusal.place.Reads as circuit_refusal_place_reads
+use Rattle.circuit.specs.contracts.BridgeDefault.default as circuit_bridge_default
+use Rattle.circuit.proofs.BridgeDefault.default.Reads as circuit_bridge_default_reads
+use Rattle.circuit.specs.contracts.ReferenceDefault.default as circuit_reference_default
+use Rattle.circuit.proofs.ReferenceDefault.default.Reads as circuit_reference_default_reads
+use Rattle.circuit.specs.contracts.InstanceDefault.default as circuit_instance_default
+use Rattle.circuit.proofs.InstanceDefault.default.Reads as circuit_instance_default_reads
+use Rattle.circuit.specs.contracts.VectorDefault.default as circuit_vector_default
+use Rattle.circuit.proofs.VectorDefault.default.Reads as circuit_vector_default_reads
 use Rattle.read_fields.specs.contracts.Field.byte as read_fields_field_byte
 use Rattle.read_fields.proofs.Field.byte.Reads as read_fields_field_byte_reads
 use Rattle.read_fields.specs.contracts.Field.two_bytes as read_fields_field_two_bytes
@@ -71,6 +85,8 @@ use Rattle.read_types.specs.contracts.types.read_types as read_types_read_types
 use Rattle.read_types.proofs.types.read_types.Reads as read_types_read_types_reads
 use Rattle.read_bridges.specs.contracts.lists.lists_of as read_bridges_lists_of
 use Rattle.read_bridges.proofs.lists.lists_of.Reads as read_bridges_lists_of_reads
+use Rattle.read_bridges.specs.contracts.lists.ListSumDefault.default as read_bridges_list_sum_default
+use Rattle.read_bridges.proofs.lists.ListSumDefault.default.Reads as read_bridges_list_sum_default_reads
 use Rattle.read_bridges.specs.contracts.read_bridges as read_bridges_read_bridges
 use Rattle.read_bridges.proofs.read_bridges.Reads as read_bridges_read_bridges_reads
 use Rattle.read_instances.specs.contracts.read_instances as read_instances_read_instances
@@ -85,6 +101,10 @@ use Rattle.grading.specs.contracts.Ungraded.number as grading_ungraded_number
 use Rattle.grading.proofs.Ungraded.number.Reads as grading_ungraded_number_reads
 use Rattle.grading.specs.contracts.Ungraded.place as grading_ungraded_place
 use Rattle.grading.proofs.Ungraded.place.Reads as grading_ungraded_place_reads
+use Rattle.grading.specs.contracts.CountsDefault.default as grading_counts_default
+use Rattle.grading.proofs.CountsDefault.default.Reads as grading_counts_default_reads
+use Rattle.grading.specs.contracts.UngradedFromRefusal.from as grading_ungraded_from
+use Rattle.grading.proofs.UngradedFromRefusal.from.Reads as grading_ungraded_from_reads
 use Rattle.grading.specs.contracts.answers.number_of as grading_number_of
 use Rattle.grading.proofs.answers.number_of.Reads as grading_number_of_reads
 use Rattle.grading.specs.contracts.answers.place_of as grading_place_of
@@ -127,6 +147,8 @@ use Rattle.print_report.specs.contracts.rounds_line as print_report_rounds_line
 use Rattle.print_report.proofs.rounds_line.Reads as print_report_rounds_line_reads
 use Rattle.print_report.specs.contracts.report_piece as print_report_report_piece
 use Rattle.print_report.proofs.report_piece.Reads as print_report_report_piece_reads
+use Rattle.program_io.specs.contracts.output.OutputDefault.default as program_io_output_default
+use Rattle.program_io.proofs.output.OutputDefault.default.Reads as program_io_output_default_reads
 use Rattle.print_circuit.specs.contracts.show_piece as print_circuit_show_piece
 use Rattle.print_circuit.proofs.show_piece.Reads as print_circuit_show_piece_reads
 use Rattle.togyamiru.specs.contracts.togyamiru_grade as togyamiru_grade
@@ -200,6 +222,9 @@ pub record Unique : Type 0 where
   pub switch_edge_gate : Sole switch_edge_gate.ended switch_edge_gate_reads.Asked switch_edge_gate_reads.Learnt
   pub switch_edge_is_p : Sole switch_edge_is_p.ended switch_edge_is_p_reads.Asked switch_edge_is_p_reads.Learnt
   pub switch_edge_is_stated : Sole switch_edge_is_stated.ended switch_edge_is_stated_reads.Asked switch_edge_is_stated_reads.Learnt
+  pub switch_edge_default : Sole switch_edge_default.ended switch_edge_default_reads.Asked switch_edge_default_reads.Learnt
+  pub switch_module_type_default :
+      Sole switch_module_type_default.ended switch_module_type_default_reads.Asked switch_module_type_default_reads.Learnt
   pub join_nodes_complementary :
       SoleWhereMet join_nodes_complementary.ended join_nodes_complementary_reads.Asked join_nodes_complementary_reads.Learnt
   pub join_nodes_check_type : SoleWhereMet join_nodes_check_type.ended join_nodes_check_type_reads.Asked join_nodes_check_type_reads.Learnt
@@ -208,8 +233,15 @@ pub record Unique : Type 0 where
   pub join_nodes_output_planes :
       Sole join_nodes_output_planes.ended join_nodes_output_planes_reads.Asked join_nodes_output_planes_reads.Learnt
   pub circuit_states_channel : Sole circuit_states_channel.ended circuit_states_channel_reads.Asked circuit_states_channel_reads.Learnt
+  pub circuit_kind_from : Sole circuit_kind_from.ended circuit_kind_from_reads.Asked circuit_kind_from_reads.Learnt
   pub circuit_refusal_number : Sole circuit_refusal_number.ended circuit_refusal_number_reads.Asked circuit_refusal_number_reads.Learnt
   pub circuit_refusal_place : Sole circuit_refusal_place.ended circuit_refusal_place_reads.Asked circuit_refusal_place_reads.Learnt
+  pub circuit_bridge_default : Sole circuit_bridge_default.ended circuit_bridge_default_reads.Asked circuit_bridge_default_reads.Learnt
+  pub circuit_reference_default :
+      Sole circuit_reference_default.ended circuit_reference_default_reads.Asked circuit_reference_default_reads.Learnt
+  pub circuit_instance_default :
+      Sole circuit_instance_default.ended circuit_instance_default_reads.Asked circuit_instance_default_reads.Learnt
+  pub circuit_vector_default : Sole circuit_vector_default.ended circuit_vector_default_reads.Asked circuit_vector_default_reads.Learnt
   pub read_fields_field_byte : Sole read_fields_field_byte.ended read_fields_field_byte_reads.Asked read_fields_field_byte_reads.Learnt
   pub read_fields_field_two_bytes :
       Sole read_fields_field_two_bytes.ended read_fields_field_two_bytes_reads.Asked read_fields_field_two_bytes_reads.Learnt
@@ -224,6 +256,8 @@ pub record Unique : Type 0 where
       (λ κs. found_at)
   pub read_types_read_types : SoleWhereMet read_types_read_types.ended read_types_read_types_reads.Asked read_types_read_types_reads.Learnt
   pub read_bridges_lists_of : SoleWhereMet read_bridges_lists_of.ended read_bridges_lists_of_reads.Asked read_bridges_lists_of_reads.Learnt
+  pub read_bridges_list_sum_default :
+      Sole read_bridges_list_sum_default.ended read_bridges_list_sum_default_reads.Asked read_bridges_list_sum_default_reads.Learnt
   pub read_bridges_read_bridges :
       SoleWhereMet read_bridges_read_bridges.ended read_bridges_read_bridges_reads.Asked read_bridges_read_bridges_reads.Learnt
   pub read_instances_read_instances :
@@ -234,6 +268,8 @@ pub record Unique : Type 0 where
   pub read_file_read : Sole read_file_read.ended read_file_read_reads.Asked read_file_read_reads.Learnt
   pub grading_ungraded_number : Sole grading_ungraded_number.ended grading_ungraded_number_reads.Asked grading_ungraded_number_reads.Learnt
   pub grading_ungraded_place : Sole grading_ungraded_place.ended grading_ungraded_place_reads.Asked grading_ungraded_place_reads.Learnt
+  pub grading_counts_default : Sole grading_counts_default.ended grading_counts_default_reads.Asked grading_counts_default_reads.Learnt
+  pub grading_ungraded_from : Sole grading_ungraded_from.ended grading_ungraded_from_reads.Asked grading_ungraded_from_reads.Learnt
   pub grading_number_of : Sole grading_number_of.ended grading_number_of_reads.Asked grading_number_of_reads.Learnt
   pub grading_place_of : Sole grading_place_of.ended grading_place_of_reads.Asked grading_place_of_reads.Learnt
   pub grading_counts_of : Sole grading_counts_of.ended grading_counts_of_reads.Asked grading_counts_of_reads.Learnt
@@ -262,6 +298,8 @@ pub record Unique : Type 0 where
       Sole print_report_rounds_line.ended print_report_rounds_line_reads.Asked print_report_rounds_line_reads.Learnt
   pub print_report_report_piece :
       Sole print_report_report_piece.ended print_report_report_piece_reads.Asked print_report_report_piece_reads.Learnt
+  pub program_io_output_default :
+      Sole program_io_output_default.ended program_io_output_default_reads.Asked program_io_output_default_reads.Learnt
   pub print_circuit_show_piece :
       Sole print_circuit_show_piece.ended print_circuit_show_piece_reads.Asked print_circuit_show_piece_reads.Learnt
   pub togyamiru_grade : Sole togyamiru_grade.ended togyamiru_grade_reads.Asked togyamiru_grade_reads.Learnt

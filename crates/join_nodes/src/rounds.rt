@@ -51,7 +51,7 @@ impl<const W: usize> Network<'_, W> {
     }
 
     // The same, in words that were 0. Where callers hand the second list in, the compiler does not see that the two are apart, and grading is a third slower.
-    pub fn join_rail<const N: usize>(&self, rail: usize, joined: &mut [u64; N]) -> usize
+    pub(crate) fn join_rail<const N: usize>(&self, rail: usize, joined: &mut [u64; N]) -> usize
         requires rail_lt_most_nodes { rail < most_nodes }
         requires joined_value { joined.old ≡ replicate (W * most_nodes) 0 }
         ensures { WideJoined self.now.edges.now self.now.planes.now W rail joined.new result }

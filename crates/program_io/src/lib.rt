@@ -1,7 +1,7 @@
 // Input and output of the programs: files read into a lent buffer, text written to standard output, and messages on standard error.
 #![tactic(auto)]
 
-mod handing;
+pub mod handing;
 pub mod input;
 pub mod inputs;
 mod message;

@@ -6,8 +6,7 @@ ghost use Rattle.program_io.specs.declared.output.Output.{Output as OutputRecord
 ghost use Rattle.program_io.specs.Inputs.{heading_room};
 ghost use Rattle.program_io.specs.Telling.{PieceTold, text_told, FilePut, InputPut, AllPut};
 
-pub use crate::handing::Handed;
-use crate::handing::{hand_out, none_handed};
+use crate::handing::{Handed, hand_out, none_handed};
 use crate::inputs::{head_input, input_count, read_input};
 use crate::output::{OUT_ROOM, Printer};
 use print_lines::Piece;

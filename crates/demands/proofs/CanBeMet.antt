@@ -25,6 +25,7 @@ use Rattle.circuit.proofs.Tested.{each_none}
 use Rattle.read_bridges.specs.ListSums.{lists_of, ListedBridges}
 use Rattle.read_instances.specs.ReadInstances.{HeldAt}
 use Rattle.read_instances.specs.declared.Held.{Held}
+use Rattle.read_instances.proofs.InstanceLaws.{named}
 use Rattle.grading.specs.Codes.{CodesFit}
 use Rattle.grading.specs.Given.{CircuitGiven, Read}
 use Rattle.grade_rows.specs.Model.{instance_codes}
@@ -63,7 +64,18 @@ held_none = record { inputs = 0; types = lent []; lists = lent (lists_of []) }
 
 pub held-at-none : HeldAt held_none
 unfolding computing
-held-at-none = record { types = []; bridges = []; told = record { are = refl; good = each_none _; few = omega arith; summed = refl } }
+held-at-none = record {
+  types = [];
+  bridges = [];
+  told = record {
+    counted = refl;
+    nodes_of = λ n. (named [] [] refl n).highest;
+    labels_by_number = λ n. (named [] [] refl n).labels;
+    good = each_none _;
+    few = omega arith;
+    summed = refl;
+  };
+}
 
 -- the codes of no rows
 pub codes_fit : (rows : List ℕ) → CodesFit rows 0 0

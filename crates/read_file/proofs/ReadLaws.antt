@@ -53,6 +53,7 @@ use Rattle.circuit.proofs.TypeLaws.{take_padded}
 use Rattle.circuit.proofs.BeforeLaws.{stage-types}
 use Rattle.circuit.proofs.GatheredLaws.{gathered_is_before}
 use Rattle.read_fields.proofs.Cuts.{cut_clean}
+use Rattle.read_instances.proofs.InstanceLaws.{named}
 
 -- ---- the empty circuit
 
@@ -142,12 +143,17 @@ bridges_read bridges =
 pub held_to : {file : List ℕ} {from : ℕ} {t : Types} {b : Bridges} (types : TypesRead file from t) (bridges : BridgesRead file t.at b)
     (held : Held) → held.types.now ≡ take t.count t.all → SummedTo (take b.count b.all) held.lists.now
     → TypesAndLists types.types bridges.bridges held
-held_to {t = t} {b} types bridges held are summed = record {
-  are = are ∙ types_read types;
-  good = (stage-types _ _ types.types _ types.stage).each;
-  few = bridges.within;
-  summed = summed bridges.bridges bridges.within bridges.ranges (bridges_read bridges);
-}
+held_to {t = t} {b} types bridges held are summed =
+    let all = are ∙ types_read types in
+    let tells = named held.types.now types.types all in
+    record {
+      counted = ap length all ∙ length-map types.types type_record;
+      nodes_of = λ n. (tells n).highest;
+      labels_by_number = λ n. (tells n).labels;
+      good = (stage-types _ _ types.types _ types.stage).each;
+      few = bridges.within;
+      summed = summed bridges.bridges bridges.within bridges.ranges (bridges_read bridges);
+    }
 
 module _ (wanted : Bool) {file : List ℕ} {s : Start} (start : StartRead wanted file s)
     {t : Types} (types : TypesRead file s.at t)

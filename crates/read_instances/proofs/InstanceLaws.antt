@@ -1,7 +1,7 @@
 -- The laws of an instance field: what its type and its list choice give, that the tests on what the code is held to are those of the table,
 -- and what holds of a field that passes them.
 use Prim.Native.Nat.{ℕ, zero, suc, ◌+◌, ◌*◌, ◌%◌, ◌<◌, ◌≤◌}
-use mathlib.Core.Path.{◌≡◌, refl, sym, ap, ◌∙◌}
+use mathlib.Core.Path.{◌≡◌, refl, sym, ◌∙◌}
 use mathlib.Core.Bool.{Bool, true, false, cond, not, ◌&&◌}
 use mathlib.Core.List.{List, [], ◌∷◌, map}
 use native.Mathlib.Decide.{dec_lt}
@@ -65,13 +65,13 @@ given t bridges b = go b (ltb b 128) refl
           empty-count (user_list (suc c) bridges),
         )
 
--- ---- the types by their records
+-- ---- what the records of types tell, for a caller that lends those of whole types
 
-record Named (r : TypeRecord) (t : ModuleType) : Type 0 where
-  highest : r.highest ≡ t.highest
-  labels : r.labels ≡ t.labels
+pub record Named (r : TypeRecord) (t : ModuleType) : Type 0 where
+  pub highest : r.highest ≡ t.highest
+  pub labels : r.labels ≡ t.labels
 
-named : (records : List TypeRecord) (types : List ModuleType) → records ≡ map type_record types
+pub named : (records : List TypeRecord) (types : List ModuleType) → records ≡ map type_record types
     → (n : ℕ) → Named (numbered records n unused_type) (numbered types n no_type)
 unfolding numbered type_record
 named records types are zero = record { highest = refl; labels = refl }
@@ -90,16 +90,14 @@ module _ {types : List ModuleType} {bridges : List Listed} {held : Held} (told :
   pub given_is : given_in held body ≡ meant (type_of_instance types (instance_in body)) bridges (instance_in body).choice
   unfolding instance_in
   given_is =
-      let t = named held.types.now types told.are (get_or body 0 0) in
-      rw (t.highest, t.labels, told.summed) (given (numbered types (get_or body 0 0) no_type) bridges (get_or body 1 0))
+      let n = get_or body 0 0 in
+      rw (told.nodes_of n, told.labels_by_number n, told.summed) (given (numbered types n no_type) bridges (get_or body 1 0))
 
   -- and the tests on it are those of the table
   pub gathered : (at : ℕ) (is : List Instance) (count faults : ℕ) → count ≡ length is → faults ≡ fault_count types bridges is
       → held_tests held count faults at body ≡ instance_tests (read_to held.inputs types bridges is) at body
   unfolding instance_tests_of instance_tests instance_in
-  gathered at is count faults ec ef =
-      let t = named held.types.now types told.are (get_or body 0 0) in
-      rw (given_is, t.labels, ap length told.are, length-map types type_record, ec, ef)
+  gathered at is count faults ec ef = rw (given_is, told.labels_by_number (get_or body 0 0), told.counted, ec, ef)
 
 -- ---- the tests as the code looks at them
 

@@ -3,8 +3,8 @@ use Rattle.std.specs.Prelude.{ℕ, ◌≤◌, ◌≡◌, List, [], map, length}
 use Rattle.switch.specs.Modules.{ModuleType}
 use Rattle.circuit.specs.Limits.{most_bridges, most_instances}
 use Rattle.circuit.specs.Fields.{cut_from}
-use Rattle.circuit.specs.Circuit.{Instance, Listed, fault_count}
-use Rattle.circuit.specs.Records.{padded, type_record, unused_instance, instance_record}
+use Rattle.circuit.specs.Circuit.{Instance, Listed, numbered, no_type, fault_count}
+use Rattle.circuit.specs.Records.{padded, unused_type, unused_instance, instance_record}
 use Rattle.circuit.specs.Refusals.{verdict_of}
 use Rattle.circuit.specs.Laws.{Each, TypeGood}
 use Rattle.circuit.specs.Stages.{stage_of, instance_stage}
@@ -12,9 +12,11 @@ use Rattle.read_bridges.specs.ListSums.{lists_of}
 use Rattle.read_instances.specs.declared.Instances.{Instances}
 use Rattle.read_instances.specs.declared.Held.{Held}
 
--- what the code's records and sums tell of types and bridges
+-- what the code's records and sums tell of types and bridges: of a type only its highest node and its number of labels
 pub record TypesAndLists (types : List ModuleType) (bridges : List Listed) (held : Held) : Type 0 where
-  pub are : held.types.now ≡ map type_record types
+  pub counted : length held.types.now ≡ length types
+  pub nodes_of : (n : ℕ) → (numbered held.types.now n unused_type).highest ≡ (numbered types n no_type).highest
+  pub labels_by_number : (n : ℕ) → (numbered held.types.now n unused_type).labels ≡ (numbered types n no_type).labels
   pub good : Each (λ (i : ℕ) (t : ModuleType). TypeGood t) types
   pub few : length bridges ≤ most_bridges
   pub summed : held.lists.now ≡ lists_of bridges

@@ -7,7 +7,7 @@ use Rattle.words.specs.Bits.{bit, of_bool, word, greatest_to}
 use Rattle.words.specs.Each.{word_of_each}
 use Rattle.words.specs.Tables.{table}
 use Rattle.switch.specs.Conduction.{Channel, channel_p, channel_n, channel_by, by_position, Edge, Link, Among}
-use Rattle.switch.specs.Modules.{ModuleType, most_nodes, most_labels}
+use Rattle.switch.specs.Modules.{ModuleType, most_nodes, most_labels, most_edges}
 use Rattle.switch.specs.Deciding.{joins}
 use Rattle.switch.specs.Depth.{depth}
 use Rattle.switch.specs.Records.{first_node_in, second_node_in, gate_in}
@@ -26,6 +26,14 @@ parts_of e = record { first = first_node_in e; second = second_node_in e; gate =
 -- what is read past the last edge
 abbrev pub no_parts : Parts
 no_parts = record { first = 0; second = 0; gate = 0 }
+
+-- what stands in a place without an edge: no edge has this gate
+abbrev pub unused_parts : Parts
+unused_parts = record { first = 0; second = 0; gate = most_gates }
+
+-- the places of a list: the parts of its edges, and what stands in those behind them
+abbrev pub parts_in_places : List EdgeRecord → List Parts
+parts_in_places es = map parts_of es ++ replicate (most_edges - length es) unused_parts
 
 -- the edge that has these parts. They have no tag, since a tag conducts nothing: this is the edge without its tag
 unfoldable pub edge_with_parts : Parts → Edge

@@ -37,11 +37,13 @@ impl<const W: usize> Network<'_, W> {
     fn joined_to(&self, rail: usize, joined: &mut [u64], next: &mut [u64]) -> usize
         requires rail_lt_most_nodes { rail < most_nodes }
         requires joined_value { (joined.old ≡ rail_alone W rail) × (next.old ≡ rail_alone W rail) }
-        ensures { WideJoined self.now.edges.now self.now.planes.now W rail joined.new result }
+        ensures told { WideJoined self.now.edges.now self.now.planes.now W rail joined.new result }
+        ensures next_value { next.new ≡ joined.new }
     {
         let nodes = self.highest as usize + 1;
         let mut rounds = 0;
-        loop {
+        // labelled, so that its name in the proofs is the same whatever is done behind it
+        'turns: loop {
             self.round(joined, next);
             if !settle(joined, next, W * nodes) {
                 return rounds;

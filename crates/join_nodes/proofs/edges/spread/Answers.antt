@@ -1,25 +1,35 @@
--- `join_nodes::edges::spread` meets its contract. The loop's invariant: the first `i` places hold the parts of the first `i` edges.
--- Assumes nothing.
-use Rattle.std.proofs.Common.{◌≡◌, ◌<◌, ◌+◌, ℕ, List, [], ◌∷◌, ◌++◌, length, get_or, take, map, ap, sym, ◌∙◌, arith}
-use Rattle.std.proofs.lemmas.List.{take_more_set, map_more}
-use lib.ListN.{set, length-set}
+-- `join_nodes::edges::spread` meets its contract. The loop's invariant: the first `i` places hold the parts of the first `i` edges, and
+-- the others are unused. Assumes nothing.
+use Rattle.std.proofs.Common.{◌≡◌, ◌<◌, ◌+◌, ◌-◌, ℕ, suc, List, [], ◌∷◌, ◌++◌, length, get_or, take, map, replicate}
+use Rattle.std.proofs.Common.{ap, refl, sym, ◌∙◌, append_assoc, arith}
+use Rattle.std.proofs.lemmas.List.{map_more}
+use Rattle.std.proofs.Math.Seq.{set-append_seam}
+use lib.ListN.{set, length-map, length-take}
 use Rattle.switch.specs.Records.{no_edge}
 use Rattle.switch.specs.declared.Edge.{Edge}
-use Rattle.join_nodes.specs.Model.{parts_of}
+use Rattle.join_nodes.specs.Model.{parts_of, unused_parts}
 use Rattle.join_nodes.specs.declared.edges.Parts.{Parts}
 use Rattle.join_nodes.proofs.edges.spread.Goals as goal
 
--- the parts of one edge more
-more-parts : (edges : List Edge) (parts : List Parts) (i : ℕ) → i < length parts → i < length edges
-    → take i parts ≡ map parts_of (take i edges)
-    → take (i + 1) (set parts i (parts_of (get_or edges i no_edge))) ≡ map parts_of (take (i + 1) edges)
-more-parts edges parts i room h before =
-    take_more_set parts i _ room
-    ∙ ap (λ (front : List Parts). front ++ parts_of (get_or edges i no_edge) ∷ []) before
-    ∙ sym (map_more parts_of edges i no_edge h)
+-- the parts of one edge more, where `left` places are unused behind it
+more-parts : (edges : List Edge) (i left : ℕ) → i < length edges
+    → set (map parts_of (take i edges) ++ replicate (suc left) unused_parts) i (parts_of (get_or edges i no_edge))
+    ≡ map parts_of (take (i + 1) edges) ++ replicate left unused_parts
+more-parts edges i left h =
+    let front = map parts_of (take i edges) in
+    let p : Parts = parts_of (get_or edges i no_edge) in
+    let behind = replicate left unused_parts in
+    let long : length front ≡ i = simp (length-map, length-take) (omega arith) in
+    ap (λ n. set (front ++ unused_parts ∷ behind) n p) (sym long)
+    ∙ set-append_seam front unused_parts behind p
+    ∙ sym (append_assoc front (p ∷ []) behind)
+    ∙ ap (λ (parts : List Parts). parts ++ behind) (sym (map_more parts_of edges i no_edge h))
+
+pub loop-i-init : goal.loop-i-init
+loop-i-init c = refl
 
 pub loop-i-preserved : goal.loop-i-preserved
-loop-i-preserved c = (
-  simp length-set c.loop-i.invariant.0,
-  rw c.from.ensures (more-parts c.args.edges.now c.loop-i.parts c.loop-i.i (omega arith) (omega arith) c.loop-i.invariant.1),
-)
+loop-i-preserved c =
+    let left : ℕ = 256 - (c.loop-i.i + 1) in
+    let one : 256 - c.loop-i.i ≡ suc left = omega arith in
+    rw (c.from.ensures, c.loop-i.invariant, one) (more-parts c.args.edges.now c.loop-i.i left c.loop-i-test.true)

@@ -13,13 +13,13 @@ use Rattle.join_nodes.proofs.rails.joining.Goals as goal
 pub invariant_of-network-clause-fit : goal.invariant_of-network-clause-fit
 invariant_of-network-clause-fit c =
     let a = c.args in
-    rw c.spread-parts.ensures (parts_fit a.highest a.output a.labels a.edges.now c.requires)
+    rw c.spread-parts.ensures.front (parts_fit a.highest a.output a.labels a.edges.now c.requires)
 
 pub returns : goal.returns
 unfolding type_with
 returns c =
     let a = c.args in
     let fit : PartsFit (take (length a.edges.now) c.spread-parts.result) (a.highest + 1)
-    = rw c.spread-parts.ensures (parts_fit a.highest a.output a.labels a.edges.now c.requires) in
+    = rw c.spread-parts.ensures.front (parts_fit a.highest a.output a.labels a.edges.now c.requires) in
     rails_told _ fit c.gate_planes.ensures _ _ _ _ _ (omega arith) c.join_rail-to_supply.ensures c.join_rail-to_ground.ensures
-    (type_with a.highest a.output a.labels a.edges.now) (rw c.spread-parts.ensures (edges_told_lem a.edges.now))
+    (type_with a.highest a.output a.labels a.edges.now) (rw c.spread-parts.ensures.front (edges_told_lem a.edges.now))

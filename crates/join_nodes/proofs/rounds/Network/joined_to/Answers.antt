@@ -27,8 +27,8 @@ module _ {parts : List Parts} {planes : List ℕ} {width nodes rail k : ℕ} {jo
 
 -- ---- the goals
 
-pub loop-rail-init : goal.loop-rail-init
-loop-rail-init g c =
+pub turns-init : goal.turns-init
+turns-init g c =
     let network = c.args.self.now in
     let rail : ℕ = c.args.rail in
     let one = c.requires.joined_value.0 in (
@@ -41,21 +41,24 @@ loop-rail-init g c =
 pub returns-then-not-settle : goal.returns-then-not-settle
 returns-then-not-settle g c =
     let fit = c.args.self.now.fit in
-    let inv = c.loop-rail.invariant in
+    let inv = c.turns.invariant in
     let same = unchanged fit inv.1 c.round.ensures c.settle.ensures.tells c.if-not-settle.true in
-    rw (c.settle.ensures.taken ∙ taken_over fit inv.1 c.round.ensures c.settle.ensures.tells ∙ sym same)
-    (wide_all fit c.requires.rail_lt_most_nodes inv.1 inv.2 inv.3 same)
+    let after = c.settle.ensures.taken ∙ taken_over fit inv.1 c.round.ensures c.settle.ensures.tells in
+    record {
+      told = rw (after ∙ sym same) (wide_all fit c.requires.rail_lt_most_nodes inv.1 inv.2 inv.3 same);
+      next_value = c.round.ensures ∙ sym after;
+    }
 
 pub overflow_add-rounds : goal.overflow_add-rounds
-overflow_add-rounds g c = omega (arith, below_nodes c.args.self.now.fit c.requires.rail_lt_most_nodes c.loop-rail.invariant.2)
+overflow_add-rounds g c = omega (arith, below_nodes c.args.self.now.fit c.requires.rail_lt_most_nodes c.turns.invariant.2)
 
-pub loop-rail-smaller : goal.loop-rail-smaller
-loop-rail-smaller g c = omega (arith, below_nodes c.args.self.now.fit c.requires.rail_lt_most_nodes c.loop-rail.invariant.2)
+pub turns-smaller : goal.turns-smaller
+turns-smaller g c = omega (arith, below_nodes c.args.self.now.fit c.requires.rail_lt_most_nodes c.turns.invariant.2)
 
-pub loop-rail-preserved : goal.loop-rail-preserved
-loop-rail-preserved g c =
+pub turns-preserved : goal.turns-preserved
+turns-preserved g c =
     let fit = c.args.self.now.fit in
-    let inv = c.loop-rail.invariant in
+    let inv = c.turns.invariant in
     let after = c.settle.ensures.taken ∙ taken_over fit inv.1 c.round.ensures c.settle.ensures.tells in
     let apart = changed fit inv.1 c.round.ensures c.settle.ensures.tells c.if-not-settle.false in
     let further = one_more_lem fit c.requires.rail_lt_most_nodes inv.1 apart in (

@@ -9,12 +9,12 @@ use Rattle.join_nodes.proofs.WideRounds.{WideReached}
 use Rattle.join_nodes.proofs.RoundCounts.{NotAbove, RoundsMade}
 use Rattle.join_nodes.proofs.rounds.Network.joined_to.Given as goal
 
-abbrev pub invariant-loop-rail : goal.invariant-loop-rail
-invariant-loop-rail g l =
+abbrev pub invariant-turns : goal.invariant-turns
+invariant-turns g l =
     (l.next ≡ l.joined)
     × WideReached l.self.edges.now l.self.planes.now g.row.W l.rail l.rounds l.joined
     × NotAbove l.self.edges.now l.self.planes.now g.row.W l.rail l.rounds
     × RoundsMade l.self.edges.now l.self.planes.now g.row.W l.rail l.rounds l.joined
 
-abbrev pub decreases-loop-rail : goal.decreases-loop-rail
-decreases-loop-rail g l = 32 - l.rounds
+abbrev pub decreases-turns : goal.decreases-turns
+decreases-turns g l = 32 - l.rounds

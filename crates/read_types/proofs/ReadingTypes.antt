@@ -126,13 +126,20 @@ module _ {file : List ℕ} {from : ℕ} {bare : ModuleType} {t : TypeRecord} {at
         (edge_stage (plus_edges (tag_of f.tag) made f.body.now) (cut_from file (end_of f)))
     stage_here = section_step is_edge tests_by plus_edges made file at f here own ∙ rw (verdict_so_far f)
 
-    pub edges_refused : (why : Refusal) → verdict_as (edge_tag_told f) t f ≡ verdict_of (Some why) → EdgesRefused file from bare why
+    pub edges_refused : {behind : ℕ} (why : Refusal) → verdict_as (edge_tag_told f) t f ≡ verdict_of (Some why) → behind ≡ end_of f
+        → EdgesRefused file from behind bare why
     unfolding if_passes
-    edges_refused why e = record {
+    edges_refused why e moved = record {
       type = made;
       at = at;
       stage = sofar.stage ∙ stage_here ∙ rw e;
       place = sofar.place;
+      ranges = sofar.ranges;
+      within = sofar.within;
+      edge = f;
+      here = here;
+      own = own;
+      moved = moved;
     }
 
     pub edges_more : verdict_as (edge_tag_told f) t f ≡ passes
@@ -165,9 +172,9 @@ type_read_given read = rw read.is (type_given read.type read.ranges read.within)
 module _ (file : List ℕ) (f : FieldRecord) (count from : ℕ) where
   -- its own bytes are refused
   pub own_refused : (why : Refusal) → first_of (type_tests count f.at f.body.now) ≡ verdict_of (Some why)
-      → TypeRefused file f count from why
+      → from ≤ length file → TypeRefused file f count from from why
   unfolding if_passes
-  own_refused why e = record { stage = λ types here stands. rw e }
+  own_refused why e within = record { stage = λ types here stands. rw e; place = within }
 
   -- or pass, and all its edges are read
   module _ (passed : first_of (type_tests count f.at f.body.now) ≡ passes) where
@@ -177,9 +184,13 @@ module _ (file : List ℕ) (f : FieldRecord) (count from : ℕ) where
     all_edges types here s e =
         rw passed (edges-first types (type_in f.body.now) here (cut_from file from) ∙ ap (after_edges types here) e)
 
-    pub edge_refused : (why : Refusal) → EdgesRefused file from (bare_of (shape_of f.body.now)) why → TypeRefused file f count from why
+    pub edge_refused : {behind : ℕ} (why : Refusal) → EdgesRefused file from behind (bare_of (shape_of f.body.now)) why
+        → TypeRefused file f count from behind why
     unfolding if_passes type_in
-    edge_refused why read = record { stage = λ types here stands. all_edges types here _ read.stage }
+    edge_refused why read = record {
+      stage = λ types here stands. all_edges types here _ read.stage;
+      place = rw read.moved read.here.inside;
+    }
 
     module _ {at : ℕ} {t : TypeRecord} (read : EdgesDone file from at (bare_of (shape_of f.body.now)) t) (test : Bool)
         (tested : test ≡ is_complementary (type_of t)) where
@@ -203,7 +214,7 @@ module _ (file : List ℕ) (f : FieldRecord) (count from : ℕ) where
       }
 
       pub type_failing : test ≡ false → (why : Refusal) → verdict_of (Some why) ≡ failing_verdict f.at (cut_from file at)
-          → TypeRefused file f count from why
+          → TypeRefused file f count from at why
       unfolding if_passes
       type_failing e why q = record {
         stage = λ types here stands.
@@ -211,6 +222,7 @@ module _ (file : List ℕ) (f : FieldRecord) (count from : ℕ) where
             ∙ failing-stage types read.type here (cut_from file at) read.next (sym test_is ∙ e)
             (type_stage (types ++ (read.type ∷ [])) here (cut_from file at))
             ∙ rw (stands, ← q);
+        place = read.place;
       }
 
 -- ---- types
@@ -268,7 +280,7 @@ module _ {file : List ℕ} {from : ℕ} {all : List TypeRecord} {count at : ℕ}
     unfolding field_place field_in
     stands_at = rw here.cut
 
-    pub types_end : (why : Refusal) → TypeRefused file f count (end_of f) why
+    pub types_end : {behind : ℕ} (why : Refusal) → TypeRefused file f count (end_of f) behind why
         → TypesRead file from (record { refusal = Some why; at = at; count = count; all = all })
     types_end why read = ended (Some why) (type_here ∙ read.stage sofar.types (cut_from file at) stands_at)
 

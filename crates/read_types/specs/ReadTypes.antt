@@ -1,6 +1,6 @@
 -- What the functions that read types and edges promise: the types that were read, how they stand in the records, and that the stage
 -- ended there.
-use Rattle.std.specs.Prelude.{ℕ, ◌<◌, ◌≤◌, ◌≡◌, false, List, [], ◌∷◌, ◌++◌, map, T, length, get_or, Some, Result, Ok, Err}
+use Rattle.std.specs.Prelude.{ℕ, ◌<◌, ◌≤◌, ◌≡◌, true, false, List, [], ◌∷◌, ◌++◌, map, T, length, get_or, Some, Result, Ok, Err}
 use Rattle.switch.specs.Modules.{ModuleType, most_edges, in_range}
 use Rattle.switch.specs.Deciding.{is_complementary}
 use Rattle.switch.specs.declared.ModuleType.{ModuleType as TypeRecord}
@@ -13,6 +13,7 @@ use Rattle.circuit.specs.Refusals.{verdict_of}
 use Rattle.circuit.specs.Known.{type_in}
 use Rattle.circuit.specs.Stages.{Stage, stopped, stage_of, if_passes, edge_stage, field_place, type_stage}
 use Rattle.circuit.specs.declared.refusal.Refusal.{Refusal}
+use Rattle.read_fields.specs.Steps.{end_of, FieldAt}
 use Rattle.read_fields.specs.declared.cursor.Reader.{Reader}
 use Rattle.read_fields.specs.declared.Field.{Field as FieldRecord}
 use Rattle.read_types.specs.declared.edges.Shape.{Shape}
@@ -42,17 +43,24 @@ pub record EdgesDone (file : List ℕ) (from at : ℕ) (bare : ModuleType) (t : 
   pub next : NoEdge (cut_from file at)
   pub is : t ≡ type_record type
 
--- or one of them is refused, behind those of some type
-pub record EdgesRefused (file : List ℕ) (from : ℕ) (bare : ModuleType) (why : Refusal) : Type 0 where
+-- or one of them is refused, behind those of some type, which are in range; and another offset is behind that field
+pub record EdgesRefused (file : List ℕ) (from behind : ℕ) (bare : ModuleType) (why : Refusal) : Type 0 where
   pub type : ModuleType
   pub at : ℕ
   pub stage : edge_stage bare (cut_from file from) ≡ stage_of (verdict_of (Some why)) type (cut_from file at)
   pub place : at ≤ length file
+  pub ranges : T (in_range type)
+  pub within : length type.edges ≤ most_edges
+  pub edge : FieldRecord
+  pub here : FieldAt file at edge
+  pub own : is_edge (tag_of edge.tag) ≡ true
+  pub moved : behind ≡ end_of edge
 
 abbrev pub EdgesRead : Reader → Reader → Shape → Result TypeRecord Refusal → Type 0
 EdgesRead before after shape (Ok t) =
     EdgesDone before.file.now before.at after.at (bare_of shape) t × (after.file ≡ before.file)
-EdgesRead before after shape (Err why) = EdgesRefused before.file.now before.at (bare_of shape) why
+EdgesRead before after shape (Err why) =
+    EdgesRefused before.file.now before.at after.at (bare_of shape) why × (after.file ≡ before.file)
 
 -- ---- a type at its field, with the edges behind it, judged
 
@@ -72,14 +80,16 @@ pub record TypeDone (file : List ℕ) (f : FieldRecord) (count from at : ℕ) (t
   pub next : NoEdge (cut_from file at)
   pub is : t ≡ type_record type
 
--- or it is refused
-pub record TypeRefused (file : List ℕ) (f : FieldRecord) (count from : ℕ) (why : Refusal) : Type 0 where
+-- or it is refused, and what was read of it ends at an offset
+pub record TypeRefused (file : List ℕ) (f : FieldRecord) (count from at : ℕ) (why : Refusal) : Type 0 where
   pub stage : (types : List ModuleType) (here : Cut) → field_place here ≡ f.at
       → at_type f count types here (cut_from file from) ≡ stage_of (verdict_of (Some why)) types here
+  pub place : at ≤ length file
 
 abbrev pub TypeRead : Reader → Reader → FieldRecord → ℕ → Result TypeRecord Refusal → Type 0
 TypeRead before after f count (Ok t) = TypeDone before.file.now f count before.at after.at t × (after.file ≡ before.file)
-TypeRead before after f count (Err why) = TypeRefused before.file.now f count before.at why
+TypeRead before after f count (Err why) =
+    TypeRefused before.file.now f count before.at after.at why × (after.file ≡ before.file)
 
 -- ---- the types from an offset on
 

@@ -28,10 +28,13 @@ here c = rw (ap (λ b. b.now) c.loop-f.invariant.same_file) at (found_at c.in-So
 pub returns-in_err-add_edges : goal.returns-in_err-add_edges
 returns-in_err-add_edges c =
     let at = (goal.at.returns-in_err-add_edges c).In-Some in
+    let turn = c.in-Some.ensures in
     let back = err_from_is_err_and c.from_residual.result c.from_residual.ensures.1 in
-    rw (back.1, back.2)
-    (edges_refused c.loop-f.invariant.so_far c.in-Some.f (here at) (found_own c.in-Some.ensures)
-    c.in_err-add_edges.field-0.0 c.in_err-add_edges.ensures)
+    rw (back.1, back.2) (
+      edges_refused c.loop-f.invariant.so_far c.in-Some.f (here at) (found_own turn)
+          c.in_err-add_edges.field-0.0 c.in_err-add_edges.ensures (found_behind turn),
+      turn.same_file ∙ c.loop-f.invariant.same_file,
+    )
 
 pub loop-f-smaller : goal.loop-f-smaller
 loop-f-smaller c =

@@ -1,6 +1,6 @@
 -- `read_types::types::read_type` meets its contract: its bytes or its edges are refused, or it is complementary, or it is not.
 -- Assumes nothing.
-use mathlib.Core.Path.{ap}
+use mathlib.Core.Path.{ap, refl}
 use Rattle.read_types.specs.ReadTypes.{shape_of, bare_of, EdgesDone}
 use Rattle.read_types.proofs.ReadingTypes.{shape_ranges, type_read_given, own_refused, edge_refused, type_complementary, type_failing}
 use Rattle.std.proofs.lemmas.Result.{err_from_is_err_and}
@@ -11,7 +11,8 @@ pub returns-in_err-shape : goal.returns-in_err-shape
 returns-in_err-shape c =
     let r = c.args.reader.now in
     let back = err_from_is_err_and c.from_residual.result c.from_residual.ensures.1 in
-    rw (back.1, back.2) (own_refused r.file.now c.args.f c.args.count r.at c.in_err-shape.field-0.0 c.in_err-shape.ensures)
+    rw (back.1, back.2)
+    (own_refused r.file.now c.args.f c.args.count r.at c.in_err-shape.field-0.0 c.in_err-shape.ensures c.requires, refl)
 
 pub read_edges-requires : goal.read_edges-requires
 read_edges-requires c =
@@ -24,8 +25,10 @@ returns-in_err-t c =
     let r = c.args.reader.now in
     let judged = c.in_ok-shape.ensures in
     let back = err_from_is_err_and c.from_residual-in_err-t.result c.from_residual-in_err-t.ensures.1 in
-    rw (back.1, back.2)
-    (edge_refused r.file.now c.args.f c.args.count r.at judged.0 c.in_err-t.field-0.0 (rw judged.1 at c.in_err-t.ensures))
+    rw (back.1, back.2) (
+      edge_refused r.file.now c.args.f c.args.count r.at judged.0 c.in_err-t.field-0.0 (rw judged.1 at c.in_err-t.ensures.0),
+      c.in_err-t.ensures.1,
+    )
 
 pub check_type-requires : goal.check_type-requires
 check_type-requires c = type_read_given c.in_ok-t.ensures.0
@@ -39,9 +42,12 @@ pub returns-then-not-check_type : goal.returns-then-not-check_type
 returns-then-not-check_type c =
     let r = c.args.reader.now in
     let test = c.check_type in
-    let its = read (goal.at.returns-then-not-check_type c).After-check_type in
-    type_failing r.file.now c.args.f c.args.count r.at c.in_ok-shape.ensures.0 its
-    test.result test.ensures c.if-not-check_type.true c.failing.result (rw (ap (λ b. b.now) c.in_ok-t.ensures.1) at c.failing.ensures)
+    let its = read (goal.at.returns-then-not-check_type c).After-check_type in (
+      type_failing r.file.now c.args.f c.args.count r.at c.in_ok-shape.ensures.0 its
+          test.result test.ensures c.if-not-check_type.true c.failing.result
+          (rw (ap (λ b. b.now) c.in_ok-t.ensures.1) at c.failing.ensures),
+      c.in_ok-t.ensures.1,
+    )
 
 pub returns : goal.returns
 returns c =

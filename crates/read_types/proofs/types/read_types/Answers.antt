@@ -37,7 +37,7 @@ returns-in-Err c =
     let turn = c.in-Some.ensures in
     rw (here at).place
     (types_end c.loop-f.invariant.so_far c.in-Some.f (here at) (found_own turn) c.in-Err.refusal
-    (rw (same at, found_behind turn) at c.in-Err.ensures))
+    (rw (same at, found_behind turn) at c.in-Err.ensures.0))
 
 pub loop-f-preserved : goal.loop-f-preserved
 loop-f-preserved c =

@@ -13,8 +13,8 @@ use grade_rows::rows_of;
 use grading::{Answer, Counts};
 use print_lines::Piece;
 use print_report::{Held, report_piece};
+use program_io::holding::{Holding, tell_inputs_with};
 use program_io::output::Printer;
-use program_io::telling::{Telling, tell_inputs};
 use read_file::read::read_stages;
 use std::io::Write;
 use std::rt::{Env, Files};
@@ -45,7 +45,7 @@ struct Report {
     classes: [u16; MOST_FAULTS],
 }
 
-impl Telling for Report {
+impl Holding for Report {
     ghost line = { line_of_file };
 
     ghost total = { lines_of_file };
@@ -91,7 +91,7 @@ fn grade<R: Env + Files + Input + Eprint, W: Write>(printer: &mut Printer<R, W>,
         matrix: [0u64; MOST_WORDS],
         classes: [0u16; MOST_FAULTS],
     };
-    tell_inputs(printer, &mut report, file);
+    tell_inputs_with(printer, &mut report, file);
 }
 
 fn main(rt: HostRuntime) {

@@ -2,8 +2,8 @@
 ghost use Rattle.std.specs.Prelude.{◌≡◌, take};
 ghost use Rattle.program_io.specs.Outputs.{TextPut};
 
+use crate::holding::Holding;
 use crate::output::Printer;
-use crate::telling::Telling;
 use print_lines::Piece;
 use std::io::Write;
 
@@ -21,7 +21,7 @@ pub(crate) fn none_handed() -> Handed
 }
 
 // Writes the lines behind those that were handed over before, which stand at the front of the buffer.
-pub(crate) fn hand_out<T: Telling, R: Eprint, W: Write>(
+pub(crate) fn hand_out<T: Holding, R: Eprint, W: Write>(
     printer: &mut Printer<R, W>,
     handed: Handed,
     file: &[u8],

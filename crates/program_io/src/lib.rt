@@ -2,8 +2,11 @@
 #![tactic(auto)]
 
 pub mod handing;
+pub mod holding;
 pub mod input;
 pub mod inputs;
 mod message;
 pub mod output;
 pub mod telling;
+#[cfg(test)]
+mod tests;

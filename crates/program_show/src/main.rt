@@ -10,8 +10,8 @@ use circuit::Reading;
 use circuit::limits::MOST_BYTES;
 use print_circuit::show_piece;
 use print_lines::Piece;
+use program_io::holding::{Holding, tell_inputs_with};
 use program_io::output::Printer;
-use program_io::telling::{Telling, tell_inputs};
 use read_file::read::read_stages;
 use std::io::Write;
 use std::rt::{Env, Files};
@@ -25,7 +25,7 @@ struct Listing {
     reading: Option<Reading>,
 }
 
-impl Telling for Listing {
+impl Holding for Listing {
     ghost line = { listing_line };
 
     ghost total = { listing_length };
@@ -63,7 +63,7 @@ impl Telling for Listing {
 fn show<R: Env + Files + Input + Eprint, W: Write>(printer: &mut Printer<R, W>, file: &mut [u8])
     ensures { InputsListed printer.old.output printer.new.output (W.contents printer.old.writer) (W.contents printer.new.writer) }
 {
-    tell_inputs(printer, &mut Listing { reading: None }, file);
+    tell_inputs_with(printer, &mut Listing { reading: None }, file);
 }
 
 fn main(rt: HostRuntime) {

@@ -126,7 +126,7 @@ abbrev then_bridges : Bool → ℕ → ℕ → List ModuleType → Cut → Readi
 then_bridges wanted size P types cut = after_stage (bridge_stage [] cut) (then_instances wanted size P types)
 
 -- the types and bridges that were read, as records
-types_read : {file : List ℕ} {from : ℕ} {t : Types} (types : TypesRead file from t) → take t.count t.all ≡ map type_record types.types
+pub types_read : {file : List ℕ} {from : ℕ} {t : Types} (types : TypesRead file from t) → take t.count t.all ≡ map type_record types.types
 types_read types =
     let are = map type_record types.types in
     let long = length-map types.types type_record in

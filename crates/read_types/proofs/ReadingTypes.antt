@@ -170,11 +170,16 @@ pub type_read_given : {file : List ℕ} {from at : ℕ} {bare : ModuleType} {t :
 type_read_given read = rw read.is (type_given read.type read.ranges read.within)
 
 module _ (file : List ℕ) (f : FieldRecord) (count from : ℕ) where
-  -- its own bytes are refused
+  -- its own bytes are refused, and so its stage ends there, wherever what follows begins
+  pub own_stage : (why : Refusal) → first_of (type_tests count f.at f.body.now) ≡ verdict_of (Some why)
+      → (types : List ModuleType) (here : Cut)
+      → at_type f count types here (cut_from file from) ≡ stage_of (verdict_of (Some why)) types here
+  unfolding if_passes
+  own_stage why e types here = rw e
+
   pub own_refused : (why : Refusal) → first_of (type_tests count f.at f.body.now) ≡ verdict_of (Some why)
       → from ≤ length file → TypeRefused file f count from from why
-  unfolding if_passes
-  own_refused why e within = record { stage = λ types here stands. rw e; place = within }
+  own_refused why e within = record { stage = λ types here stands. own_stage why e types here; place = within }
 
   -- or pass, and all its edges are read
   module _ (passed : first_of (type_tests count f.at f.body.now) ≡ passes) where
@@ -184,11 +189,18 @@ module _ (file : List ℕ) (f : FieldRecord) (count from : ℕ) where
     all_edges types here s e =
         rw passed (edges-first types (type_in f.body.now) here (cut_from file from) ∙ ap (after_edges types here) e)
 
+    -- or one of them is refused, wherever the reader stands then
+    pub edge_stage_ends : (why : Refusal) (t : ModuleType) (at : ℕ)
+        → edge_stage (bare_of (shape_of f.body.now)) (cut_from file from) ≡ stage_of (verdict_of (Some why)) t (cut_from file at)
+        → (types : List ModuleType) (here : Cut)
+        → at_type f count types here (cut_from file from) ≡ stage_of (verdict_of (Some why)) types here
+    unfolding if_passes type_in
+    edge_stage_ends why t at e types here = all_edges types here _ e
+
     pub edge_refused : {behind : ℕ} (why : Refusal) → EdgesRefused file from behind (bare_of (shape_of f.body.now)) why
         → TypeRefused file f count from behind why
-    unfolding if_passes type_in
     edge_refused why read = record {
-      stage = λ types here stands. all_edges types here _ read.stage;
+      stage = λ types here stands. edge_stage_ends why read.type read.at read.stage types here;
       place = rw read.moved read.here.inside;
     }
 

@@ -1,7 +1,7 @@
--- `program_io::telling::tell_inputs` meets its contract. Assumes nothing.
+-- `program_io::holding::tell_inputs_with` meets its contract. Assumes nothing.
 use native.Mathlib.Omega.{arith}
 use Rattle.program_io.proofs.TellingLaws.{none_told, one_told}
-use Rattle.program_io.proofs.telling.tell_inputs.Goals as goal
+use Rattle.program_io.proofs.holding.tell_inputs_with.Goals as goal
 
 pub loop-number-init : goal.loop-number-init
 loop-number-init g c = (omega arith, none_told _ _ _)

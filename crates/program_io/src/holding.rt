@@ -1,4 +1,4 @@
-// What a program tells of its inputs, handed to standard output from the first line to the last. Nothing else is written there but headings.
+// What a program tells of its inputs, where it holds one after the other in one value: handed to standard output from the first line to the last. Nothing else is written there but headings.
 ghost use Rattle.std.specs.Prelude.{ℕ, List, Option, ◌↔◌, ◌≡◌, ◌≤◌, length};
 ghost use Rattle.print_lines.specs.declared.Piece.{Piece as PieceRecord};
 ghost use Rattle.print_lines.specs.Handing.{TextHandsOn, TextHanded};

@@ -1,4 +1,4 @@
-// What a program tells of its inputs, where it makes a text of each file. A program whose text is large holds one file after another in one value: `holding`.
+// What a program tells of its inputs, where it makes a text of each file: handed over as in `holding`, which takes less time and room where such a text is large.
 ghost use Rattle.std.specs.Prelude.{ℕ, List, ◌≤◌, length, IsSomeAnd};
 ghost use Rattle.print_lines.specs.Handing.{TextHandsOn, TextHanded};
 ghost use Rattle.program_io.specs.Telling.{PieceTold, text_told, FilePut, InputPut, AllPut};

@@ -49,7 +49,8 @@ fn tells_each_file(rt: HostRuntime) -> Result<(), Fail> {
     for file in [b"abc".as_slice(), b"".as_slice(), b"b".as_slice()] {
         tell_file::<First, _, _>(&mut printer, &mut out, file);
     }
-    assert_eq!(rt; printer.writer.as_slice(), b"a\n*\nb\n".as_slice());
+    let told = &printer.writer;
+    assert_eq!(rt; told.as_slice(), b"a\n*\nb\n".as_slice());
     Ok(())
 }
 
@@ -63,6 +64,7 @@ fn tells_all_inputs(rt: HostRuntime) -> Result<(), Fail> {
     let mut printer = Printer::new(&rt, Vec::new(rt.alloc()));
     tell_inputs::<First, _, _>(&mut printer, &mut [0u8; 16]);
     fs::remove_file(&rt, path)?;
-    assert_eq!(rt; printer.writer.as_slice(), b"a\n".as_slice());
+    let told = &printer.writer;
+    assert_eq!(rt; told.as_slice(), b"a\n".as_slice());
     Ok(())
 }

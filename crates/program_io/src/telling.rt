@@ -1,15 +1,17 @@
-// What a program tells of its inputs, where it makes a text of each file: handed over as in `holding`, which takes less time and room where such a text is large.
+// What a program tells of its inputs, where it makes a text of each file. `holding` has the same for a program that holds one file after the other in one value, which takes less time and room where that value is large.
 ghost use Rattle.std.specs.Prelude.{ℕ, List, ◌≤◌, length, IsSomeAnd};
 ghost use Rattle.print_lines.specs.Handing.{TextHandsOn, TextHanded};
 ghost use Rattle.program_io.specs.Telling.{PieceTold, text_told, FilePut, InputPut, AllPut};
 
-use crate::handing::Handed;
 use crate::holding::{Holding, tell_file_with, tell_inputs_with};
 use crate::output::Printer;
 use print_lines::Piece;
 use std::io;
 use std::io::Write;
 use std::rt::{Env, Files};
+
+// How many lines were handed over.
+pub type Handed = crate::handing::Handed;
 
 // What is held of a file to tell it: a text of numbered lines, given piece by piece into a lent buffer.
 pub trait Telling {

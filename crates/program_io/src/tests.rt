@@ -1,4 +1,4 @@
-// What makes a text of each file tells that of one file, and of all inputs.
+// Calls of what tells a file, and all inputs, by a text that is made of each.
 ghost use Rattle.std.specs.Prelude.{[], ◌∷◌, ◌≡◌, get_or};
 
 use crate::output::Printer;

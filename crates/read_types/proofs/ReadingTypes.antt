@@ -171,15 +171,15 @@ type_read_given read = rw read.is (type_given read.type read.ranges read.within)
 
 module _ (file : List ℕ) (f : FieldRecord) (count from : ℕ) where
   -- its own bytes are refused, and so its stage ends there, wherever what follows begins
-  pub own_stage : (why : Refusal) → first_of (type_tests count f.at f.body.now) ≡ verdict_of (Some why)
+  pub own_refused : (why : Refusal) → first_of (type_tests count f.at f.body.now) ≡ verdict_of (Some why)
       → (types : List ModuleType) (here : Cut)
       → at_type f count types here (cut_from file from) ≡ stage_of (verdict_of (Some why)) types here
   unfolding if_passes
-  own_stage why e types here = rw e
+  own_refused why e types here = rw e
 
-  pub own_refused : (why : Refusal) → first_of (type_tests count f.at f.body.now) ≡ verdict_of (Some why)
+  pub own_refused_at : (why : Refusal) → first_of (type_tests count f.at f.body.now) ≡ verdict_of (Some why)
       → from ≤ length file → TypeRefused file f count from from why
-  own_refused why e within = record { stage = λ types here stands. own_stage why e types here; place = within }
+  own_refused_at why e within = record { stage = λ types here stands. own_refused why e types here; place = within }
 
   -- or pass, and all its edges are read
   module _ (passed : first_of (type_tests count f.at f.body.now) ≡ passes) where
@@ -190,17 +190,17 @@ module _ (file : List ℕ) (f : FieldRecord) (count from : ℕ) where
         rw passed (edges-first types (type_in f.body.now) here (cut_from file from) ∙ ap (after_edges types here) e)
 
     -- or one of them is refused, wherever the reader stands then
-    pub edge_stage_ends : (why : Refusal) (t : ModuleType) (at : ℕ)
+    pub edge_refused : (why : Refusal) (t : ModuleType) (at : ℕ)
         → edge_stage (bare_of (shape_of f.body.now)) (cut_from file from) ≡ stage_of (verdict_of (Some why)) t (cut_from file at)
         → (types : List ModuleType) (here : Cut)
         → at_type f count types here (cut_from file from) ≡ stage_of (verdict_of (Some why)) types here
     unfolding if_passes type_in
-    edge_stage_ends why t at e types here = all_edges types here _ e
+    edge_refused why t at e types here = all_edges types here _ e
 
-    pub edge_refused : {behind : ℕ} (why : Refusal) → EdgesRefused file from behind (bare_of (shape_of f.body.now)) why
+    pub edge_refused_at : {behind : ℕ} (why : Refusal) → EdgesRefused file from behind (bare_of (shape_of f.body.now)) why
         → TypeRefused file f count from behind why
-    edge_refused why read = record {
-      stage = λ types here stands. edge_stage_ends why read.type read.at read.stage types here;
+    edge_refused_at why read = record {
+      stage = λ types here stands. edge_refused why read.type read.at read.stage types here;
       place = rw read.moved read.here.inside;
     }
 

@@ -2,7 +2,7 @@
 -- Assumes nothing.
 use mathlib.Core.Path.{ap, refl}
 use Rattle.read_types.specs.ReadTypes.{shape_of, bare_of, EdgesDone}
-use Rattle.read_types.proofs.ReadingTypes.{shape_ranges, type_read_given, own_refused, edge_refused, type_complementary, type_failing}
+use Rattle.read_types.proofs.ReadingTypes.{shape_ranges, type_read_given, own_refused_at, edge_refused_at, type_complementary, type_failing}
 use Rattle.std.proofs.lemmas.Result.{err_from_is_err_and}
 use Rattle.read_types.proofs.types.read_type.Goals.{After-check_type}
 use Rattle.read_types.proofs.types.read_type.Goals as goal
@@ -12,7 +12,7 @@ returns-in_err-shape c =
     let r = c.args.reader.now in
     let back = err_from_is_err_and c.from_residual.result c.from_residual.ensures.1 in
     rw (back.1, back.2)
-    (own_refused r.file.now c.args.f c.args.count r.at c.in_err-shape.field-0.0 c.in_err-shape.ensures c.requires, refl)
+    (own_refused_at r.file.now c.args.f c.args.count r.at c.in_err-shape.field-0.0 c.in_err-shape.ensures c.requires, refl)
 
 pub read_edges-requires : goal.read_edges-requires
 read_edges-requires c =
@@ -26,7 +26,7 @@ returns-in_err-t c =
     let judged = c.in_ok-shape.ensures in
     let back = err_from_is_err_and c.from_residual-in_err-t.result c.from_residual-in_err-t.ensures.1 in
     rw (back.1, back.2) (
-      edge_refused r.file.now c.args.f c.args.count r.at judged.0 c.in_err-t.field-0.0 (rw judged.1 at c.in_err-t.ensures.0),
+      edge_refused_at r.file.now c.args.f c.args.count r.at judged.0 c.in_err-t.field-0.0 (rw judged.1 at c.in_err-t.ensures.0),
       c.in_err-t.ensures.1,
     )
 
